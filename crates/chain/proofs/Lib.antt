@@ -1,0 +1,4 @@
+pub mod Touching
+pub mod Replies
+pub mod Bytes
+pub mod Along

@@ -1,0 +1,39 @@
+-- One chain of two module types: each module is as its own type says, and a sample for the other type changes nothing.
+use Prim.Native.Nat.{ℕ}
+use mathlib.Core.List.{List}
+use mathlib.Core.Bool.{Bool}
+use mathlib.Core.Logic.{_⊎_, inl, inr}
+use Rattle.line.specs.Frames.{Frame}
+use Rattle.station.specs.declared.Address.{Address}
+use Rattle.chain.specs.Chain.{Kind}
+
+abbrev pub either : {A B S T : Type 0} → Kind A S → Kind B T → Kind (A ⊎ B) (S ⊎ T)
+either {A} {B} {S} {T} K L = record {
+  address = addressE;
+  execute = executeE;
+  reply = replyE;
+  sample = sampleE;
+  tick = tickE;
+}
+  where
+    addressE : A ⊎ B → Address
+    addressE (inl a) = K .address a
+    addressE (inr b) = L .address b
+
+    executeE : Frame → Bool → A ⊎ B → A ⊎ B
+    executeE f t (inl a) = inl (K .execute f t a)
+    executeE f t (inr b) = inr (L .execute f t b)
+
+    replyE : Frame → A ⊎ B → List ℕ
+    replyE f (inl a) = K .reply f a
+    replyE f (inr b) = L .reply f b
+
+    sampleE : S ⊎ T → A ⊎ B → A ⊎ B
+    sampleE (inl s) (inl a) = inl (K .sample s a)
+    sampleE (inl s) (inr b) = inr b
+    sampleE (inr t) (inl a) = inl a
+    sampleE (inr t) (inr b) = inr (L .sample t b)
+
+    tickE : A ⊎ B → A ⊎ B
+    tickE (inl a) = inl (K .tick a)
+    tickE (inr b) = inr (L .tick b)

@@ -1,0 +1,4 @@
+pub mod Pins
+pub mod Commands
+pub mod Module
+pub mod Slot

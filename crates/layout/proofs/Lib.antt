@@ -1,0 +1,5 @@
+pub mod Laws
+pub mod Pasted
+pub mod Every
+pub mod Codec
+pub mod Shape

@@ -1,0 +1,56 @@
+-- Bytes put into a list: what stands there then. Assumes nothing.
+use mathlib.Core.Path.{_≡_, refl, sym, ap, _∙_}
+use mathlib.Core.List.{List, [], _∷_, _++_, append-assoc}
+use Prim.Native.Nat.{ℕ, zero, suc, _+_, _-_, _/_, _%_, _<_, _≤_}
+use native.Mathlib.Numerals.{add-one}
+use native.Mathlib.Omega.{arith}
+use lib.ListN.{length, take, drop, set, length-append}
+use lib.Seq.{paste, paste-zero, take-paste, drop-paste, drop-drop, take-length, length-paste, set-split, take-append-seam, drop-at, length-take-le, append-snoc}
+use Rattle.layout.specs.Bytes.{le, pasted}
+use Rattle.layout.proofs.Laws.{length-le}
+
+pub pasted-none : (at : ℕ) (s : List ℕ) → pasted at [] s ≡ s
+pasted-none at s = sym (paste-zero s at [])
+
+pub length-pasted : (at : ℕ) (xs s : List ℕ) → at + length xs ≤ length s → length (pasted at xs s) ≡ length s
+length-pasted at xs s h = length-paste s at xs (length xs) (omega arith) (omega arith)
+
+-- what was put is read back, and what follows it is as it was
+pub take-pasted : (at : ℕ) (xs s : List ℕ) → at ≤ length s → take (at + length xs) (pasted at xs s) ≡ take at s ++ xs
+take-pasted at xs s h = take-paste s at xs (length xs) (omega arith) (omega arith) ∙ ap (λ (x : List ℕ). take at s ++ x) (take-length xs)
+
+pub drop-pasted : (at : ℕ) (xs s : List ℕ) → at ≤ length s → drop (at + length xs) (pasted at xs s) ≡ drop (at + length xs) s
+drop-pasted at xs s h = drop-paste s at xs (length xs) (omega arith) (omega arith)
+
+pub read-pasted : (at : ℕ) (xs s : List ℕ) → at ≤ length s → take (length xs) (drop at (pasted at xs s)) ≡ xs
+read-pasted at xs s h =
+    let rest : List ℕ = drop (at + length xs) s in
+    ap (λ (l : List ℕ). take (length xs) (drop at l)) (append-assoc (take at s) (take (length xs) xs) rest)
+    ∙ ap (take (length xs)) (drop-at (take at s) (take (length xs) xs ++ rest) at (length-take-le at s h))
+    ∙ rw (take-length xs) (take-append-seam xs rest)
+
+-- one list put after another
+pub pasted-twice : (at : ℕ) (xs ys s : List ℕ) → at + length xs + length ys ≤ length s
+    → pasted (at + length xs) ys (pasted at xs s) ≡ pasted at (xs ++ ys) s
+pasted-twice at xs ys s h =
+    let p : List ℕ = pasted at xs s in
+    let l : length (xs ++ ys) ≡ length xs + length ys = length-append xs ys in
+    let t = take-pasted at xs s (omega arith) in
+    let d = drop-pasted at xs s (omega arith) in
+    let i : at + length xs + length ys ≡ at + length (xs ++ ys) = omega arith in
+    let e : drop (at + length xs + length ys) p ≡ drop (at + length (xs ++ ys)) s =
+    sym (drop-drop (length ys) (at + length xs) p) ∙ ap (drop (length ys)) d ∙ drop-drop (length ys) (at + length xs) s ∙ ap (λ (i : ℕ). drop i s) i in
+    rw (t, e, take-length ys, take-length (xs ++ ys)) (simp append-assoc)
+
+-- one byte
+pub pasted-one : (at b : ℕ) (s : List ℕ) → at < length s → set s at b ≡ pasted at (b ∷ []) s
+pasted-one at b s h = rw (set-split s at b h, add-one at) (sym (append-snoc (take at s) b (drop (suc at) s)))
+
+-- a number's first byte, and then the rest of it
+pub number-turn : (at n x : ℕ) (s : List ℕ) → 0 < n → at + n ≤ length s
+    → pasted (at + 1) (le (n - 1) (x / 256)) (set s at (x % 256)) ≡ pasted at (le n x) s
+number-turn at zero x s p h = absurd (omega arith)
+number-turn at (suc k) x s p h =
+    let l = length-le k (x / 256) in
+    let e : suc k - 1 ≡ k = omega arith in
+    rw (e, pasted-one at (x % 256) s (omega arith)) (pasted-twice at (x % 256 ∷ []) (le k (x / 256)) s (omega arith))

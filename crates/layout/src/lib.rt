@@ -1,0 +1,72 @@
+// Numbers of two and four bytes, least significant first, read from a slice; numbers and bytes put into one.
+ghost use mathlib.Core.Path.{_≡_};
+ghost use Prim.Native.Nat.{_+_, _≤_, _<_};
+ghost use mathlib.Core.List.{_∷_, []};
+ghost use lib.ListN.{length, getD};
+ghost use Rattle.layout.specs.Bytes.{le, ofLe, readAt, pasted};
+
+pub fn of2(a: u8, b: u8) -> u16
+    ensures { λ r. ⌜ r ≡ ofLe (a ∷ b ∷ []) ⌝ }
+{
+    (a as u16) + 256 * (b as u16)
+}
+
+pub fn of4(a: u8, b: u8, c: u8, d: u8) -> u32
+    ensures { λ r. ⌜ r ≡ ofLe (a ∷ b ∷ c ∷ d ∷ []) ⌝ }
+{
+    (a as u32) + 256 * ((b as u32) + 256 * ((c as u32) + 256 * (d as u32)))
+}
+
+pub fn get2(s: &[u8], at: usize) -> u16
+    requires { ⌜ at + 2 ≤ length (now s) ⌝ }
+    ensures { λ r. ⌜ r ≡ ofLe (readAt 2 at (now (s .entry))) ⌝ }
+{
+    of2(s[at], s[at + 1])
+}
+
+pub fn get4(s: &[u8], at: usize) -> u32
+    requires { ⌜ at + 4 ≤ length (now s) ⌝ }
+    ensures { λ r. ⌜ r ≡ ofLe (readAt 4 at (now (s .entry))) ⌝ }
+{
+    let b = at + 1;
+    let c = b + 1;
+    of4(s[at], s[b], s[c], s[c + 1])
+}
+
+// The byte at a place, 0 beyond the end.
+pub fn byte_at(s: &[u8], i: usize) -> u8
+    ensures { λ r. ⌜ r ≡ getD (now (s .entry)) i 0 ⌝ }
+{
+    if i < s.len() {
+        return s[i];
+    }
+    0
+}
+
+// Puts all of src into dst from place at on.
+pub fn put_all(dst: &mut [u8], at: usize, src: &[u8])
+    requires { ⌜ at + length (now src) ≤ length (now dst) ⌝ }
+    ensures { λ _. ⌜ now (dst .exit) ≡ pasted at (now (src .entry)) (now (dst .entry)) ⌝ }
+{
+    let mut i = 0;
+    while i < src.len() {
+        dst[at + i] = src[i];
+        i += 1;
+    }
+}
+
+// Puts the k bytes of x into s from place at on.
+pub fn put_number(s: &mut [u8], at: usize, k: usize, x: u32)
+    requires { ⌜ at + k ≤ length (now s) ⌝ }
+    ensures { λ _. ⌜ now (s .exit) ≡ pasted at (le k x) (now (s .entry)) ⌝ }
+{
+    let mut place = at;
+    let mut left = k;
+    let mut rest = x;
+    while 0 < left {
+        s[place] = (rest % 256) as u8;
+        place += 1;
+        rest = rest / 256;
+        left -= 1;
+    }
+}

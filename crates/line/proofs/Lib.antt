@@ -1,0 +1,6 @@
+pub mod Holding
+pub mod Marked
+pub mod Read
+pub mod Only
+pub mod Kept
+pub mod Nulls

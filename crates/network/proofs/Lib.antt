@@ -1,0 +1,11 @@
+pub mod Parts
+pub mod Slots
+pub mod Head
+pub mod Valid
+pub mod Stored
+pub mod Walked
+pub mod Exact
+pub mod Kept
+pub mod Lengths
+pub mod Turns
+pub mod Powered

@@ -1,0 +1,29 @@
+-- A network just set up: an idle receiver and its modules, written into an empty record. Assumes nothing.
+use mathlib.Core.Path.{_≡_}
+use mathlib.Core.List.{List}
+use mathlib.Core.Bool.{true}
+use Prim.Native.Nat.{ℕ, zero, suc, _≤_}
+use native.Mathlib.Omega.{arith}
+use lib.ListN.{length, replicate, length-replicate}
+use Rattle.layout.specs.Bytes.{Bytes}
+use Rattle.line.specs.Receive.{idle}
+use Rattle.line.proofs.Kept.{fresh}
+use Rattle.network.specs.Slots.{Slots, Lawful}
+use Rattle.network.specs.Record.{recordSize, netIn, stored, valid}
+use Rattle.network.specs.Promises.{Each, SoundNet}
+use Rattle.network.proofs.Stored.{back}
+
+pub bytes-zeros : (n : ℕ) → Bytes (replicate n 0)
+bytes-zeros zero i = omega arith
+bytes-zeros (suc n) zero = omega arith
+bytes-zeros (suc n) (suc i) = bytes-zeros n i
+
+module _ {M : Type 0} {L : Slots M} (law : Lawful L) (ms : List M) (some : 1 ≤ length ms) (most : length ms ≤ 32) (each : Each (L .fits) ms) where
+  pub powered-sound : SoundNet L (record { receiver = idle; modules = ms })
+  powered-sound = record { receiver = fresh; some = some; most = most; each = each }
+
+  pub powered : (netIn L (stored L (record { receiver = idle; modules = ms }) (replicate recordSize 0)) ≡ record { receiver = idle; modules = ms })
+      × (valid L (stored L (record { receiver = idle; modules = ms }) (replicate recordSize 0)) ≡ true)
+      × Bytes (stored L (record { receiver = idle; modules = ms }) (replicate recordSize 0))
+      × (length (stored L (record { receiver = idle; modules = ms }) (replicate recordSize 0)) ≡ recordSize)
+  powered = back law (record { receiver = idle; modules = ms }) (replicate recordSize 0) powered-sound (length-replicate {A = ℕ} recordSize 0) (bytes-zeros recordSize)

@@ -1,0 +1,4 @@
+pub mod Slots
+pub mod Record
+pub mod Walk
+pub mod Promises

@@ -1,0 +1,4 @@
+pub mod Touch
+pub mod Commands
+pub mod Report
+pub mod Slot
