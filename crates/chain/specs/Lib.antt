@@ -1,3 +1,4 @@
 pub mod Chain
 pub mod Either
+pub mod Slots
 pub mod Promises

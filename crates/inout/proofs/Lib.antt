@@ -1,2 +1,10 @@
 pub mod Blend
 pub mod Touching
+pub mod Bits
+pub mod Cause
+pub mod Shown
+pub mod Asks
+pub mod Within
+pub mod Reply
+pub mod Address
+pub mod Listed

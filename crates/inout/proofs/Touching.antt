@@ -1,5 +1,5 @@
 -- What the calls of a touch give, put together. Assumes nothing.
-use mathlib.Core.Path.{_≡_, refl, sym, ap, ap₂, _∙_}
+use mathlib.Core.Path.{_≡_, sym, ap, ap₂, _∙_}
 use mathlib.Core.List.{List, []}
 use mathlib.Core.Bool.{Bool, true, false, cond}
 use Prim.Native.Nat.{ℕ}
@@ -7,8 +7,7 @@ use lib.ListN.{length}
 use Rattle.layout.specs.Bytes.{pasted}
 use Rattle.layout.proofs.Pasted.{pasted-none}
 use Rattle.line.specs.Frames.{Frame}
-use Rattle.station.specs.declared.Head.{Head}
-use Rattle.station.specs.Touch.{frameOf, individually, speaks}
+use Rattle.station.specs.Touch.{individually, speaks}
 use Rattle.chain.specs.Chain.{executed, replied}
 use Rattle.inout.specs.declared.Io.{Io}
 use Rattle.inout.specs.Module.{execute, reply, inout}

@@ -1,10 +1,9 @@
 -- The I/O module, type 2 version 1 (document 01, "I/O module").
-use Prim.Native.Nat.{ℕ, _+_, _*_, _%_, _/_}
+use Prim.Native.Nat.{ℕ, _%_, _/_}
 use mathlib.Core.List.{List, [], _∷_}
 use mathlib.Core.Bool.{Bool, cond}
 use Rattle.line.specs.Frames.{Frame}
 use Rattle.station.specs.declared.Station.{Station}
-use Rattle.station.specs.declared.Setting.{Setting}
 use Rattle.station.specs.Touch.{powerUp}
 use Rattle.station.specs.Commands.{applied, caused}
 use Rattle.station.specs.Report.{replyOf, causeBit, inoutSizes}

@@ -1,5 +1,5 @@
 -- How an I/O module stands in a slot: 43 bytes, of which the first is its type.
-use mathlib.Core.Path.{_≡_, refl}
+use mathlib.Core.Path.{refl}
 use Prim.Native.Nat.{ℕ}
 use native.Mathlib.Omega.{arith}
 use mathlib.Core.List.{List}

@@ -13,7 +13,7 @@ use borrow.Author.Tests.{leb-true, le-leb, eqb-true, eq-eqb}
 use Rattle.layout.specs.Bytes.{le, ofLe, readAt, Bytes}
 use Rattle.layout.specs.Codec.{Codec, byte, stamp, raw, number, capped, topped, oneOf, bit, flag, _then_, shaped, okIn}
 use Rattle.layout.proofs.Every.{Hold, hold-left, hold-right, hold-both, every-hold, hold-every}
-use Rattle.layout.proofs.Laws.{length-le, bytes-le, le-ofLe, ofLe-le, ofLe-lt, readAt-part, length-read, bytes-read, read-add, read-back}
+use Rattle.layout.proofs.Laws.{length-le, bytes-le, bytes-one, bytes-append, le-ofLe, ofLe-le, ofLe-lt, readAt-part, length-read, bytes-read, read-add, read-back}
 
 pub record Lawful {A : Type 0} (a : Codec A) : Type 0 where
   pub length-enc : (x : A) → length (a .enc x) ≡ a .size
@@ -22,15 +22,6 @@ pub record Lawful {A : Type 0} (a : Codec A) : Type 0 where
   pub back : (x : A) (p q : List ℕ) → a .fits x → a .dec (length p) (p ++ a .enc x ++ q) ≡ x
   pub valid : (x : A) (p q : List ℕ) → a .fits x → Hold (a .tests (length p) (p ++ a .enc x ++ q))
   pub bytes : (x : A) → a .fits x → Bytes (a .enc x)
-
-one-byte : (x : ℕ) → x < 256 → Bytes (x ∷ [])
-one-byte x h zero = h
-one-byte x h (suc i) = omega arith
-
-both-bytes : (xs ys : List ℕ) → Bytes xs → Bytes ys → Bytes (xs ++ ys)
-both-bytes [] ys h k i = k i
-both-bytes (x ∷ xs) ys h k zero = h 0
-both-bytes (x ∷ xs) ys h k (suc i) = both-bytes xs ys (λ j. h (suc j)) k i
 
 number-there : (k at : ℕ) (s : List ℕ) → Bytes s → le k (ofLe (readAt k at s)) ≡ readAt k at s
 number-there k at s h = rw (length-read k at s) at (le-ofLe (readAt k at s) (bytes-read k at s h))
@@ -51,7 +42,7 @@ byte-lawful = record {
   sound = λ at s h t. h at;
   back = λ x p q f. byte-back x p q;
   valid = λ x p q f. tt;
-  bytes = one-byte;
+  bytes = bytes-one;
 }
 
 pub capped-lawful : (m : ℕ) → Lawful (capped m)
@@ -61,7 +52,7 @@ capped-lawful m = record {
   sound = λ at s h t. (h at, leb-true _ _ (t .0));
   back = λ x p q f. byte-back x p q;
   valid = λ x p q f. (rw (byte-back x p q) (le-leb _ _ (f .1)), tt);
-  bytes = λ x f. one-byte x (f .0);
+  bytes = λ x f. bytes-one x (f .0);
 }
 
 pub stamp-lawful : (c : ℕ) → c < 256 → Lawful (stamp c)
@@ -71,7 +62,7 @@ stamp-lawful c small = record {
   sound = λ at s h t. tt;
   back = λ x p q f. refl;
   valid = λ x p q f. (eq-eqb _ _ (byte-back c p q), tt);
-  bytes = λ x f. one-byte c small;
+  bytes = λ x f. bytes-one c small;
 }
 
 read-all : (k : ℕ) (xs : List ℕ) → length xs ≡ k → readAt k 0 xs ≡ xs
@@ -120,7 +111,7 @@ module _ {A : Type 0} (m : ℕ) (small : m < 256) (to : A → ℕ) (from : ℕ �
     sound = λ at s h t. tt;
     back = λ x p q f. ap from (byte-back (to x) p q) ∙ from-to x;
     valid = λ x p q f. (rw (byte-back (to x) p q) (le-leb _ _ (most x)), tt);
-    bytes = λ x f. one-byte (to x) (omega (arith, most x));
+    bytes = λ x f. bytes-one (to x) (omega (arith, most x));
   }
 
 bit-most : (b : Bool) → bit b ≤ 1
@@ -168,7 +159,7 @@ module _ {A B : Type 0} {a : Codec A} {b : Codec B} where
             hold-both (a .tests (length p) (p ++ (a .enc (x .0) ++ b .enc (x .1)) ++ q)) (b .tests (length p + a .size) (p ++ (a .enc (x .0) ++ b .enc (x .1)) ++ q))
             (rw (first p (a .enc (x .0)) (b .enc (x .1)) q) (la .valid (x .0) p (b .enc (x .1) ++ q) (f .0)))
             (rw (second p (a .enc (x .0)) (b .enc (x .1)) q, place x p) (lb .valid (x .1) (p ++ a .enc (x .0)) q (f .1)));
-        bytes = λ x f. both-bytes (a .enc (x .0)) (b .enc (x .1)) (la .bytes (x .0) (f .0)) (lb .bytes (x .1) (f .1));
+        bytes = λ x f. bytes-append (a .enc (x .0)) (b .enc (x .1)) (la .bytes (x .0) (f .0)) (lb .bytes (x .1) (f .1));
       }
 
 module _ {A B : Type 0} {a : Codec A} where

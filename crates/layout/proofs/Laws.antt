@@ -6,7 +6,7 @@ use native.Mathlib.Nat.{pow-suc, suc-add, zero-add, add-zero}
 use native.Mathlib.Numerals.{add-one}
 use native.Mathlib.Omega.{arith}
 use lib.ListN.{length, getD, take, drop, length-append}
-use lib.Seq.{drop-cons, drop-append-seam, take-append-seam}
+use lib.Seq.{drop-cons, drop-append-seam, take-append-seam, getD-drop}
 use Rattle.layout.specs.Bytes.{le, ofLe, readAt, Bytes}
 
 pub length-le : (k x : ℕ) → length (le k x) ≡ k
@@ -66,3 +66,22 @@ pub read-back : (xs p q : List ℕ) → readAt (length xs) (length p) (p ++ xs +
 read-back xs p q =
     readAt-part (length xs) (length p) (p ++ xs ++ q) (omega (arith, length-append (p ++ xs) q, length-append p xs))
     ∙ rw (append-assoc, drop-append-seam, take-append-seam)
+
+-- bytes of parts
+pub bytes-take : (n : ℕ) (s : List ℕ) → Bytes s → Bytes (take n s)
+bytes-take zero s h i = omega arith
+bytes-take (suc n) [] h i = omega arith
+bytes-take (suc n) (x ∷ s) h zero = h 0
+bytes-take (suc n) (x ∷ s) h (suc i) = bytes-take n s (λ j. h (suc j)) i
+
+pub bytes-drop : (n : ℕ) (s : List ℕ) → Bytes s → Bytes (drop n s)
+bytes-drop n s h i = rw (getD-drop n s i 0) (h (n + i))
+
+pub bytes-append : (a b : List ℕ) → Bytes a → Bytes b → Bytes (a ++ b)
+bytes-append [] b h k i = k i
+bytes-append (x ∷ a) b h k zero = h 0
+bytes-append (x ∷ a) b h k (suc i) = bytes-append a b (λ j. h (suc j)) k i
+
+pub bytes-one : (c : ℕ) → c < 256 → Bytes (c ∷ [])
+bytes-one c h zero = h
+bytes-one c h (suc i) = omega arith

@@ -3,3 +3,4 @@ pub mod Pasted
 pub mod Every
 pub mod Codec
 pub mod Shape
+pub mod Top

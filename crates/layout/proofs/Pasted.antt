@@ -2,12 +2,13 @@
 use mathlib.Core.Path.{_≡_, refl, sym, ap, _∙_}
 use mathlib.Core.List.{List, [], _∷_, _++_, append-assoc}
 use Prim.Native.Nat.{ℕ, zero, suc, _+_, _-_, _/_, _%_, _<_, _≤_}
+use native.Mathlib.Nat.{zero-add}
 use native.Mathlib.Numerals.{add-one}
 use native.Mathlib.Omega.{arith}
-use lib.ListN.{length, take, drop, set, length-append}
-use lib.Seq.{paste, paste-zero, take-paste, drop-paste, drop-drop, take-length, length-paste, set-split, take-append-seam, drop-at, length-take-le, append-snoc}
-use Rattle.layout.specs.Bytes.{le, pasted}
-use Rattle.layout.proofs.Laws.{length-le}
+use lib.ListN.{length, take, drop, set, length-append, length-drop, take-append-drop}
+use lib.Seq.{paste, paste-zero, take-paste, drop-paste, drop-drop, take-length, length-paste, set-split, take-append-seam, drop-at, length-take-le, append-snoc, take-at, drop-append-add, drop-append-le}
+use Rattle.layout.specs.Bytes.{le, pasted, Bytes}
+use Rattle.layout.proofs.Laws.{length-le, bytes-append, bytes-drop}
 
 pub pasted-none : (at : ℕ) (s : List ℕ) → pasted at [] s ≡ s
 pasted-none at s = sym (paste-zero s at [])
@@ -54,3 +55,49 @@ number-turn at (suc k) x s p h =
     let l = length-le k (x / 256) in
     let e : suc k - 1 ≡ k = omega arith in
     rw (e, pasted-one at (x % 256) s (omega arith)) (pasted-twice at (x % 256 ∷ []) (le k (x / 256)) s (omega arith))
+
+-- put at the start
+pub pasted-start : (x s : List ℕ) → pasted 0 x s ≡ x ++ drop (length x) s
+pasted-start x s = rw (zero-add, take-length x)
+
+-- put behind a part
+pub pasted-after : (p t x : List ℕ) (at : ℕ) → length p ≡ at → pasted at x (p ++ t) ≡ p ++ pasted 0 x t
+pasted-after p t x at e =
+    let d : drop (at + length x) (p ++ t) ≡ drop (0 + length x) t =
+    rw (← e, zero-add) (drop-append-add p t (length x)) in
+    rw (take-at p t at e, d) (append-assoc p (take (length x) x) (drop (0 + length x) t))
+
+-- put into the first z, when it is no longer than they are
+pub pasted-within : (z : ℕ) (x t : List ℕ) → length x ≤ z → z ≤ length t → pasted 0 x t ≡ pasted 0 x (take z t) ++ drop z t
+pasted-within z x t h k =
+    let l = length-take-le z t k in
+    let d : drop (length x) t ≡ drop (length x) (take z t) ++ drop z t =
+    ap (drop (length x)) (sym (take-append-drop z t)) ∙ drop-append-le (length x) (take z t) (drop z t) (omega arith) in
+    pasted-start x t ∙ ap (λ (l : List ℕ). x ++ l) d
+    ∙ sym (append-assoc x (drop (length x) (take z t)) (drop z t))
+    ∙ ap (λ (l : List ℕ). l ++ drop z t) (sym (pasted-start x (take z t)))
+
+pub length-within : (z : ℕ) (x t : List ℕ) → length x ≤ z → z ≤ length t → length (pasted 0 x (take z t)) ≡ z
+length-within z x t h k =
+    let l = length-take-le z t k in
+    length-pasted 0 x (take z t) (omega arith) ∙ l
+
+-- put behind a part, into the first z of what follows it
+pub pasted-first : (z : ℕ) (p t x : List ℕ) (at : ℕ) → length p ≡ at → length x ≤ z → z ≤ length t
+    → pasted at x (p ++ t) ≡ p ++ pasted 0 x (take z t) ++ drop z t
+pasted-first z p t x at e h k =
+    pasted-after p t x at e ∙ ap (λ (l : List ℕ). p ++ l) (pasted-within z x t h k)
+    ∙ sym (append-assoc p (pasted 0 x (take z t)) (drop z t))
+
+pub bytes-pasted : (x s : List ℕ) → Bytes x → Bytes s → Bytes (pasted 0 x s)
+bytes-pasted x s h k i =
+    rw (pasted-start x s) (bytes-append x (drop (length x) s) h (bytes-drop (length x) s k) i)
+
+-- put into a part of z that is lent and comes back
+pub put-part : (at z : ℕ) (x s : List ℕ) → at + z ≤ length s → length x ≤ z
+    → take at s ++ (pasted 0 x (take z (drop at s)) ++ drop z (drop at s)) ≡ pasted at x s
+put-part at z x s h k =
+    let l = length-drop at s in
+    sym (append-assoc (take at s) (pasted 0 x (take z (drop at s))) (drop z (drop at s)))
+    ∙ sym (pasted-first z (take at s) (drop at s) x at (length-take-le at s (omega arith)) k (omega arith))
+    ∙ ap (pasted at x) (take-append-drop at s)

@@ -2,7 +2,7 @@
 ghost use mathlib.Core.Path.{_≡_};
 ghost use Prim.Native.Nat.{_+_, _≤_, _<_};
 ghost use mathlib.Core.List.{_∷_, []};
-ghost use lib.ListN.{length, getD};
+ghost use lib.ListN.{length, getD, take, drop};
 ghost use Rattle.layout.specs.Bytes.{le, ofLe, readAt, pasted};
 
 pub fn of2(a: u8, b: u8) -> u16
@@ -69,4 +69,18 @@ pub fn put_number(s: &mut [u8], at: usize, k: usize, x: u32)
         rest = rest / 256;
         left -= 1;
     }
+}
+
+// The number that the k bytes of s from place at on spell.
+pub fn get_number(s: &[u8], at: usize, k: usize) -> u32
+    requires { ⌜ (at + k ≤ length (now s)) × (k ≤ 4) ⌝ }
+    ensures { λ r. ⌜ r ≡ ofLe (take k (drop at (now (s .entry)))) ⌝ }
+{
+    let mut left = k;
+    let mut acc: u32 = 0;
+    while 0 < left {
+        left -= 1;
+        acc = acc * 256 + (s[at + left] as u32);
+    }
+    acc
 }

@@ -10,14 +10,14 @@ use Rattle.line.specs.declared.Receiver.{Receiver}
 use Rattle.line.specs.Frames.{Frame}
 use Rattle.chain.specs.Chain.{Kind, handed, said}
 use Rattle.chain.proofs.Along.{length-handed}
-use Rattle.network.specs.Slots.{Slots, slotSize, Lawful}
+use Rattle.chain.specs.Slots.{Slots, slotSize, Lawful}
 use Rattle.network.specs.Record.{countAt, slotsAt, receiverIn, receiverBytes, netIn, stored, valid}
 use Rattle.network.specs.Walk.{moduleAt, walked, speech, changedAt, ticked, changed}
-use Rattle.network.proofs.Parts.{bytes-drop}
+use Rattle.layout.proofs.Laws.{bytes-drop}
 use Rattle.network.proofs.Slots as Slots
 use Rattle.network.proofs.Valid.{valid-is}
 use Rattle.network.proofs.Stored.{front, length-front, with-is, whole-is, stored-again, slots-long, modules-there, long-enough}
-use Rattle.network.proofs.Walked.{walked-on, speech-on, ticked-on, module-on, changed-on}
+use Rattle.network.proofs.Along.{walked-on, speech-on, ticked-on, module-on, changed-on}
 
 pub length-changed : {M : Type 0} (g : M → M) (i : ℕ) (ms : List M) → length (changed g i ms) ≡ length ms
 length-changed g i [] = refl

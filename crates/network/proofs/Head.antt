@@ -9,13 +9,13 @@ use lib.Dec.{eqb, leb}
 use borrow.Author.Tests.{leb-true, le-leb, eqb-true, eq-eqb}
 use Rattle.layout.specs.Bytes.{readAt, Bytes}
 use Rattle.layout.specs.Codec.{bit}
-use Rattle.layout.proofs.Laws.{bytes-read}
+use Rattle.layout.proofs.Laws.{bytes-read, bytes-append}
 use Rattle.layout.proofs.Codec.{head-there, head-back}
 use Rattle.line.specs.declared.Receiver.{Receiver}
 use Rattle.line.specs.Receive.{idle}
 use Rattle.line.specs.Promises.{Sound}
 use Rattle.network.specs.Record.{receiver, receiverIn, receiverBytes, blank, okReceiver}
-use Rattle.network.proofs.Parts.{bytes-append, and-true}
+use Rattle.network.proofs.Tests.{and-true}
 
 pub length-receiver : (r : Receiver) → length (receiverBytes r) ≡ 19
 unfolding receiverBytes

@@ -18,10 +18,10 @@ use Rattle.station.specs.Touch.{individually, named}
 use Rattle.chain.specs.Chain.{Kind, Net, executed, handed, byteStep}
 use Rattle.chain.proofs.Along.{length-handed}
 use Rattle.chain.proofs.Bytes.{step-on, step-end}
-use Rattle.network.specs.Slots.{Slots}
+use Rattle.chain.specs.Slots.{Preserves, Slots}
 use Rattle.network.specs.Walk.{changed}
-use Rattle.network.specs.Promises.{Each, SoundNet, Preserves, KeptByByte, KeptBySample, KeptByTick}
-use Rattle.network.proofs.Parts.{bytes-take}
+use Rattle.network.specs.Promises.{Each, SoundNet, KeptByByte, KeptBySample, KeptByTick}
+use Rattle.layout.proofs.Laws.{bytes-take}
 use Rattle.network.proofs.Exact.{length-changed}
 
 -- the data of a frame are bytes

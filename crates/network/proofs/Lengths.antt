@@ -11,7 +11,7 @@ use Rattle.layout.specs.Bytes.{pasted}
 use Rattle.layout.proofs.Pasted.{length-pasted}
 use Rattle.line.specs.Frames.{Frame}
 use Rattle.chain.specs.Chain.{Kind, join, executed, replied}
-use Rattle.network.specs.Slots.{Slots, slotSize, Lawful}
+use Rattle.chain.specs.Slots.{Slots, slotSize, Lawful}
 use Rattle.network.specs.Walk.{moduleAt, touchedAt, turned, wordsAt, lowAt, walked, speech, changedAt, ticked, noted}
 
 module _ {M S : Type 0} (K : Kind M S) {L : Slots M} (law : Lawful L) where

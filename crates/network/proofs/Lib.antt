@@ -1,11 +1,14 @@
-pub mod Parts
+pub mod Tests
 pub mod Slots
 pub mod Head
 pub mod Valid
 pub mod Stored
-pub mod Walked
+pub mod Along
 pub mod Exact
 pub mod Kept
 pub mod Lengths
 pub mod Turns
+pub mod OneTurn
+pub mod Rounds
+pub mod Calls
 pub mod Powered

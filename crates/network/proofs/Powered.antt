@@ -8,7 +8,7 @@ use lib.ListN.{length, replicate, length-replicate}
 use Rattle.layout.specs.Bytes.{Bytes}
 use Rattle.line.specs.Receive.{idle}
 use Rattle.line.proofs.Kept.{fresh}
-use Rattle.network.specs.Slots.{Slots, Lawful}
+use Rattle.chain.specs.Slots.{Slots, Lawful}
 use Rattle.network.specs.Record.{recordSize, netIn, stored, valid}
 use Rattle.network.specs.Promises.{Each, SoundNet}
 use Rattle.network.proofs.Stored.{back}

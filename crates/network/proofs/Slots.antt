@@ -8,10 +8,12 @@ use native.Mathlib.Omega.{arith}
 use lib.ListN.{length, take, drop, length-append, length-drop, take-append-drop}
 use lib.Seq.{take-at, drop-at, length-take-le}
 use Rattle.layout.specs.Bytes.{pasted, Bytes}
-use Rattle.network.specs.Slots.{Slots, slotSize, Lawful}
+use Rattle.chain.specs.Slots.{Slots, slotSize, Lawful}
 use Rattle.network.specs.Record.{modulesIn, okSlots, putModules}
 use Rattle.network.specs.Promises.{Each}
-use Rattle.network.proofs.Parts.{pasted-first, length-within, bytes-take, bytes-drop, bytes-append, bytes-pasted, and-true}
+use Rattle.layout.proofs.Pasted.{pasted-first, length-within, bytes-pasted}
+use Rattle.layout.proofs.Laws.{bytes-take, bytes-drop, bytes-append}
+use Rattle.network.proofs.Tests.{and-true}
 
 module _ {M : Type 0} (L : Slots M) where
   -- slots with these modules written into them, one after another

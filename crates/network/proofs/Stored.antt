@@ -8,10 +8,11 @@ use lib.ListN.{length, getD, drop, length-append, length-drop, take-append-drop}
 use lib.Seq.{drop-cons, append-snoc, drop-at, getD-at}
 use Rattle.layout.specs.Bytes.{pasted, Bytes}
 use Rattle.line.specs.declared.Receiver.{Receiver}
-use Rattle.network.specs.Slots.{Slots, slotSize, Lawful}
+use Rattle.chain.specs.Slots.{Slots, slotSize, Lawful}
 use Rattle.network.specs.Record.{countAt, slotsAt, recordSize, receiverIn, receiverBytes, okReceiver, modulesIn, okSlots, netIn, putModules, stored, valid}
 use Rattle.network.specs.Promises.{SoundNet, Holds, There, Back}
-use Rattle.network.proofs.Parts.{pasted-start, bytes-drop, bytes-append, bytes-one}
+use Rattle.layout.proofs.Pasted.{pasted-start}
+use Rattle.layout.proofs.Laws.{bytes-drop, bytes-append, bytes-one}
 use Rattle.network.proofs.Slots.{putSlots, length-modules, put-is, length-put, bytes-put, slots-back, slots-there, slots-fit}
 use Rattle.network.proofs.Head.{length-receiver, receiver-there, receiver-sound, receiver-back, receiver-ok, bytes-receiver}
 use Rattle.network.proofs.Valid.{Valid, valid-is, is-valid}

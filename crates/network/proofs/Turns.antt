@@ -6,7 +6,7 @@ use Prim.Native.Nat.{ℕ, suc, _+_}
 use lib.ListN.{length, set}
 use Rattle.line.specs.Frames.{Frame}
 use Rattle.chain.specs.Chain.{Kind}
-use Rattle.network.specs.Slots.{Slots, slotSize}
+use Rattle.chain.specs.Slots.{Slots, slotSize}
 use Rattle.network.specs.Walk.{turned, wordsAt, lowAt, walked, speech, changedAt, ticked, noted}
 
 module _ {M S : Type 0} (K : Kind M S) (L : Slots M) where

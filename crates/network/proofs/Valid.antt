@@ -6,9 +6,9 @@ use Prim.Native.Nat.{ℕ, _≤_}
 use lib.ListN.{length, getD, drop}
 use lib.Dec.{eqb, leb}
 use borrow.Author.Tests.{leb-true, le-leb, eqb-true, eq-eqb}
-use Rattle.network.specs.Slots.{Slots}
+use Rattle.chain.specs.Slots.{Slots}
 use Rattle.network.specs.Record.{countAt, slotsAt, recordSize, okReceiver, okSlots, valid}
-use Rattle.network.proofs.Parts.{cond-true, and-true}
+use Rattle.network.proofs.Tests.{cond-true, and-true}
 
 pub record Valid {M : Type 0} (L : Slots M) (s : List ℕ) : Type 0 where
   pub size : length s ≡ recordSize

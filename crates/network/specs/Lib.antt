@@ -1,4 +1,4 @@
-pub mod Slots
 pub mod Record
 pub mod Walk
+pub mod Calls
 pub mod Promises

@@ -2,13 +2,13 @@
 use mathlib.Core.Path.{_≡_}
 use Prim.Native.Nat.{ℕ, _<_, _≤_}
 use mathlib.Core.List.{List, [], _∷_, map}
-use mathlib.Core.Bool.{Bool, true}
+use mathlib.Core.Bool.{true}
 use lib.ListN.{length}
 use Rattle.layout.specs.Bytes.{Bytes}
-use Rattle.line.specs.Frames.{Byte, Frame}
+use Rattle.line.specs.Frames.{Byte}
 use Rattle.line.specs.Promises.{Sound}
 use Rattle.chain.specs.Chain.{Kind, Net, byteStep}
-use Rattle.network.specs.Slots.{Slots}
+use Rattle.chain.specs.Slots.{Slots, Preserves}
 use Rattle.network.specs.Record.{recordSize, netIn, stored, valid}
 use Rattle.network.specs.Walk.{changed}
 
@@ -40,12 +40,6 @@ Back {M} L =
     × (valid L (stored L n s) ≡ true)
     × Bytes (stored L n s)
     × (length (stored L n s) ≡ recordSize)
-
--- what a module type owes: a module that can be written stays one under every frame of bytes, every good sample and every tick
-pub record Preserves {M S : Type 0} (K : Kind M S) (L : Slots M) (Good : S → Type 0) : Type 0 where
-  pub execute : (f : Frame) (individual : Bool) (m : M) → Bytes (f .content) → L .fits m → L .fits (K .execute f individual m)
-  pub sample : (x : S) (m : M) → Good x → L .fits m → L .fits (K .sample x m)
-  pub tick : (m : M) → L .fits m → L .fits (K .tick m)
 
 -- A sound network stays sound, whatever byte comes, marked or not.
 abbrev pub KeptByByte : {M S : Type 0} → Kind M S → Slots M → (S → Type 0) → Type 0

@@ -10,7 +10,7 @@ use Rattle.layout.proofs.Shape.{Shape, byte, raw, flag, _then_, shaped}
 use Rattle.line.specs.declared.Receiver.{Receiver}
 use Rattle.line.specs.Receive.{idle}
 use Rattle.chain.specs.Chain.{Net}
-use Rattle.network.specs.Slots.{Slots, slotSize}
+use Rattle.chain.specs.Slots.{Slots, slotSize}
 
 abbrev pub countAt : ℕ
 countAt = 19

@@ -7,7 +7,7 @@ use Rattle.layout.specs.Bytes.{pasted}
 use Rattle.line.specs.Frames.{Frame}
 use Rattle.station.specs.Touch.{named}
 use Rattle.chain.specs.Chain.{Kind, executed, replied}
-use Rattle.network.specs.Slots.{Slots, slotSize}
+use Rattle.chain.specs.Slots.{Slots, slotSize}
 
 module _ {M S : Type 0} (K : Kind M S) (L : Slots M) where
   unfoldable pub moduleAt : ℕ → List ℕ → M

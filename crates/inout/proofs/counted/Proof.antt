@@ -1,8 +1,7 @@
+-- `inout::counted` meets its contract. Assumes nothing.
 use borrow.Author.Tests.{eq-eqb, ne-eqb}
 use Rattle.inout.proofs.counted.Statement.{statement}
 use Rattle.inout.proofs.counted.Tie as tie
-use Rattle.inout.proofs.counted.Reads as reads
-use Rattle.inout.proofs.counted.Lts as lts
 
 returns : tie.Need-returns
 returns c = rw (eq-eqb _ _ (c .if1 .taken))

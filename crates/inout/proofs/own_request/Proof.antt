@@ -1,58 +1,9 @@
+-- `inout::own_request` meets its contract. Each code is one arm. Assumes nothing.
 use borrow.Author.Tests.{ne-eqb}
 use Rattle.inout.specs.Commands.{own}
 use borrow.Author.Needs.{needs}
 use Rattle.inout.proofs.own_request.Statement.{statement}
 use Rattle.inout.proofs.own_request.Tie as tie
-use Rattle.inout.proofs.own_request.Reads as reads
-use Rattle.inout.proofs.own_request.Lts as lts
-use Rattle.inout.proofs.bits_in.Reads as bits-in-reads
-use Rattle.inout.proofs.counted.Reads as counted-reads
-use Rattle.layout.proofs.byte_at.Reads as byte-at-reads
-
-bits-in-requires : tie.Need-bits-in-requires
-bits-in-requires c κs = search needs
-
-counted-requires : tie.Need-counted-requires
-counted-requires c κs = search needs
-
-byte-at-requires : tie.Need-byte-at-requires
-byte-at-requires c κs = search needs
-
-byte-at-requires-2 : tie.Need-byte-at-requires-2
-byte-at-requires-2 c κs = search needs
-
-counted-requires-2 : tie.Need-counted-requires-2
-counted-requires-2 c κs = search needs
-
-counted-requires-3 : tie.Need-counted-requires-3
-counted-requires-3 c κs = search needs
-
-bits-in-requires-2 : tie.Need-bits-in-requires-2
-bits-in-requires-2 c κs = search needs
-
-counted-requires-4 : tie.Need-counted-requires-4
-counted-requires-4 c κs = search needs
-
-bits-in-requires-3 : tie.Need-bits-in-requires-3
-bits-in-requires-3 c κs = search needs
-
-byte-at-requires-3 : tie.Need-byte-at-requires-3
-byte-at-requires-3 c κs = search needs
-
-byte-at-requires-4 : tie.Need-byte-at-requires-4
-byte-at-requires-4 c κs = search needs
-
-counted-requires-5 : tie.Need-counted-requires-5
-counted-requires-5 c κs = search needs
-
-byte-at-requires-5 : tie.Need-byte-at-requires-5
-byte-at-requires-5 c κs = search needs
-
-counted-requires-6 : tie.Need-counted-requires-6
-counted-requires-6 c κs = search needs
-
-counted-requires-7 : tie.Need-counted-requires-7
-counted-requires-7 c κs = search needs
 
 returns : tie.Need-returns
 unfolding own
@@ -90,21 +41,21 @@ pub own-request-spec : {M : Type 1} → statement M
 own-request-spec =
     tie.close
     (tie.spec
-    bits-in-requires
-    counted-requires
-    byte-at-requires
-    byte-at-requires-2
-    counted-requires-2
-    counted-requires-3
-    bits-in-requires-2
-    counted-requires-4
-    bits-in-requires-3
-    byte-at-requires-3
-    byte-at-requires-4
-    counted-requires-5
-    byte-at-requires-5
-    counted-requires-6
-    counted-requires-7
+    (λ c κs. search needs)
+    (λ c κs. search needs)
+    (λ c κs. search needs)
+    (λ c κs. search needs)
+    (λ c κs. search needs)
+    (λ c κs. search needs)
+    (λ c κs. search needs)
+    (λ c κs. search needs)
+    (λ c κs. search needs)
+    (λ c κs. search needs)
+    (λ c κs. search needs)
+    (λ c κs. search needs)
+    (λ c κs. search needs)
+    (λ c κs. search needs)
+    (λ c κs. search needs)
     returns
     returns-2
     returns-3

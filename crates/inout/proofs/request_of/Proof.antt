@@ -1,29 +1,8 @@
+-- `inout::request_of` meets its contract. Assumes nothing.
 use Rattle.inout.specs.Commands.{request}
 use borrow.Author.Needs.{needs}
 use Rattle.inout.proofs.request_of.Statement.{statement}
 use Rattle.inout.proofs.request_of.Tie as tie
-use Rattle.inout.proofs.request_of.Reads as reads
-use Rattle.inout.proofs.request_of.Lts as lts
-use Rattle.inout.proofs.own_request.Reads as own-request-reads
-use Rattle.station.proofs.asked_by.Reads as asked-by-reads
-
-asked-by-requires : tie.Need-asked-by-requires
-asked-by-requires c κs = search needs
-
-enum-told : tie.Need-enum-told
-enum-told c = search needs
-
-own-request-requires : tie.Need-own-request-requires
-own-request-requires c κs = search needs
-
-enum-told-2 : tie.Need-enum-told-2
-enum-told-2 c = search needs
-
-enum-known-asked : tie.Need-enum-known-asked
-enum-known-asked c = search needs
-
-enum-told-3 : tie.Need-enum-told-3
-enum-told-3 c = search needs
 
 returns : tie.Need-returns
 unfolding request
@@ -45,12 +24,12 @@ pub request-of-spec : {M : Type 1} → statement M
 request-of-spec =
     tie.close
     (tie.spec
-    asked-by-requires
-    enum-told
-    own-request-requires
-    enum-told-2
-    enum-known-asked
-    enum-told-3
+    (λ c κs. search needs)
+    (λ c. search needs)
+    (λ c κs. search needs)
+    (λ c. search needs)
+    (λ c. search needs)
+    (λ c. search needs)
     returns
     returns-2
     returns-3

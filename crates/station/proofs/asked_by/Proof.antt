@@ -1,46 +1,13 @@
+-- `station::asked_by` meets its contract. Assumes nothing.
 use borrow.Author.Tests.{ne-eqb}
 use Rattle.station.specs.Commands.{asked}
 use borrow.Author.Needs.{needs}
 use Rattle.station.proofs.asked_by.Statement.{statement}
 use Rattle.station.proofs.asked_by.Tie as tie
-use Rattle.station.proofs.asked_by.Reads as reads
-use Rattle.station.proofs.asked_by.Lts as lts
-use Rattle.layout.proofs.byte_at.Reads as byte-at-reads
-use Rattle.station.proofs.counted.Reads as counted-reads
-
-byte-at-requires : tie.Need-byte-at-requires
-byte-at-requires c κs = search needs
-
-byte-at-requires-2 : tie.Need-byte-at-requires-2
-byte-at-requires-2 c κs = search needs
-
-counted-requires : tie.Need-counted-requires
-counted-requires c κs = search needs
-
-byte-at-requires-3 : tie.Need-byte-at-requires-3
-byte-at-requires-3 c κs = search needs
-
-counted-requires-2 : tie.Need-counted-requires-2
-counted-requires-2 c κs = search needs
-
-counted-requires-3 : tie.Need-counted-requires-3
-counted-requires-3 c κs = search needs
 
 returns : tie.Need-returns
 unfolding asked
 returns c = rw (c .before .match .keys4, c .if1 .taken)
-
-byte-at-requires-4 : tie.Need-byte-at-requires-4
-byte-at-requires-4 c κs = search needs
-
-counted-requires-4 : tie.Need-counted-requires-4
-counted-requires-4 c κs = search needs
-
-counted-requires-5 : tie.Need-counted-requires-5
-counted-requires-5 c κs = search needs
-
-counted-requires-6 : tie.Need-counted-requires-6
-counted-requires-6 c κs = search needs
 
 returns-2 : tie.Need-returns-2
 unfolding asked
@@ -74,17 +41,17 @@ pub asked-by-spec : {M : Type 1} → statement M
 asked-by-spec =
     tie.close
     (tie.spec
-    byte-at-requires
-    byte-at-requires-2
-    counted-requires
-    byte-at-requires-3
-    counted-requires-2
-    counted-requires-3
+    (λ c κs. search needs)
+    (λ c κs. search needs)
+    (λ c κs. search needs)
+    (λ c κs. search needs)
+    (λ c κs. search needs)
+    (λ c κs. search needs)
     returns
-    byte-at-requires-4
-    counted-requires-4
-    counted-requires-5
-    counted-requires-6
+    (λ c κs. search needs)
+    (λ c κs. search needs)
+    (λ c κs. search needs)
+    (λ c κs. search needs)
     returns-2
     returns-3
     returns-4

@@ -1,8 +1,7 @@
+-- `station::cause_bit` meets its contract. Assumes nothing.
 use borrow.Author.Tests.{eq-eqb, ne-eqb}
 use Rattle.station.proofs.cause_bit.Statement.{statement}
 use Rattle.station.proofs.cause_bit.Tie as tie
-use Rattle.station.proofs.cause_bit.Reads as reads
-use Rattle.station.proofs.cause_bit.Lts as lts
 
 returns : tie.Need-returns
 returns c = rw (eq-eqb _ _ (c .if1 .taken))

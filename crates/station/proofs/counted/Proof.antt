@@ -1,8 +1,7 @@
+-- `station::counted` meets its contract. Assumes nothing.
 use borrow.Author.Tests.{eq-eqb, ne-eqb}
 use Rattle.station.proofs.counted.Statement.{statement}
 use Rattle.station.proofs.counted.Tie as tie
-use Rattle.station.proofs.counted.Reads as reads
-use Rattle.station.proofs.counted.Lts as lts
 
 returns : tie.Need-returns
 returns c = rw (eq-eqb _ _ (c .if1 .taken))

@@ -1,10 +1,9 @@
 -- `station::put_items` meets its contract. The invariant: the items left, put where the loop is, give the whole. Assumes nothing.
 use Rattle.station.proofs.Items.{turn, total-drop}
-use mathlib.Core.Path.{_≡_, refl, sym, ap, _∙_}
-use mathlib.Core.List.{List, []}
-use Prim.Native.Nat.{ℕ, _+_, _-_, _≤_}
+use mathlib.Core.Path.{_≡_, refl, sym, _∙_}
+use mathlib.Core.List.{[]}
+use Prim.Native.Nat.{_+_, _-_, _≤_}
 use native.Mathlib.Omega.{arith}
-use borrow.Author.Needs.{needs}
 use lib.ListN.{length, drop, drop-of-length-le}
 use Rattle.layout.specs.Bytes.{pasted}
 use Rattle.layout.proofs.Pasted.{pasted-none}
@@ -12,9 +11,6 @@ use Rattle.line.specs.Receive.{total}
 use Rattle.station.specs.Report.{chosen}
 use Rattle.station.proofs.put_items.Statement.{statement}
 use Rattle.station.proofs.put_items.Tie as tie
-use Rattle.station.proofs.put_items.Reads as reads
-use Rattle.station.proofs.put_items.Lts as lts
-use Rattle.station.proofs.put_item.Reads as put-item-reads
 
 abbrev Inv-loop : tie.InvT-loop
 Inv-loop room₀ from items sizes numbers at₀ left₀ i₀ room at left i =
@@ -30,29 +26,14 @@ abbrev μ-loop : tie.MeasureT-loop
 loop-holds : tie.Need-loop-holds Inv-loop μ-loop
 loop-holds c = (omega arith, refl, c .before .pre .2, refl, refl)
 
-array-read-put-item : tie.Need-array-read-put-item Inv-loop μ-loop
-array-read-put-item c = omega arith
-
 cast-put-item : tie.Need-cast-put-item Inv-loop μ-loop
 cast-put-item c = let l = c .before .before .loop in let a = c .before .before .before .before in omega (arith, total-drop (a .args .t4) (l .i) (omega arith))
-
-mul-put-item : tie.Need-mul-put-item Inv-loop μ-loop
-mul-put-item c = omega arith
-
-array-read-put-item-2 : tie.Need-array-read-put-item-2 Inv-loop μ-loop
-array-read-put-item-2 c = omega arith
 
 put-item-requires : tie.Need-put-item-requires Inv-loop μ-loop
 put-item-requires c κs = let l = c .before .before .loop in let a = c .before .before .before .before in omega (arith, total-drop (a .args .t4) (l .i) (omega arith))
 
 add-at : tie.Need-add-at Inv-loop μ-loop
 add-at c = let l = c .before .before .before .before .before .loop in let a = c .before .before .before .before .before .before .before in omega (arith, c .before .before .put-item .ensures .0, turn (l .room) (a .args .t4) (a .args .t5) (l .at) (l .left) (l .i) (omega arith) (omega arith) (omega arith) .0)
-
-add-i : tie.Need-add-i Inv-loop μ-loop
-add-i c = omega arith
-
-loop-less : tie.Need-loop-less Inv-loop μ-loop
-loop-less c = omega arith
 
 loop-again : tie.Need-loop-again Inv-loop μ-loop
 loop-again c =
@@ -61,9 +42,6 @@ loop-again c =
     let e = c .before .before .put-item .ensures in
     let t = turn (l .room) (a .args .t4) (a .args .t5) (l .at) (l .left) (l .i) (omega arith) (omega arith) (omega arith) in
     (omega arith, omega arith, rw (e .0) (omega (arith, t .0)), rw (e .0, e .1) (t .1 ∙ l .inv .3), rw (e .0) (t .2 ∙ l .inv .4))
-
-same-length : tie.Need-same-length Inv-loop μ-loop
-same-length c = omega arith
 
 returns : tie.Need-returns Inv-loop μ-loop
 returns c =
@@ -82,14 +60,14 @@ put-items-spec =
     Inv-loop
     μ-loop
     loop-holds
-    array-read-put-item
+    (λ c. omega arith)
     cast-put-item
-    mul-put-item
-    array-read-put-item-2
+    (λ c. omega arith)
+    (λ c. omega arith)
     put-item-requires
     add-at
-    add-i
-    loop-less
+    (λ c. omega arith)
+    (λ c. omega arith)
     loop-again
-    same-length
+    (λ c. omega arith)
     returns)

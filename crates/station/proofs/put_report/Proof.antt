@@ -1,3 +1,4 @@
+-- `station::put_report` meets its contract. Assumes nothing.
 use mathlib.Core.Path.{_≡_}
 use Prim.Native.Nat.{_<_, _≤_}
 use lib.ListN.{length}
@@ -19,35 +20,17 @@ ends c =
     let a = c .before .before .before .args in
     end-is (a .room .now) (a .sizes) (a .numbers) (a .from) (a .status) (a .items) (c .before .before .before .pre .2) (c .put-items .ensures .0) (c .put-items .ensures .1)
 
-slice-write-room : tie.Need-slice-write-room
-slice-write-room c = search needs
-
-add-put-items : tie.Need-add-put-items
-add-put-items c = search needs
-
 put-items-requires : tie.Need-put-items-requires
 put-items-requires c κs = let p = c .before .before .pre in (p .0, p .1, simp length-set (omega arith))
 
-sub-sum-on : tie.Need-sub-sum-on
-sub-sum-on c = search needs
-
-part-sum-on-start : tie.Need-part-sum-on-start
-part-sum-on-start c = search needs
-
 part-sum-on-end : tie.Need-part-sum-on-end
 part-sum-on-end c = let z = ends (c .before .before .before) in omega arith
-
-sum-on-requires : tie.Need-sum-on-requires
-sum-on-requires c κs = search needs
 
 slice-write-room-2 : tie.Need-slice-write-room-2
 slice-write-room-2 c = let z = ends (c .before .before .before .before .before) in omega arith
 
 add-result : tie.Need-add-result
 add-result c = let z = ends (c .before .before .before .before .before) in omega arith
-
-sub-result : tie.Need-sub-result
-sub-result c = search needs
 
 same-length : tie.Need-same-length
 same-length c = simp length-set (ends (c .before .before .before .before .before) .1)
@@ -59,15 +42,15 @@ pub put-report-spec : {M : Type 1} → statement M
 put-report-spec =
     tie.close
     (tie.spec
-    slice-write-room
-    add-put-items
+    (λ c. search needs)
+    (λ c. search needs)
     put-items-requires
-    sub-sum-on
-    part-sum-on-start
+    (λ c. search needs)
+    (λ c. search needs)
     part-sum-on-end
-    sum-on-requires
+    (λ c κs. search needs)
     slice-write-room-2
     add-result
-    sub-result
+    (λ c. search needs)
     same-length
     returns)

@@ -12,10 +12,11 @@ use Rattle.layout.specs.Bytes.{pasted, Bytes}
 use Rattle.line.specs.Frames.{Frame}
 use Rattle.station.specs.Touch.{named}
 use Rattle.chain.specs.Chain.{Kind, executed, replied, handed, said}
-use Rattle.network.specs.Slots.{Slots, slotSize, Lawful}
+use Rattle.chain.specs.Slots.{Slots, slotSize, Lawful}
 use Rattle.network.specs.Record.{modulesIn, okSlots}
 use Rattle.network.specs.Walk.{moduleAt, touchedAt, turned, wordsAt, lowAt, walked, speech, changedAt, ticked, changed}
-use Rattle.network.proofs.Parts.{pasted-first, length-within, bytes-drop}
+use Rattle.layout.proofs.Pasted.{pasted-first, length-within}
+use Rattle.layout.proofs.Laws.{bytes-drop}
 use Rattle.network.proofs.Slots.{putSlots, first-long, rest-long, first-there, rest-ok, slots-there}
 
 module _ {M S : Type 0} (K : Kind M S) {L : Slots M} (law : Lawful L) where
