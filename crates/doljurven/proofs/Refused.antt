@@ -1,0 +1,101 @@
+-- Tables of refusals: what a call that was refused, or was not, may use. Assumes nothing.
+use mathlib.Core.Path.{_≡_, refl, sym, ap, _∙_}
+use mathlib.Core.List.{List, [], _∷_}
+use mathlib.Core.Bool.{Bool, true, false, cond, not, _||_}
+use Prim.Native.Nat.{ℕ, _<_, _≤_}
+use native.Mathlib.Omega.{arith}
+use borrow.Author.Tests.{eq-eqb, ne-eqb, eqb-true, ltb-true, ltb-false, not-false}
+use lib.ListN.{length}
+use lib.Dec.{eqb, ltb}
+use Rattle.layout.specs.Bytes.{pasted}
+use Rattle.chain.specs.Chain.{Step, flat}
+use Rattle.modules.specs.Types.{Module, slots}
+use Rattle.network.specs.declared.Called.{Called}
+use Rattle.network.specs.Record.{recordSize, netIn, stored, valid}
+use Rattle.network.specs.Calls.{allKnown, byteOf, calledBy}
+use Rattle.doljurven.specs.Table.{Line, first, setupTable, byteTable, ioSampleTable, outputsTable}
+use Rattle.doljurven.specs.Calls.{unless, stepOf, byteNumber, byteRecord, byteRoom, byteWritten}
+
+-- by the number that a refusing function gave
+pub refused : {A : Type 0} (ls : List Line) (x y : A) {n : ℕ} → n ≡ first ls → (n ≡ 0 → ⊥) → x ≡ unless ls x y
+refused {A} ls x y e h = sym (ap (λ (t : Bool). cond t y x) (ne-eqb (first ls) 0 (λ z. h (e ∙ z))))
+
+pub done : {A : Type 0} (ls : List Line) (x y : A) {n : ℕ} → n ≡ first ls → n ≡ 0 → y ≡ unless ls x y
+done {A} ls x y e h = sym (ap (λ (t : Bool). cond t y x) (eq-eqb (first ls) 0 (sym e ∙ h)))
+
+-- where none applies, each does not
+abbrev Numbered : List Line → Type 0
+Numbered [] = Unit {0}
+Numbered (l ∷ ls) = (0 < l .number) × Numbered ls
+
+abbrev NoneApplies : List Line → Type 0
+NoneApplies [] = Unit {0}
+NoneApplies (l ∷ ls) = (l .applies ≡ false) × NoneApplies ls
+
+none-applies : (ls : List Line) → Numbered ls → first ls ≡ 0 → NoneApplies ls
+none-applies [] h e = tt
+none-applies (l ∷ ls) h e = go (l .applies) refl (none-applies ls (h .1))
+  where
+    go : (t : Bool) → l .applies ≡ t → (first ls ≡ 0 → NoneApplies ls) → (l .applies ≡ false) × NoneApplies ls
+    go true q rest = let z = rw q at e in absurd (omega (arith, h .0))
+    go false q rest = (q, rest (rw q at e))
+
+or-false : (a b : Bool) → (a || b) ≡ false → (a ≡ false) × (b ≡ false)
+or-false false b e = (refl, e)
+or-false true b e = let z : true ≡ false = e in (z, cc)
+
+pub setup-passes : (net types : List ℕ) → first (setupTable net types) ≡ 0 → (length net ≡ recordSize) × (length types ≤ 32) × (allKnown types ≡ true)
+setup-passes net types e =
+    let n = none-applies (setupTable net types) (omega arith, (omega arith, (omega arith, tt))) e in
+    (eqb-true _ _ (not-false _ (n .0)), ltb-false _ _ (or-false (eqb (length types) 0) (ltb 32 (length types)) (n .1 .0) .1), not-false _ (n .1 .1 .0))
+
+pub byte-passes : (net : List ℕ) (mark : ℕ) (room : List ℕ) → first (byteTable net mark room) ≡ 0 → (valid slots net ≡ true) × (608 ≤ length room)
+byte-passes net mark room e =
+    let n = none-applies (byteTable net mark room) (omega arith, (omega arith, (omega arith, tt))) e in
+    (not-false _ (n .0), ltb-false _ _ (n .1 .1 .0))
+
+pub io-sample-passes : (net : List ℕ) (place inputs : ℕ) → first (ioSampleTable net place inputs) ≡ 0
+    → (valid slots net ≡ true) × (place < length (netIn slots net .modules)) × (inputs ≤ 4095)
+io-sample-passes net place inputs e =
+    let n = none-applies (ioSampleTable net place inputs) (omega arith, (omega arith, (omega arith, tt))) e in
+    (not-false _ (n .0), ltb-true _ _ (not-false _ (n .1 .0)), ltb-false _ _ (n .1 .1 .0))
+
+pub outputs-passes : (net : List ℕ) (place : ℕ) → first (outputsTable net place) ≡ 0 → (valid slots net ≡ true) × (place < length (netIn slots net .modules))
+outputs-passes net place e =
+    let n = none-applies (outputsTable net place) (omega arith, (omega arith, tt)) e in
+    (not-false _ (n .0), ltb-true _ _ (not-false _ (n .1 .0)))
+
+-- the byte call, refused and done
+module _ (net : List ℕ) (mark byte : ℕ) (room : List ℕ) {n : ℕ} (e : n ≡ first (byteTable net mark room)) where
+  pub byte-refused : (n ≡ 0 → ⊥)
+      → (n ≡ byteNumber net mark byte room)
+      × ((net ≡ byteRecord net mark byte room) × ((room ≡ byteRoom net mark byte room) × (0 ≡ byteWritten net mark byte room)))
+  unfolding byteNumber byteRecord byteRoom byteWritten
+  byte-refused h =
+      let ls : List Line = byteTable net mark room in
+      let t : Step Module = stepOf net mark byte in (
+        e ∙ refused ls (first ls) (t .number) e h,
+        (
+          refused ls net (stored slots (t .net) net) e h,
+          (refused ls room (pasted 0 (flat (t .replies)) room) e h, refused ls 0 (length (flat (t .replies))) e h),
+        ),
+      )
+
+  pub byte-done : n ≡ 0 → {c : Called} {net′ room′ : List ℕ}
+      → (c ≡ calledBy (netIn slots net) (byteOf byte (eqb mark 1)))
+      × ((net′ ≡ stored slots (stepOf net mark byte .net) net) × (room′ ≡ pasted 0 (flat (stepOf net mark byte .replies)) room))
+      → (c .number ≡ byteNumber net mark byte room)
+      × ((net′ ≡ byteRecord net mark byte room) × ((room′ ≡ byteRoom net mark byte room) × (c .written ≡ byteWritten net mark byte room)))
+  unfolding byteNumber byteRecord byteRoom byteWritten calledBy
+  byte-done z p =
+      let ls : List Line = byteTable net mark room in
+      let t : Step Module = stepOf net mark byte in (
+        ap (λ (c : Called). c .number) (p .0) ∙ done ls (first ls) (t .number) e z,
+        (
+          p .1 .0 ∙ done ls net (stored slots (t .net) net) e z,
+          (
+            p .1 .1 ∙ done ls room (pasted 0 (flat (t .replies)) room) e z,
+            ap (λ (c : Called). c .written) (p .0) ∙ done ls 0 (length (flat (t .replies))) e z,
+          ),
+        ),
+      )

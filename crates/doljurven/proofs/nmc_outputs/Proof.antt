@@ -1,0 +1,31 @@
+use Rattle.doljurven.proofs.Refused.{refused, done, outputs-passes}
+use Rattle.network.specs.Calls.{outputsAt}
+use Rattle.network.specs.Record.{netIn}
+use Rattle.modules.specs.Types.{slots}
+use Rattle.doljurven.specs.Calls.{outputsBytes}
+use Rattle.doljurven.specs.Table.{outputsTable}
+use mathlib.Core.Path.{sym, _∙_}
+use borrow.Author.Needs.{needs}
+use Rattle.doljurven.proofs.nmc_outputs.Statement.{statement}
+use Rattle.doljurven.proofs.nmc_outputs.Tie as tie
+use Rattle.doljurven.proofs.nmc_outputs.Reads as reads
+use Rattle.doljurven.proofs.nmc_outputs.Lts as lts
+use Rattle.doljurven.proofs.outputs_refusal.Reads as outputs-refusal-reads
+use Rattle.network.proofs.outputs.Reads as outputs-reads
+
+outputs-refusal-requires : tie.Need-outputs-refusal-requires
+outputs-refusal-requires c κs = search needs
+
+returns : tie.Need-returns
+unfolding outputsBytes
+returns c = let a = c .before .before .before .args in (c .before .outputs-refusal .ensures, refused (outputsTable (a .net .now) (a .place)) (a .outputs .now) (outputsAt (netIn slots (a .net .now)) (a .place)) (c .before .outputs-refusal .ensures) (c .if1 .taken))
+
+outputs-requires : tie.Need-outputs-requires
+outputs-requires c κs = let a = c .before .before .before .args in outputs-passes (a .net .now) (a .place) (sym (c .before .outputs-refusal .ensures) ∙ c .if1 .left)
+
+returns-2 : tie.Need-returns-2
+unfolding outputsBytes
+returns-2 c = let a = c .before .before .before .before .args in let e = c .before .before .outputs-refusal .ensures in let z = c .before .if1 .left in (sym z ∙ e, c .outputs .ensures ∙ done (outputsTable (a .net .now) (a .place)) (a .outputs .now) (outputsAt (netIn slots (a .net .now)) (a .place)) e z)
+
+pub nmc-outputs-spec : {M : Type 1} → statement M
+nmc-outputs-spec = tie.close (tie.spec outputs-refusal-requires returns outputs-requires returns-2)

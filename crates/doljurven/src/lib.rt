@@ -1,0 +1,231 @@
+// The calls for the board's C code. Each refuses what its table says, in the table's order, and changes nothing then.
+ghost use mathlib.Core.Path.{_≡_};
+ghost use lib.ListN.{length};
+ghost use Rattle.host.specs.Writing.{writtenOf, roomAfter};
+ghost use Rattle.host.specs.Reading.{statusOf};
+ghost use Rattle.doljurven.specs.Table.{first, setupTable, byteTable, ioSampleTable, tickTable, outputsTable};
+ghost use Rattle.doljurven.specs.Calls.{setupRecord, byteNumber, byteRecord, byteRoom, byteWritten, ioSampleRecord, tickRecord, outputsBytes, readingBytes, sampleOf};
+use host::Reading;
+use inout::Sample;
+
+fn setup_refusal(net: &[u8], types: &[u8]) -> u32
+    ensures { λ r. ⌜ r ≡ first (setupTable (now (net .entry)) (now (types .entry))) ⌝ }
+{
+    if net.len() != 4116 {
+        return 16;
+    }
+    if (types.len() == 0) | (32 < types.len()) {
+        return 11;
+    }
+    if !network::is_all_known(types) {
+        return 12;
+    }
+    0
+}
+
+// A network of the given types at power-up: 0, or 16, 11, 12.
+#[no_mangle]
+pub extern "C" fn nmc_setup(net: &mut [u8], types: &[u8]) -> u32
+    ensures { λ r. ⌜ r ≡ first (setupTable (now (net .entry)) (now (types .entry))) ⌝ }
+    ensures { λ _. ⌜ now (net .exit) ≡ setupRecord (now (net .entry)) (now (types .entry)) ⌝ }
+{
+    let number = setup_refusal(net, types);
+    if number != 0 {
+        return number;
+    }
+    network::set_up(net, types);
+    0
+}
+
+fn byte_refusal(net: &[u8], mark: u32, room: &[u8]) -> u32
+    ensures { λ r. ⌜ r ≡ first (byteTable (now (net .entry)) mark (now (room .entry))) ⌝ }
+{
+    if !network::is_valid(net) {
+        return 16;
+    }
+    if 1 < mark {
+        return 14;
+    }
+    if room.len() < 608 {
+        return 15;
+    }
+    0
+}
+
+// A byte of the line with its mark: 0 taken, 1 an undamaged frame ended, 2 a damaged one, or 16, 14, 15.
+#[no_mangle]
+pub extern "C" fn nmc_byte(
+    net: &mut [u8],
+    mark: u32,
+    byte: u8,
+    room: &mut [u8],
+    written: &mut usize,
+) -> u32
+    ensures { λ r. ⌜ r ≡ byteNumber (now (net .entry)) mark byte (now (room .entry)) ⌝ }
+    ensures { λ _. ⌜ now (net .exit) ≡ byteRecord (now (net .entry)) mark byte (now (room .entry)) ⌝ }
+    ensures { λ _. ⌜ now (room .exit) ≡ byteRoom (now (net .entry)) mark byte (now (room .entry)) ⌝ }
+    ensures { λ _. ⌜ now (written .exit) ≡ byteWritten (now (net .entry)) mark byte (now (room .entry)) ⌝ }
+{
+    let number = byte_refusal(net, mark, room);
+    if number != 0 {
+        *written = 0;
+        return number;
+    }
+    let called = network::byte(net, byte, mark == 1, room);
+    *written = called.written;
+    called.number
+}
+
+fn io_sample_refusal(net: &[u8], place: u32, inputs: u32) -> u32
+    ensures { λ r. ⌜ r ≡ first (ioSampleTable (now (net .entry)) place inputs) ⌝ }
+{
+    if !network::is_valid(net) {
+        return 16;
+    }
+    if !(place < network::chain_len(net) as u32) {
+        return 13;
+    }
+    if 4095 < inputs {
+        return 14;
+    }
+    0
+}
+
+// A sample for the I/O module at a place, which takes effect at the next tick: 0, or 16, 13, 14.
+#[no_mangle]
+pub extern "C" fn nmc_io_sample(
+    net: &mut [u8],
+    place: u32,
+    inputs: u32,
+    ad1: u8,
+    ad2: u8,
+    ad3: u8,
+    counter: u32,
+) -> u32
+    ensures { λ r. ⌜ r ≡ first (ioSampleTable (now (net .entry)) place inputs) ⌝ }
+    ensures { λ _. ⌜ now (net .exit) ≡ ioSampleRecord (now (net .entry)) place (sampleOf inputs ad1 ad2 ad3 counter) ⌝ }
+{
+    let number = io_sample_refusal(net, place, inputs);
+    if number != 0 {
+        return number;
+    }
+    let x = Sample {
+        inputs: inputs as u16,
+        ad1,
+        ad2,
+        ad3,
+        counter,
+    };
+    network::put_io_sample(net, place as usize, x);
+    0
+}
+
+// A tick: 0, or 16.
+#[no_mangle]
+pub extern "C" fn nmc_tick(net: &mut [u8]) -> u32
+    ensures { λ r. ⌜ r ≡ first (tickTable (now (net .entry))) ⌝ }
+    ensures { λ _. ⌜ now (net .exit) ≡ tickRecord (now (net .entry)) ⌝ }
+{
+    if !network::is_valid(net) {
+        return 16;
+    }
+    network::tick(net);
+    0
+}
+
+fn outputs_refusal(net: &[u8], place: u32) -> u32
+    ensures { λ r. ⌜ r ≡ first (outputsTable (now (net .entry)) place) ⌝ }
+{
+    if !network::is_valid(net) {
+        return 16;
+    }
+    if !(place < network::chain_len(net) as u32) {
+        return 13;
+    }
+    0
+}
+
+// What the board drives for the module at a place: 0, or 16, 13.
+#[no_mangle]
+pub extern "C" fn nmc_outputs(net: &[u8], place: u32, outputs: &mut [u8; 8]) -> u32
+    ensures { λ r. ⌜ r ≡ first (outputsTable (now (net .entry)) place) ⌝ }
+    ensures { λ _. ⌜ now (outputs .exit) ≡ outputsBytes (now (net .entry)) place (now (outputs .entry)) ⌝ }
+{
+    let number = outputs_refusal(net, place);
+    if number != 0 {
+        return number;
+    }
+    *outputs = network::outputs(net, place as usize);
+    0
+}
+
+// Writes a frame at the room's start: 0, or 17, 15.
+#[no_mangle]
+pub extern "C" fn nmc_write_frame(
+    address: u32,
+    code: u32,
+    ds: &[u8],
+    room: &mut [u8],
+    written: &mut usize,
+) -> u32
+    ensures { λ r. ⌜ r ≡ writtenOf address code (now (ds .entry)) (now (room .entry)) .number ⌝ }
+    ensures { λ _. ⌜ now (room .exit) ≡ roomAfter address code (now (ds .entry)) (now (room .entry)) ⌝ }
+    ensures { λ _. ⌜ now (written .exit) ≡ writtenOf address code (now (ds .entry)) (now (room .entry)) .len ⌝ }
+{
+    let w = host::write_frame(address, code, ds, room);
+    *written = w.len;
+    w.number
+}
+
+fn reading_bytes(r: Reading) -> [u8; 33]
+    ensures { λ s. ⌜ s ≡ readingBytes r ⌝ }
+{
+    let n = r.numbers;
+    [
+        r.status,
+        (n[0] % 256) as u8,
+        (n[0] / 256 % 256) as u8,
+        (n[0] / 256 / 256 % 256) as u8,
+        (n[0] / 256 / 256 / 256 % 256) as u8,
+        (n[1] % 256) as u8,
+        (n[1] / 256 % 256) as u8,
+        (n[1] / 256 / 256 % 256) as u8,
+        (n[1] / 256 / 256 / 256 % 256) as u8,
+        (n[2] % 256) as u8,
+        (n[2] / 256 % 256) as u8,
+        (n[2] / 256 / 256 % 256) as u8,
+        (n[2] / 256 / 256 / 256 % 256) as u8,
+        (n[3] % 256) as u8,
+        (n[3] / 256 % 256) as u8,
+        (n[3] / 256 / 256 % 256) as u8,
+        (n[3] / 256 / 256 / 256 % 256) as u8,
+        (n[4] % 256) as u8,
+        (n[4] / 256 % 256) as u8,
+        (n[4] / 256 / 256 % 256) as u8,
+        (n[4] / 256 / 256 / 256 % 256) as u8,
+        (n[5] % 256) as u8,
+        (n[5] / 256 % 256) as u8,
+        (n[5] / 256 / 256 % 256) as u8,
+        (n[5] / 256 / 256 / 256 % 256) as u8,
+        (n[6] % 256) as u8,
+        (n[6] / 256 % 256) as u8,
+        (n[6] / 256 / 256 % 256) as u8,
+        (n[6] / 256 / 256 / 256 % 256) as u8,
+        (n[7] % 256) as u8,
+        (n[7] / 256 % 256) as u8,
+        (n[7] / 256 / 256 % 256) as u8,
+        (n[7] / 256 / 256 / 256 % 256) as u8,
+    ]
+}
+
+// Takes a reply apart: 0, or 12, 18, 19 with a reading of zeros.
+#[no_mangle]
+pub extern "C" fn nmc_read_status(kind: u32, items: u8, reply: &[u8], reading: &mut [u8; 33]) -> u32
+    ensures { λ r. ⌜ r ≡ statusOf kind items (now (reply .entry)) .number ⌝ }
+    ensures { λ _. ⌜ now (reading .exit) ≡ readingBytes (statusOf kind items (now (reply .entry)) .reading) ⌝ }
+{
+    let answered = host::take_status(kind, items, reply);
+    let r = answered.reading;
+    *reading = reading_bytes(r);
+    answered.number
+}

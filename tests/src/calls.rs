@@ -1,0 +1,28 @@
+//! The exported calls as a Rust trait: the library has them through C, the model in `record`.
+
+pub const NET_LEN: usize = 4116;
+pub const ROOM_LEN: usize = 608;
+pub const MOST_MODULES: usize = 32;
+
+pub const DONE: u32 = 0;
+pub const UNDAMAGED: u32 = 1;
+pub const DAMAGED: u32 = 2;
+pub const BAD_CHAIN: u32 = 11;
+pub const BAD_TYPE: u32 = 12;
+pub const BAD_PLACE: u32 = 13;
+pub const BAD_FIELD: u32 = 14;
+pub const SHORT_ROOM: u32 = 15;
+pub const BAD_RECORD: u32 = 16;
+pub const BAD_FRAME: u32 = 17;
+pub const BAD_LENGTH: u32 = 18;
+pub const BAD_SUM: u32 = 19;
+
+pub trait Calls {
+    fn setup(&self, net: &mut [u8], types: &[u8]) -> u32;
+    fn byte(&self, net: &mut [u8], mark: u32, byte: u8, room: &mut [u8], written: &mut usize) -> u32;
+    fn io_sample(&self, net: &mut [u8], place: u32, inputs: u32, ad: [u8; 3], counter: u32) -> u32;
+    fn tick(&self, net: &mut [u8]) -> u32;
+    fn outputs(&self, net: &[u8], place: u32, outputs: &mut [u8; 8]) -> u32;
+    fn write_frame(&self, address: u32, code: u32, data: &[u8], room: &mut [u8], written: &mut usize) -> u32;
+    fn read_status(&self, module_type: u32, items: u8, reply: &[u8], reading: &mut [u8; 33]) -> u32;
+}

@@ -1,0 +1,527 @@
+//! Histories that the library and the model go through side by side. After every call all that was lent is compared,
+//! byte for byte: the number, the record, the room with what lies behind the replies, and the length.
+
+use std::collections::VecDeque;
+
+use crate::calls::*;
+use crate::dice::Dice;
+use crate::model::{frame_bytes, item_sizes, sum, Network, HEADER};
+use crate::record::{decode, slot, Model, COUNT, FILL, IO_LEN, MARK, SLOTS, TWELVE_BITS};
+use crate::slips::Slip;
+
+/// What the histories have reached, so that a test can tell that its dice still fall everywhere.
+#[derive(Debug, Default)]
+pub struct Seen {
+    /// Modules touched, by code and cause.
+    pub met: [[usize; 4]; 16],
+    /// Answers by their number.
+    pub numbers: [usize; 20],
+    /// Frames by how many modules replied: none, one, more.
+    pub repliers: [usize; 3],
+    pub bytes: usize,
+    pub samples: usize,
+    pub ticks: usize,
+    pub full_rooms: usize,
+    pub damaged_records: usize,
+    pub damaged_records_taken: usize,
+    pub host_calls: usize,
+}
+
+#[derive(Clone, Debug)]
+enum Event {
+    Setup(Vec<u8>),
+    Record,
+    Byte(u32, u8, usize),
+    Sample(u32, u32, [u8; 3], u32),
+    Tick,
+}
+
+/// Library and model over one record.
+struct Pair<'a> {
+    library: &'a dyn Calls,
+    model: Model,
+    net: Vec<u8>,
+    /// Whatever a lent room may hold before a call.
+    junk: Vec<u8>,
+    turn: usize,
+    past: VecDeque<Event>,
+    seen: &'a mut Seen,
+}
+
+fn apart(library: &[u8], model: &[u8]) -> String {
+    let apart = library.iter().zip(model).enumerate().filter(|(_, (library, model))| library != model);
+    let mut told: Vec<String> = apart
+        .map(|(at, (library, model))| format!("byte {at}: library {library:02X}, model {model:02X}"))
+        .collect();
+    let more = told.len().saturating_sub(8);
+    told.truncate(8);
+    format!("{}{}", told.join("; "), if more > 0 { format!("; {more} more") } else { String::new() })
+}
+
+impl Pair<'_> {
+    fn disagree<T>(&self, what: &str) -> Result<T, String> {
+        let past: Vec<String> = self.past.iter().map(|event| format!("{event:X?}")).collect();
+        Err(format!("{what}\nlast events:\n  {}", past.join("\n  ")))
+    }
+
+    fn remember(&mut self, event: Event) {
+        if self.past.len() == 40 {
+            self.past.pop_front();
+        }
+        self.past.push_back(event);
+    }
+
+    fn same_number(&mut self, library: u32, model: u32) -> Result<u32, String> {
+        if library != model {
+            return self.disagree(&format!("number: library {library}, model {model}"));
+        }
+        self.seen.numbers[library as usize] += 1;
+        Ok(library)
+    }
+
+    fn same_bytes(&self, what: &str, library: &[u8], model: &[u8]) -> Result<(), String> {
+        if library != model {
+            return self.disagree(&format!("{what}: {}", apart(library, model)));
+        }
+        Ok(())
+    }
+
+    fn room(&mut self, room_len: usize) -> Vec<u8> {
+        self.turn += 1;
+        let at = self.turn % (self.junk.len() - room_len);
+        self.junk[at..at + room_len].to_vec()
+    }
+
+    fn setup(&mut self, types: &[u8]) -> Result<u32, String> {
+        self.remember(Event::Setup(types.to_vec()));
+        let mut by_model = self.net.clone();
+        let library = self.library.setup(&mut self.net, types);
+        let model = self.model.setup(&mut by_model, types);
+        let number = self.same_number(library, model)?;
+        self.same_bytes("record", &self.net, &by_model)?;
+        Ok(number)
+    }
+
+    fn byte(&mut self, mark: u32, byte: u8, room_len: usize) -> Result<u32, String> {
+        self.remember(Event::Byte(mark, byte, room_len));
+        self.seen.bytes += 1;
+        let before = self.net.clone();
+        let mut by_model = before.clone();
+        let mut room = self.room(room_len);
+        let mut model_room = room.clone();
+        let (mut written, mut model_written) = (self.turn, 0);
+        let library = self.library.byte(&mut self.net, mark, byte, &mut room, &mut written);
+        let model = self.model.byte(&mut by_model, mark, byte, &mut model_room, &mut model_written);
+        let number = self.same_number(library, model)?;
+        if written != model_written {
+            return self.disagree(&format!("written: library {written}, model {model_written}"));
+        }
+        self.same_bytes("room", &room, &model_room)?;
+        self.same_bytes("record", &self.net, &by_model)?;
+        if number == DONE && self.net[COUNT..] != before[COUNT..] {
+            return self.disagree("a byte that ended no frame reached beyond the receiver");
+        }
+        if number == UNDAMAGED || number == DAMAGED {
+            self.note_frame(&before, written);
+            self.outputs_everywhere()?;
+        }
+        Ok(number)
+    }
+
+    fn note_frame(&mut self, before: &[u8], written: usize) {
+        let network = decode(before, Slip::None).expect("a taken record");
+        let (address, code) = (network.receiver.address, network.receiver.command & 15);
+        let mut repliers = 0;
+        for (place, module) in network.modules.iter().enumerate() {
+            if let Some(touch) = network.touch(place, address) {
+                let cause = usize::from(self.net[slot(place) + 5]);
+                self.seen.met[usize::from(code)][cause] += 1;
+                let speaks = touch == crate::model::Touch::Individually || module.station().leader;
+                repliers += usize::from(speaks && !(code == 15 && cause == 0));
+            }
+        }
+        self.seen.repliers[repliers.min(2)] += 1;
+        self.seen.full_rooms += usize::from(written == ROOM_LEN);
+    }
+
+    fn sample(&mut self, place: u32, inputs: u32, ad: [u8; 3], counter: u32) -> Result<u32, String> {
+        self.remember(Event::Sample(place, inputs, ad, counter));
+        self.seen.samples += 1;
+        let mut by_model = self.net.clone();
+        let library = self.library.io_sample(&mut self.net, place, inputs, ad, counter);
+        let model = self.model.io_sample(&mut by_model, place, inputs, ad, counter);
+        let number = self.same_number(library, model)?;
+        self.same_bytes("record", &self.net, &by_model)?;
+        Ok(number)
+    }
+
+    fn tick(&mut self) -> Result<u32, String> {
+        self.remember(Event::Tick);
+        self.seen.ticks += 1;
+        let mut by_model = self.net.clone();
+        let library = self.library.tick(&mut self.net);
+        let model = self.model.tick(&mut by_model);
+        let number = self.same_number(library, model)?;
+        self.same_bytes("record", &self.net, &by_model)?;
+        self.outputs_everywhere()?;
+        Ok(number)
+    }
+
+    fn outputs(&mut self, place: u32) -> Result<u32, String> {
+        let mut outputs = [0xC3; 8];
+        let mut model_outputs = outputs;
+        let library = self.library.outputs(&self.net, place, &mut outputs);
+        let model = self.model.outputs(&self.net, place, &mut model_outputs);
+        let number = self.same_number(library, model)?;
+        self.same_bytes(&format!("outputs of place {place}"), &outputs, &model_outputs)?;
+        Ok(number)
+    }
+
+    /// Every place, and the one beyond the chain.
+    fn outputs_everywhere(&mut self) -> Result<(), String> {
+        if self.net.len() == NET_LEN {
+            for place in 0..=u32::from(self.net[COUNT]) {
+                self.outputs(place)?;
+            }
+        }
+        Ok(())
+    }
+
+    fn write_frame(&mut self, address: u32, code: u32, data: &[u8], room_len: usize) -> Result<(), String> {
+        self.seen.host_calls += 1;
+        let mut room = self.room(room_len);
+        let mut model_room = room.clone();
+        let (mut written, mut model_written) = (self.turn, 0);
+        let library = self.library.write_frame(address, code, data, &mut room, &mut written);
+        let model = self.model.write_frame(address, code, data, &mut model_room, &mut model_written);
+        let asked = format!("writer: address {address}, code {code}, data {data:X?}, room {room_len}");
+        if (library, written) != (model, model_written) {
+            return self.disagree(&format!("{asked}: ({library}, {written}), model ({model}, {model_written})"));
+        }
+        self.seen.numbers[library as usize] += 1;
+        self.same_bytes(&asked, &room, &model_room)
+    }
+
+    fn read_status(&mut self, module_type: u32, items: u8, reply: &[u8]) -> Result<(), String> {
+        self.seen.host_calls += 1;
+        let mut reading = [0x3C; 33];
+        let mut model_reading = [0; 33];
+        let library = self.library.read_status(module_type, items, reply, &mut reading);
+        let model = self.model.read_status(module_type, items, reply, &mut model_reading);
+        let asked = format!("reader: type {module_type}, items {items:02X}, reply {reply:X?}");
+        if library != model {
+            return self.disagree(&format!("{asked}: {library}, model {model}"));
+        }
+        self.seen.numbers[library as usize] += 1;
+        self.same_bytes(&asked, &reading, &model_reading)
+    }
+}
+
+/// Individual and group bytes that meet each other often, and the header among them.
+const INDIVIDUALS: &[u8] = &[0, 1, 2, 3, 4, 0x81, 0x82, HEADER, 0xFF];
+const GROUPS: &[u8] = &[0xFF, 0x7F, 0x81, 0x01, 0x82, 0x02, HEADER, 0x2A, 0x80, 0x00];
+const CODES: &[u8] = &[0, 0, 1, 1, 2, 2, 3, 3, 4, 5, 5, 6, 6, 7, 7, 8, 9, 10, 10, 11, 12, 12, 13, 14, 15];
+const COUNTS: [usize; 16] = [2, 2, 1, 1, 2, 0, 2, 4, 1, 0, 1, 0, 0, 0, 0, 0];
+const EDGES: &[u8] = &[0, 1, 2, 3, 4, 15, 16, 31, 32, 33, 127, 128, HEADER, 255];
+
+fn data_byte(dice: &mut Dice) -> u8 {
+    match dice.below(10) {
+        0 => HEADER,
+        1 => 0,
+        2 => 0xFF,
+        _ => dice.byte(),
+    }
+}
+
+fn individual(dice: &mut Dice) -> u8 {
+    if dice.percent(85) { dice.pick(INDIVIDUALS) } else { dice.byte() }
+}
+
+fn group(dice: &mut Dice) -> u8 {
+    if dice.percent(85) { dice.pick(GROUPS) } else { dice.byte() }
+}
+
+fn chain_length(dice: &mut Dice) -> usize {
+    match dice.below(8) {
+        0 => 1,
+        1 => 32,
+        2 | 3 => 1 + dice.below(MOST_MODULES),
+        _ => 2 + dice.below(4),
+    }
+}
+
+/// A frame that somebody in the network is likely to hear.
+fn frame(dice: &mut Dice, network: &Network) -> (u8, u8, Vec<u8>) {
+    let station = network.modules[dice.below(network.modules.len())].station();
+    let address = match dice.below(20) {
+        0..=8 => station.individual,
+        9..=15 => station.group,
+        16 => 0,
+        17 => 0xFF,
+        _ => dice.byte(),
+    };
+    let code = dice.pick(CODES);
+    let count = if dice.percent(85) { COUNTS[usize::from(code)] } else { dice.below(16) };
+    let mut data: Vec<u8> = (0..count).map(|_| data_byte(dice)).collect();
+    if code == 1 && count >= 2 {
+        data[0] = individual(dice);
+        data[1] = group(dice);
+    }
+    (address, code, data)
+}
+
+/// A record in which every field that the list bounds is within it, and all else is anything.
+fn any_record(dice: &mut Dice) -> Vec<u8> {
+    let mut net = dice.bytes(NET_LEN);
+    let count = chain_length(dice);
+    net[COUNT] = count as u8;
+    if dice.percent(50) {
+        net[..=MARK].fill(0);
+    } else {
+        net[FILL] = 1 + dice.below(3 + usize::from(net[16] >> 4)) as u8;
+        net[MARK] = dice.below(2) as u8;
+    }
+    for place in 0..count {
+        let module = &mut net[slot(place)..slot(place) + IO_LEN];
+        module[0] = 2;
+        module[1] = individual(dice);
+        module[2] = group(dice) | if dice.percent(90) { 0x80 } else { 0 };
+        module[3] = dice.below(2) as u8;
+        module[4] = u8::from(dice.percent(70));
+        module[5] = dice.below(4) as u8;
+        for at in TWELVE_BITS {
+            module[at + 1] &= 0x0F;
+        }
+    }
+    net
+}
+
+fn damaged_record(dice: &mut Dice, net: &[u8]) -> Vec<u8> {
+    let mut damaged = net.to_vec();
+    if dice.percent(5) {
+        damaged.resize(dice.pick(&[0, 1, 20, NET_LEN - 1, NET_LEN + 1, NET_LEN + SLOTS]), 0);
+        return damaged;
+    }
+    for _ in 0..1 + dice.below(2) {
+        let at = match dice.below(10) {
+            0..=2 => dice.below(SLOTS),
+            3..=7 => slot(dice.below(usize::from(net[COUNT]).min(MOST_MODULES))) + dice.below(IO_LEN),
+            _ => dice.below(NET_LEN),
+        };
+        damaged[at] = if dice.percent(60) { dice.pick(EDGES) } else { dice.byte() };
+    }
+    damaged
+}
+
+struct Session<'a> {
+    pair: Pair<'a>,
+    dice: Dice,
+}
+
+impl Session<'_> {
+    fn room_len(&mut self) -> usize {
+        if self.dice.percent(50) { ROOM_LEN } else { ROOM_LEN + self.dice.below(40) }
+    }
+
+    fn line(&mut self, mark: u32, byte: u8) -> Result<(), String> {
+        let room_len = self.room_len();
+        self.pair.byte(mark, byte, room_len)?;
+        Ok(())
+    }
+
+    fn sample(&mut self) -> Result<(), String> {
+        let place = self.dice.below(usize::from(self.pair.net[COUNT])) as u32;
+        let inputs = self.dice.below(4096) as u32;
+        let ad = [self.dice.byte(), self.dice.byte(), self.dice.byte()];
+        let counter = self.dice.next() as u32;
+        self.pair.sample(place, inputs, ad, counter)?;
+        Ok(())
+    }
+
+    fn send(&mut self, bytes: &[u8], marked: Option<usize>) -> Result<(), String> {
+        for (at, byte) in bytes.iter().enumerate() {
+            self.line(u32::from(marked == Some(at)), *byte)?;
+            // the board samples and ticks whenever it likes
+            match self.dice.below(60) {
+                0 => self.sample()?,
+                1 => drop(self.pair.tick()?),
+                _ => {}
+            }
+        }
+        Ok(())
+    }
+
+    fn send_frame(&mut self) -> Result<(), String> {
+        let network = decode(&self.pair.net, Slip::None).expect("a taken record");
+        if network.receiver.fill != 0 && self.dice.percent(70) {
+            self.send(&[0; 16], None)?;
+        }
+        let (address, code, data) = frame(&mut self.dice, &network);
+        let mut bytes = frame_bytes(address, code, &data);
+        let mut marked = None;
+        match self.dice.below(25) {
+            0 | 1 => marked = Some(1 + self.dice.below(bytes.len() - 1)),
+            2 => marked = Some(0),
+            3 => *bytes.last_mut().expect("a frame") ^= 1 + self.dice.below(255) as u8,
+            // a sum that leaves the address or the data out
+            4 => *bytes.last_mut().expect("a frame") = bytes[2].wrapping_add(sum(&data)),
+            5 => drop(bytes.remove(self.dice.below(bytes.len()))),
+            _ => {}
+        }
+        self.send(&bytes, marked)
+    }
+
+    fn address_the_chain(&mut self) -> Result<(), String> {
+        for place in 0..self.pair.net[COUNT] {
+            let own = if self.dice.percent(80) { place + 1 } else { individual(&mut self.dice) };
+            let group = if self.dice.percent(50) { 0xFF } else { group(&mut self.dice) };
+            self.send(&frame_bytes(0, 1, &[own, group]), None)?;
+        }
+        Ok(())
+    }
+
+    /// Calls that are refused, often for two reasons at once.
+    fn refused(&mut self) -> Result<(), String> {
+        let dice = &mut self.dice;
+        let count = u32::from(self.pair.net[COUNT]);
+        let place = dice.pick(&[0, count - 1, count, count + 1, 255, 256, u32::MAX]);
+        let inputs = dice.pick(&[0, 4095, 4096, 0x8000, 0x10000, u32::MAX]);
+        let mark = dice.pick(&[0, 1, 2, 255, 256, u32::MAX]);
+        let room_len = dice.pick(&[0, 1, ROOM_LEN - 1, ROOM_LEN]);
+        let byte = data_byte(dice);
+        match dice.below(3) {
+            0 => self.pair.byte(mark, byte, room_len)?,
+            1 => self.pair.sample(place, inputs, [byte; 3], mark)?,
+            _ => self.pair.outputs(place)?,
+        };
+        Ok(())
+    }
+
+    /// One call upon a damaged copy of the record; where it still passes, some more.
+    fn damaged(&mut self) -> Result<(), String> {
+        let kept = self.pair.net.clone();
+        self.pair.net = damaged_record(&mut self.dice, &kept);
+        self.pair.remember(Event::Record);
+        self.pair.seen.damaged_records += 1;
+        let mark = self.dice.pick(&[0, 0, 0, 1, 2]);
+        let byte = data_byte(&mut self.dice);
+        let room_len = self.dice.pick(&[ROOM_LEN, ROOM_LEN, ROOM_LEN - 1]);
+        match self.dice.below(4) {
+            0 => self.pair.tick()?,
+            1 => {
+                let place = self.dice.below(34) as u32;
+                let inputs = self.dice.pick(&[0, 4095, 4096]);
+                self.pair.sample(place, inputs, [byte; 3], mark)?
+            }
+            2 => {
+                let place = self.dice.below(34) as u32;
+                self.pair.outputs(place)?
+            }
+            _ => self.pair.byte(mark, byte, room_len)?,
+        };
+        if decode(&self.pair.net, Slip::None).is_some() {
+            self.pair.seen.damaged_records_taken += 1;
+            self.send_frame()?;
+        }
+        self.pair.net = kept;
+        self.pair.remember(Event::Record);
+        Ok(())
+    }
+
+    fn host(&mut self) -> Result<(), String> {
+        let dice = &mut self.dice;
+        let address = if dice.percent(90) { u32::from(dice.byte()) } else { dice.pick(&[256, 257, u32::MAX]) };
+        let code = if dice.percent(90) { dice.below(16) as u32 } else { dice.pick(&[16, 255, 256, u32::MAX]) };
+        let data_len = if dice.percent(90) { dice.below(16) } else { dice.pick(&[16, 17, 255, 256]) };
+        let data = dice.bytes(data_len);
+        let room_len = match dice.below(4) {
+            0 => dice.below(20),
+            1 => data_len + 3,
+            _ => data_len + 4 + dice.below(3),
+        };
+        self.pair.write_frame(address, code, &data, room_len)?;
+
+        let dice = &mut self.dice;
+        let module_type = dice.pick(&[0, 0, 0, 2, 2, 2, 1, 3, 255, 256, 258, u32::MAX]);
+        let items = dice.byte();
+        let sizes = item_sizes(module_type).unwrap_or([1; 8]);
+        let mut length = 2 + (0..8).filter(|bit| items >> bit & 1 == 1).map(|bit| sizes[bit]).sum::<usize>();
+        if dice.percent(15) {
+            length = dice.below(24);
+        }
+        let mut reply = dice.bytes(length);
+        if length > 0 && dice.percent(85) {
+            reply[length - 1] = sum(&reply[..length - 1]);
+        }
+        self.pair.read_status(module_type, items, &reply)
+    }
+
+    fn turn(&mut self) -> Result<(), String> {
+        match self.dice.below(100) {
+            0..=69 => self.send_frame(),
+            70..=77 => self.sample(),
+            78..=84 => self.pair.tick().map(drop),
+            85..=87 => {
+                let byte = data_byte(&mut self.dice);
+                let mark = self.dice.below(2) as u32;
+                self.line(mark, byte)
+            }
+            88 => self.send(&[0; 16], None),
+            89..=91 => self.refused(),
+            92..=97 => self.damaged(),
+            _ => self.host(),
+        }
+    }
+
+    fn begin(&mut self) -> Result<(), String> {
+        if self.dice.percent(30) {
+            self.pair.net = any_record(&mut self.dice);
+            self.pair.remember(Event::Record);
+            return Ok(());
+        }
+        self.pair.net = self.dice.bytes(NET_LEN);
+        let bad_chain = self.dice.pick(&[0, 33, 34, 256]);
+        if self.dice.percent(5) {
+            let types = self.dice.bytes(bad_chain);
+            self.pair.setup(&types)?;
+        }
+        let mut types = vec![2; chain_length(&mut self.dice)];
+        if self.dice.percent(10) {
+            let at = self.dice.below(types.len());
+            types[at] = self.dice.pick(&[0, 1, 3, 255]);
+            self.pair.setup(&types)?;
+            types[at] = 2;
+        }
+        self.pair.setup(&types)?;
+        if self.dice.percent(80) {
+            self.address_the_chain()?;
+        }
+        Ok(())
+    }
+}
+
+/// That many sessions from one seed; the first disagreement ends them.
+pub fn run(library: &dyn Calls, slip: Slip, seed: u64, sessions: usize) -> Result<Seen, String> {
+    let mut seen = Seen::default();
+    let junk = Dice::new(seed).bytes(8 * ROOM_LEN);
+    for number in 0..sessions {
+        let mut dice = Dice::new(seed.wrapping_add(number as u64).wrapping_mul(0x2545_F491_4F6C_DD1D));
+        let turns = 10 + dice.below(40);
+        let pair = Pair {
+            library,
+            model: Model { slip },
+            net: Vec::new(),
+            junk: junk.clone(),
+            turn: number,
+            past: VecDeque::new(),
+            seen: &mut seen,
+        };
+        let mut session = Session { pair, dice };
+        let mut all = |session: &mut Session| {
+            session.begin()?;
+            (0..turns).try_for_each(|_| session.turn())
+        };
+        all(&mut session).map_err(|told| format!("session {number}: {told}"))?;
+    }
+    Ok(seen)
+}

@@ -1,0 +1,11 @@
+//! Tests beside the proofs. The model says a second time, in other words and another language, what a network does;
+//! the tests hold the exported calls and the replay program to it and to answers worked out by hand.
+
+pub mod calls;
+pub mod capi;
+pub mod captures;
+pub mod dice;
+pub mod histories;
+pub mod model;
+pub mod record;
+pub mod slips;
