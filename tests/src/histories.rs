@@ -2,10 +2,11 @@
 //! byte for byte: the number, the record, the room with what lies behind the replies, and the length.
 
 use std::collections::VecDeque;
+use std::fmt;
 
 use crate::calls::*;
 use crate::dice::Dice;
-use crate::model::{frame_bytes, item_sizes, sum, Network, HEADER};
+use crate::model::{frame_bytes, item_sizes, sum, Network, Touch, HEADER};
 use crate::record::{decode, slot, Model, COUNT, FILL, IO_LEN, MARK, SLOTS, TWELVE_BITS};
 use crate::slips::Slip;
 
@@ -27,13 +28,26 @@ pub struct Seen {
     pub host_calls: usize,
 }
 
-#[derive(Clone, Debug)]
 enum Event {
     Setup(Vec<u8>),
     Record,
     Byte(u32, u8, usize),
     Sample(u32, u32, [u8; 3], u32),
     Tick,
+}
+
+impl fmt::Display for Event {
+    fn fmt(&self, to: &mut fmt::Formatter) -> fmt::Result {
+        match self {
+            Event::Setup(types) => write!(to, "setup {types:?}"),
+            Event::Record => write!(to, "another record"),
+            Event::Byte(mark, byte, room_len) => write!(to, "byte {byte:02X}, mark {mark}, room {room_len}"),
+            Event::Sample(place, inputs, ad, counter) => {
+                write!(to, "sample at {place}: inputs {inputs:03X}, A/D {ad:02X?}, counter {counter:08X}")
+            }
+            Event::Tick => write!(to, "tick"),
+        }
+    }
 }
 
 /// Library and model over one record.
@@ -60,7 +74,7 @@ fn apart(library: &[u8], model: &[u8]) -> String {
 
 impl Pair<'_> {
     fn disagree<T>(&self, what: &str) -> Result<T, String> {
-        let past: Vec<String> = self.past.iter().map(|event| format!("{event:X?}")).collect();
+        let past: Vec<String> = self.past.iter().map(Event::to_string).collect();
         Err(format!("{what}\nlast events:\n  {}", past.join("\n  ")))
     }
 
@@ -136,7 +150,7 @@ impl Pair<'_> {
             if let Some(touch) = network.touch(place, address) {
                 let cause = usize::from(self.net[slot(place) + 5]);
                 self.seen.met[usize::from(code)][cause] += 1;
-                let speaks = touch == crate::model::Touch::Individually || module.station().leader;
+                let speaks = touch == Touch::Individually || module.station().leader;
                 repliers += usize::from(speaks && !(code == 15 && cause == 0));
             }
         }
@@ -473,7 +487,20 @@ impl Session<'_> {
         }
     }
 
+    /// 32 leaders of one group with every item defined: a group frame fills the room to its last byte.
+    fn all_lead(&mut self) -> Result<(), String> {
+        self.pair.net = self.dice.bytes(NET_LEN);
+        self.pair.setup(&[2; MOST_MODULES])?;
+        for place in 0..MOST_MODULES as u8 {
+            self.send(&frame_bytes(0, 1, &[place + 1, 0x7F]), None)?;
+        }
+        self.send(&frame_bytes(0xFF, 2, &[0xFF]), None)
+    }
+
     fn begin(&mut self) -> Result<(), String> {
+        if self.dice.percent(2) {
+            return self.all_lead();
+        }
         if self.dice.percent(30) {
             self.pair.net = any_record(&mut self.dice);
             self.pair.remember(Event::Record);
@@ -517,7 +544,7 @@ pub fn run(library: &dyn Calls, slip: Slip, seed: u64, sessions: usize) -> Resul
             seen: &mut seen,
         };
         let mut session = Session { pair, dice };
-        let mut all = |session: &mut Session| {
+        let all = |session: &mut Session| {
             session.begin()?;
             (0..turns).try_for_each(|_| session.turn())
         };

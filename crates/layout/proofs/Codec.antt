@@ -3,12 +3,11 @@
 use mathlib.Core.Path.{_≡_, refl, sym, ap, ap₂, _∙_, subst⁻¹}
 use mathlib.Core.List.{List, [], _∷_, _++_, append-assoc}
 use mathlib.Core.Bool.{Bool, true, false}
-use Prim.Native.Nat.{ℕ, zero, suc, _+_, _*_, _/_, _%_, _^_, _<_, _≤_}
-use native.Mathlib.Nat.{add-zero, zero-add, suc-add}
+use Prim.Native.Nat.{ℕ, zero, suc, _+_, _/_, _%_, _^_, _<_, _≤_}
 use native.Mathlib.Omega.{arith}
-use lib.ListN.{length, getD, take, drop, length-append}
-use lib.Seq.{getD-append-seam, drop-append-seam, take-append-seam, take-all, append-snoc}
-use lib.Dec.{leb, eqb}
+use lib.ListN.{length, getD, take, length-append}
+use lib.Seq.{getD-append-seam, take-all, append-snoc}
+use lib.Dec.{eqb}
 use borrow.Author.Tests.{leb-true, le-leb, eqb-true, eq-eqb}
 use Rattle.layout.specs.Bytes.{le, ofLe, readAt, Bytes}
 use Rattle.layout.specs.Codec.{Codec, byte, stamp, raw, number, capped, topped, oneOf, bit, flag, _then_, shaped, okIn}

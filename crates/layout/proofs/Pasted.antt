@@ -1,12 +1,12 @@
 -- Bytes put into a list: what stands there then. Assumes nothing.
-use mathlib.Core.Path.{_≡_, refl, sym, ap, _∙_}
+use mathlib.Core.Path.{_≡_, sym, ap, _∙_}
 use mathlib.Core.List.{List, [], _∷_, _++_, append-assoc}
 use Prim.Native.Nat.{ℕ, zero, suc, _+_, _-_, _/_, _%_, _<_, _≤_}
 use native.Mathlib.Nat.{zero-add}
 use native.Mathlib.Numerals.{add-one}
 use native.Mathlib.Omega.{arith}
 use lib.ListN.{length, take, drop, set, length-append, length-drop, take-append-drop}
-use lib.Seq.{paste, paste-zero, take-paste, drop-paste, drop-drop, take-length, length-paste, set-split, take-append-seam, drop-at, length-take-le, append-snoc, take-at, drop-append-add, drop-append-le}
+use lib.Seq.{paste-zero, take-paste, drop-paste, drop-drop, take-length, length-paste, set-split, take-append-seam, drop-at, length-take-le, append-snoc, take-at, drop-append-add, drop-append-le}
 use Rattle.layout.specs.Bytes.{le, pasted, Bytes}
 use Rattle.layout.proofs.Laws.{length-le, bytes-append, bytes-drop}
 

@@ -1,6 +1,6 @@
 -- Numbers as bytes, least significant first (document 01, "Who is touched", last sentence), and bytes put into a list.
 use Prim.Native.Nat.{ℕ, zero, suc, _+_, _*_, _/_, _%_, _<_}
-use mathlib.Core.List.{List, [], _∷_, _++_}
+use mathlib.Core.List.{List, [], _∷_}
 use lib.ListN.{getD, length}
 use lib.Seq.{paste}
 

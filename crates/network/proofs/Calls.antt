@@ -1,12 +1,11 @@
 -- What the calls on a valid record give, put together. Assumes nothing.
-use mathlib.Core.Path.{_≡_, refl, sym, ap, ap₂, _∙_}
+use mathlib.Core.Path.{_≡_, sym, ap, ap₂, _∙_}
 use mathlib.Core.List.{List, [], _∷_, _++_, map}
-use mathlib.Core.Bool.{Bool, true, false}
-use mathlib.Core.Option.{Option, some, none}
+use mathlib.Core.Bool.{Bool, true}
 use Prim.Native.Nat.{ℕ, _+_, _*_, _-_, _<_, _≤_}
 use native.Mathlib.Nat.{add-zero}
 use native.Mathlib.Omega.{arith}
-use lib.ListN.{length, getD, take, drop, getElem?, replicate, length-map}
+use lib.ListN.{length, getD, take, drop, replicate, length-map}
 use Rattle.layout.specs.Bytes.{pasted, Bytes}
 use lib.Seq.{getD-append-add, getD-drop}
 use Rattle.layout.proofs.Pasted.{pasted-none, pasted-start, length-pasted}
@@ -16,7 +15,7 @@ use Rattle.line.specs.declared.Answer.{Answer}
 use Rattle.line.specs.declared.Answer.the-variants.{Ended, Nothing}
 use Rattle.line.specs.Receive.{idle, taken, numberOf}
 use Rattle.line.specs.Frames.{Byte, Frame, frameIn}
-use Rattle.chain.specs.Chain.{Net, Reply, Step, join, flat, said, handed, repliesFrom, frameStep, byteStep}
+use Rattle.chain.specs.Chain.{Net, Step, join, flat, said, repliesFrom, byteStep}
 use Rattle.chain.specs.Slots.{slotSize}
 use Rattle.chain.proofs.Bytes.{step-on, step-end}
 use Rattle.chain.proofs.Replies.{flat-join}
@@ -24,8 +23,8 @@ use Rattle.modules.specs.Types.{kind, slots, powered, outputs, Module, AnySampl
 use Rattle.modules.proofs.Laws.{lawful}
 use Rattle.network.specs.declared.Called.{Called}
 use Rattle.network.specs.Record.{countAt, slotsAt, recordSize, receiverIn, receiverBytes, netIn, stored, putModules, valid}
-use Rattle.network.specs.Walk.{moduleAt, walked, speech, changedAt, noted}
-use Rattle.network.specs.Calls.{setUp, fresh, sampleStep, spokenTo, calledBy, endedOf, outputsIn, outputsAt}
+use Rattle.network.specs.Walk.{moduleAt, walked, speech, noted}
+use Rattle.network.specs.Calls.{fresh, sampleStep, spokenTo, calledBy, endedOf, outputsIn, outputsAt}
 use Rattle.network.proofs.Valid.{valid-is}
 use Rattle.network.proofs.Head.{length-receiver}
 use Rattle.network.proofs.Exact.{waits, walked-is, speech-is, changed-is, module-at, length-modules}

@@ -1,15 +1,14 @@
 -- What the calls on a network mean, before their refusals (document 01, "What the boards do", "Numbers given back").
-use Prim.Native.Nat.{ℕ, zero, suc}
+use Prim.Native.Nat.{ℕ}
 use mathlib.Core.List.{List, [], _∷_, map}
 use mathlib.Core.Bool.{Bool, true, _&&_}
 use mathlib.Core.Option.{Option, some, none}
 use lib.ListN.{length, replicate, getElem?}
 use Rattle.line.specs.declared.Received.{Received}
-use Rattle.line.specs.declared.Answer.{Answer}
 use Rattle.line.specs.declared.Answer.the-variants.{Ended, Nothing}
 use Rattle.line.specs.Receive.{idle, taken, numberOf}
 use Rattle.line.specs.Frames.{Byte, Frame, frameIn}
-use Rattle.chain.specs.Chain.{Kind, Net, Step, join, flat, said, byteStep}
+use Rattle.chain.specs.Chain.{Kind, Net, join, flat, said, byteStep}
 use Rattle.modules.specs.Types.{Module, AnySample, kind, slots, known, powered, outputs}
 use Rattle.network.specs.declared.Called.{Called}
 use Rattle.network.specs.declared.Turn.{Turn}

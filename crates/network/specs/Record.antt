@@ -1,14 +1,13 @@
 -- The lent record of 4,116 bytes: the receiver's 19, the number of modules, and 32 slots.
-use mathlib.Core.Path.{_≡_, refl}
-use Prim.Native.Nat.{ℕ, zero, suc, _+_, _*_, _/_, _<_, _≤_}
+use mathlib.Core.Path.{refl}
+use Prim.Native.Nat.{ℕ, zero, suc, _+_, _/_}
 use mathlib.Core.List.{List, [], _∷_, _++_}
 use mathlib.Core.Bool.{Bool, true, false, cond, _&&_}
-use lib.ListN.{length, getD, take, drop, replicate}
+use lib.ListN.{length, getD, take, drop}
 use lib.Dec.{eqb, leb}
 use Rattle.layout.specs.Bytes.{pasted, readAt}
 use Rattle.layout.proofs.Shape.{Shape, byte, raw, flag, _then_, shaped}
 use Rattle.line.specs.declared.Receiver.{Receiver}
-use Rattle.line.specs.Receive.{idle}
 use Rattle.chain.specs.Chain.{Net}
 use Rattle.chain.specs.Slots.{Slots, slotSize}
 

@@ -1,6 +1,6 @@
 -- `layout::put_number` meets its contract. The invariant: what is left of the number, put where the loop is, gives the whole. Assumes nothing.
 use mathlib.Core.Path.{_≡_, refl, sym, _∙_}
-use Prim.Native.Nat.{ℕ, _+_}
+use Prim.Native.Nat.{_+_}
 use native.Mathlib.Omega.{arith}
 use lib.ListN.{length, length-set}
 use Rattle.layout.specs.Bytes.{le, pasted}

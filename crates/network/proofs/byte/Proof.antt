@@ -1,3 +1,4 @@
+-- `network::byte` meets its contract. Assumes nothing.
 use Rattle.network.proofs.Calls.{nothing-is, ended-is, sized}
 use Rattle.network.proofs.Valid.{Valid, valid-is}
 use Rattle.network.proofs.Head.{length-receiver}
@@ -7,17 +8,10 @@ use Rattle.modules.specs.Types.{slots}
 use Rattle.line.specs.declared.Receiver.{Receiver}
 use lib.ListN.{length}
 use native.Mathlib.Omega.{arith}
-use mathlib.Core.Path.{_≡_, refl, ap, _∙_}
+use mathlib.Core.Path.{ap}
 use borrow.Author.Needs.{needs}
 use Rattle.network.proofs.byte.Statement.{statement}
 use Rattle.network.proofs.byte.Tie as tie
-use Rattle.network.proofs.byte.Reads as reads
-use Rattle.network.proofs.byte.Lts as lts
-use Rattle.layout.proofs.put_all.Reads as put-all-reads
-use Rattle.line.proofs.Receiver.take.Reads as take-reads
-use Rattle.network.proofs.hand_on.Reads as hand-on-reads
-use Rattle.network.proofs.receiver_bytes.Reads as receiver-bytes-reads
-use Rattle.network.proofs.receiver_in.Reads as receiver-in-reads
 
 known : (c : tie.Start) → Valid slots (c .args .net .now)
 known c = valid-is slots (c .args .net .now) (c .pre .0)
@@ -25,26 +19,8 @@ known c = valid-is slots (c .args .net .now) (c .pre .0)
 receiver-in-requires : tie.Need-receiver-in-requires
 receiver-in-requires c κs = omega (arith, known (c .before .before .before))
 
-take-requires : tie.Need-take-requires
-take-requires c κs = search needs
-
-receiver-bytes-requires : tie.Need-receiver-bytes-requires
-receiver-bytes-requires c κs = search needs
-
-slice-aggregate-put-all : tie.Need-slice-aggregate-put-all
-slice-aggregate-put-all c = search needs
-
 put-all-requires : tie.Need-put-all-requires
 put-all-requires c κs = let s = c .before .before .before .before .before .before .before .before .before in rw (c .before .before .receiver-bytes .ensures, length-receiver) (omega (arith, known s))
-
-enum-known-answer : tie.Need-enum-known-answer
-enum-known-answer c = search needs
-
-enum-told : tie.Need-enum-told
-enum-told c = search needs
-
-same-length : tie.Need-same-length
-same-length c = search needs
 
 returns : tie.Need-returns
 returns c =
@@ -62,12 +38,6 @@ hand-on-requires c κs =
     let z = sized (a .args .net .now) (λ i. omega (arith, k .slice-known .given i)) (a .pre .0) (a .args .room .now) (byteOf (a .args .value) (a .args .mark)) (p .before .before .before .before .before .before .receiver-in .ensures) (p .before .before .before .before .before .take .ensures) (p .before .before .before .receiver-bytes .ensures) (p .put-all .ensures) in
     (z .0, z .1, a .pre .1, ap (λ (r : Receiver). length (r .bytes)) (p .before .before .before .before .before .before .receiver-in .ensures))
 
-same-length-2 : tie.Need-same-length-2
-same-length-2 c = search needs
-
-same-length-3 : tie.Need-same-length-3
-same-length-3 c = search needs
-
 returns-2 : tie.Need-returns-2
 returns-2 c =
     let p = c .before .before .before .before .before .before .before .before .before .before .before .before in
@@ -80,15 +50,15 @@ byte-spec =
     tie.close
     (tie.spec
     receiver-in-requires
-    take-requires
-    receiver-bytes-requires
-    slice-aggregate-put-all
+    (λ c κs. search needs)
+    (λ c κs. search needs)
+    (λ c. search needs)
     put-all-requires
-    enum-known-answer
-    enum-told
-    same-length
+    (λ c. search needs)
+    (λ c. search needs)
+    (λ c. search needs)
     returns
     hand-on-requires
-    same-length-2
-    same-length-3
+    (λ c. search needs)
+    (λ c. search needs)
     returns-2)

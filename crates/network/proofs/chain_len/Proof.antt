@@ -1,3 +1,4 @@
+-- `network::chain_len` meets its contract. Assumes nothing.
 use Rattle.network.proofs.Exact.{length-modules}
 use Rattle.network.proofs.Valid.{valid-is}
 use Rattle.modules.specs.Types.{slots}
@@ -5,8 +6,6 @@ use native.Mathlib.Omega.{arith}
 use mathlib.Core.Path.{sym}
 use Rattle.network.proofs.chain_len.Statement.{statement}
 use Rattle.network.proofs.chain_len.Tie as tie
-use Rattle.network.proofs.chain_len.Reads as reads
-use Rattle.network.proofs.chain_len.Lts as lts
 
 shared-slice-read-result : tie.Need-shared-slice-read-result
 shared-slice-read-result c = let w = valid-is slots (c .before .args .net .now) (c .before .pre) in omega (arith, w .size)

@@ -1,11 +1,11 @@
 -- `network::is_each_ok` meets its contract. The invariant: what the slots left say is what they all say. Assumes nothing.
-use mathlib.Core.Path.{_≡_, refl, sym, ap, _∙_}
-use mathlib.Core.Bool.{true, _&&_}
-use Prim.Native.Nat.{ℕ, _+_, _*_, _-_, _≤_}
+use mathlib.Core.Path.{_≡_, refl, sym, _∙_}
+use mathlib.Core.Bool.{_&&_}
+use Prim.Native.Nat.{_+_, _*_, _-_}
 use native.Mathlib.Omega.{arith}
 use borrow.Author.Needs.{needs}
 use borrow.Author.Tests.{not-true, not-false}
-use lib.ListN.{length, drop}
+use lib.ListN.{drop}
 use Rattle.modules.specs.Types.{slots}
 use Rattle.network.specs.Record.{okSlots, slotsAt}
 use Rattle.network.proofs.Tests.{slots-turn, slots-done}

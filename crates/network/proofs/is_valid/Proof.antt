@@ -1,3 +1,4 @@
+-- `network::is_valid` meets its contract. Assumes nothing.
 use mathlib.Core.Path.{_≡_}
 use lib.ListN.{getD}
 use lib.Dec.{leb}
@@ -9,20 +10,10 @@ use native.Mathlib.Omega.{arith}
 use borrow.Author.Needs.{needs}
 use Rattle.network.proofs.is_valid.Statement.{statement}
 use Rattle.network.proofs.is_valid.Tie as tie
-use Rattle.network.proofs.is_valid.Reads as reads
-use Rattle.network.proofs.is_valid.Lts as lts
-use Rattle.network.proofs.is_each_ok.Reads as is-each-ok-reads
-use Rattle.network.proofs.is_receiver_ok.Reads as is-receiver-ok-reads
 
 returns : tie.Need-returns
 unfolding valid
 returns c = rw (ne-eqb _ _ (c .if1 .taken))
-
-shared-slice-read-n : tie.Need-shared-slice-read-n
-shared-slice-read-n c = search needs
-
-is-receiver-ok-requires : tie.Need-is-receiver-ok-requires
-is-receiver-ok-requires c κs = search needs
 
 cast-is-each-ok : tie.Need-cast-is-each-ok
 cast-is-each-ok c = omega (arith, c .before .before .shared-slice-known2 .given 19)
@@ -43,8 +34,8 @@ is-valid-spec =
     tie.close
     (tie.spec
     returns
-    shared-slice-read-n
-    is-receiver-ok-requires
+    (λ c. search needs)
+    (λ c κs. search needs)
     cast-is-each-ok
     is-each-ok-requires
     returns-2

@@ -1,11 +1,9 @@
-use Rattle.network.proofs.Calls.{Placed, placed, outputs-is, sample-is}
+-- `network::outputs` meets its contract. Assumes nothing.
+use Rattle.network.proofs.Calls.{Placed, placed, outputs-is}
 use native.Mathlib.Omega.{arith}
 use borrow.Author.Needs.{needs}
 use Rattle.network.proofs.outputs.Statement.{statement}
 use Rattle.network.proofs.outputs.Tie as tie
-use Rattle.network.proofs.outputs.Reads as reads
-use Rattle.network.proofs.outputs.Lts as lts
-use Rattle.modules.proofs.outputs.Reads as outputs-reads
 
 within : (c : tie.Start) → Placed (c .args .net .now) (c .args .place)
 within c = placed (c .args .net .now) (c .args .place) (c .pre .0) (c .pre .1)
@@ -19,17 +17,8 @@ add-at c = omega (arith, within (c .before))
 add-end : tie.Need-add-end
 add-end c = omega (arith, within (c .before))
 
-sub-outputs : tie.Need-sub-outputs
-sub-outputs c = search needs
-
-part-outputs-start : tie.Need-part-outputs-start
-part-outputs-start c = search needs
-
 part-outputs-end : tie.Need-part-outputs-end
 part-outputs-end c = omega (arith, within (c .before))
-
-outputs-requires : tie.Need-outputs-requires
-outputs-requires c κs = search needs
 
 returns : tie.Need-returns
 returns c = let s = c .before .before .before in outputs-is (s .args .net .now) (λ i. omega (arith, c .before .before .shared-slice-known .given i)) (s .pre .0) (s .args .place) (within s .below) (c .outputs .ensures)
@@ -41,8 +30,8 @@ outputs-spec =
     mul-at
     add-at
     add-end
-    sub-outputs
-    part-outputs-start
+    (λ c. search needs)
+    (λ c. search needs)
     part-outputs-end
-    outputs-requires
+    (λ c κs. search needs)
     returns)

@@ -1,11 +1,9 @@
-use Rattle.network.proofs.Calls.{Placed, placed, outputs-is, sample-is}
+-- `network::put_io_sample` meets its contract. Assumes nothing.
+use Rattle.network.proofs.Calls.{Placed, placed, sample-is}
 use native.Mathlib.Omega.{arith}
 use borrow.Author.Needs.{needs}
 use Rattle.network.proofs.put_io_sample.Statement.{statement}
 use Rattle.network.proofs.put_io_sample.Tie as tie
-use Rattle.network.proofs.put_io_sample.Reads as reads
-use Rattle.network.proofs.put_io_sample.Lts as lts
-use Rattle.modules.proofs.put_io_sample.Reads as put-io-sample-reads
 
 within : (c : tie.Start) → Placed (c .args .net .now) (c .args .place)
 within c = placed (c .args .net .now) (c .args .place) (c .pre .0) (c .pre .1)
@@ -19,20 +17,8 @@ add-at c = omega (arith, within (c .before))
 add-end : tie.Need-add-end
 add-end c = omega (arith, within (c .before))
 
-sub-put-io-sample : tie.Need-sub-put-io-sample
-sub-put-io-sample c = search needs
-
-part-put-io-sample-start : tie.Need-part-put-io-sample-start
-part-put-io-sample-start c = search needs
-
 part-put-io-sample-end : tie.Need-part-put-io-sample-end
 part-put-io-sample-end c = omega (arith, within (c .before))
-
-put-io-sample-requires : tie.Need-put-io-sample-requires
-put-io-sample-requires c κs = search needs
-
-same-length : tie.Need-same-length
-same-length c = search needs
 
 returns : tie.Need-returns
 returns c = let s = c .before .before .before .before .before in sample-is (s .args .net .now) (λ i. omega (arith, c .before .before .before .before .slice-known .given i)) (s .pre .0) (s .args .place) (s .args .x) (within s .below) (omega (arith, within s)) (c .before .before .put-io-sample .ensures)
@@ -44,9 +30,9 @@ put-io-sample-spec =
     mul-at
     add-at
     add-end
-    sub-put-io-sample
-    part-put-io-sample-start
+    (λ c. search needs)
+    (λ c. search needs)
     part-put-io-sample-end
-    put-io-sample-requires
-    same-length
+    (λ c κs. search needs)
+    (λ c. search needs)
     returns)

@@ -1,3 +1,4 @@
+-- `network::tick` meets its contract. Assumes nothing.
 use Rattle.network.proofs.Exact.{ticked-is}
 use Rattle.network.proofs.Valid.{Valid, valid-is}
 use Rattle.modules.proofs.Laws.{lawful}
@@ -7,9 +8,6 @@ use mathlib.Core.Path.{_∙_}
 use borrow.Author.Needs.{needs}
 use Rattle.network.proofs.tick.Statement.{statement}
 use Rattle.network.proofs.tick.Tie as tie
-use Rattle.network.proofs.tick.Reads as reads
-use Rattle.network.proofs.tick.Lts as lts
-use Rattle.network.proofs.tick_each.Reads as tick-each-reads
 
 known : (c : tie.Start) → Valid slots (c .args .net .now)
 known c = valid-is slots (c .args .net .now) (c .pre)
@@ -23,11 +21,8 @@ cast-tick-each c = omega (arith, known (c .before .before .before))
 tick-each-requires : tie.Need-tick-each-requires
 tick-each-requires c κs = omega (arith, known (c .before .before .before))
 
-same-length : tie.Need-same-length
-same-length c = search needs
-
 returns : tie.Need-returns
 returns c = let s = c .before .before .before .before .before .before in c .before .before .tick-each .ensures ∙ ticked-is kind lawful (s .args .net .now) (λ i. omega (arith, c .before .before .before .before .before .slice-known .given i)) (s .pre)
 
 pub tick-spec : {M : Type 1} → statement M
-tick-spec = tie.close (tie.spec slice-read-n cast-tick-each tick-each-requires same-length returns)
+tick-spec = tie.close (tie.spec slice-read-n cast-tick-each tick-each-requires (λ c. search needs) returns)

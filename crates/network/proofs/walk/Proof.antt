@@ -1,17 +1,15 @@
 -- `network::walk` meets its contract. The invariant: the rest of the walk, from the record as it is, gives the whole. Assumes nothing.
-use mathlib.Core.Path.{_≡_, refl, sym, ap, ap₂, _∙_}
+use mathlib.Core.Path.{_≡_, refl, ap, ap₂, _∙_}
 use mathlib.Core.List.{List}
 use mathlib.Core.Bool.{true}
-use Prim.Native.Nat.{ℕ, _+_, _*_, _-_, _≤_}
+use Prim.Native.Nat.{ℕ, _+_, _*_, _≤_}
 use native.Mathlib.Omega.{arith}
-use borrow.Author.Needs.{needs}
 use lib.ListN.{length, replicate}
 use Rattle.layout.specs.Bytes.{pasted}
 use Rattle.station.specs.Touch.{frameOf}
 use Rattle.chain.specs.Chain.{join}
 use Rattle.modules.specs.Types.{kind, slots}
 use Rattle.network.specs.declared.Turn.{Turn}
-use Rattle.network.specs.declared.Walked.{Walked}
 use Rattle.network.specs.Walk.{walked, speech, noted, wordsAt}
 use Rattle.network.specs.Calls.{turnOf, walkOf}
 use Rattle.network.proofs.Rounds.{Round, round, done, word-short}
@@ -51,9 +49,6 @@ module _ (c : lts.After-take-turn (take-turn-reads.Asked, take-turn-reads.Learnt
       let l = c .before .before .before .before .loop in
       omega (arith, said-is, word-short (frameOf (a .f) (a .ds .now)) (l .enabled) (l .at) (l .net))
 
-take-turn-requires : tie.Need-take-turn-requires Inv-loop μ-loop
-take-turn-requires c κs = omega arith
-
 cast-lengths : tie.Need-cast-lengths Inv-loop μ-loop
 cast-lengths c = let z = said-small (c .before .before .before .before .before) in omega arith
 
@@ -68,12 +63,6 @@ add-at c = omega (arith, c .before .before .before .before .before .before .befo
 
 add-place : tie.Need-add-place Inv-loop μ-loop
 add-place c = omega (arith, c .before .before .before .before .before .before .before .before .before .before .loop .inv, c .before .before .before .before .before .before .before .before .before .before .before .before .before .before .pre)
-
-sub-left : tie.Need-sub-left Inv-loop μ-loop
-sub-left c = omega arith
-
-loop-less : tie.Need-loop-less Inv-loop μ-loop
-loop-less c = omega arith
 
 loop-again : tie.Need-loop-again Inv-loop μ-loop
 unfolding turnOf
@@ -97,12 +86,6 @@ loop-again c =
       rw (e .0, e .1 .0) (r .each ∙ l .inv .8),
     )
 
-same-length : tie.Need-same-length Inv-loop μ-loop
-same-length c = omega arith
-
-same-length-2 : tie.Need-same-length-2 Inv-loop μ-loop
-same-length-2 c = omega arith
-
 returns : tie.Need-returns Inv-loop μ-loop
 unfolding walkOf
 returns c =
@@ -118,15 +101,15 @@ walk-spec =
     Inv-loop
     μ-loop
     loop-holds
-    take-turn-requires
+    (λ c κs. omega arith)
     cast-lengths
     array-write-lengths
     add-written
     add-at
     add-place
-    sub-left
-    loop-less
+    (λ c. omega arith)
+    (λ c. omega arith)
     loop-again
-    same-length
-    same-length-2
+    (λ c. omega arith)
+    (λ c. omega arith)
     returns)

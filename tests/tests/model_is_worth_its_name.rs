@@ -1,0 +1,150 @@
+//! The differential run can fail: each wrong rule in the model, and each spoiled answer of the library, ends it.
+
+use doljurven_tests::calls::*;
+use doljurven_tests::capi::Library;
+use doljurven_tests::histories;
+use doljurven_tests::slips::{Slip, ALL};
+
+const SEED: u64 = 0x0511_0000;
+const SESSIONS: usize = 600;
+
+#[test]
+fn without_a_slip_the_short_run_passes() {
+    histories::run(&Library, Slip::None, SEED, SESSIONS).unwrap_or_else(|told| panic!("{told}"));
+}
+
+#[test]
+fn every_slip_is_noticed() {
+    assert!(ALL.len() >= 12);
+    let mut missed = Vec::new();
+    for (slip, words) in ALL {
+        match histories::run(&Library, *slip, SEED, SESSIONS) {
+            Err(told) => println!("{slip:?} ({words}): {}", told.lines().next().unwrap_or("")),
+            Ok(_) => missed.push(words),
+        }
+    }
+    assert!(missed.is_empty(), "nobody noticed that {missed:?}");
+}
+
+/// The library with one thing done to its answers.
+struct Spoiled(Spoil);
+
+#[derive(Clone, Copy, Debug, PartialEq)]
+enum Spoil {
+    Nothing,
+    RoomBehindReplies,
+    OneByteMoreReported,
+    LastReplyByte,
+    PlaceBeyondChain,
+    UnusedByteOfSlot,
+    ModuleAtTakenByte,
+    RefusedLength,
+    RefusedRoom,
+    RefusedRecord,
+    RefusedSampleStored,
+    SetupLeavesUnusedBytes,
+    OutputsOfPlaceZero,
+    OutputsWhenRefused,
+    ReadingWhenRefused,
+    WriterBehindFrame,
+}
+
+const SPOILS: [Spoil; 15] = [
+    Spoil::RoomBehindReplies,
+    Spoil::OneByteMoreReported,
+    Spoil::LastReplyByte,
+    Spoil::PlaceBeyondChain,
+    Spoil::UnusedByteOfSlot,
+    Spoil::ModuleAtTakenByte,
+    Spoil::RefusedLength,
+    Spoil::RefusedRoom,
+    Spoil::RefusedRecord,
+    Spoil::RefusedSampleStored,
+    Spoil::SetupLeavesUnusedBytes,
+    Spoil::OutputsOfPlaceZero,
+    Spoil::OutputsWhenRefused,
+    Spoil::ReadingWhenRefused,
+    Spoil::WriterBehindFrame,
+];
+
+/// Beyond what an I/O module uses of slot 0.
+const UNUSED: usize = 20 + 100;
+const LAST: usize = NET_LEN - 1;
+
+impl Calls for Spoiled {
+    fn setup(&self, net: &mut [u8], types: &[u8]) -> u32 {
+        let before = net.to_vec();
+        let number = Library.setup(net, types);
+        if number == DONE && self.0 == Spoil::SetupLeavesUnusedBytes {
+            net[UNUSED] = before[UNUSED];
+        }
+        number
+    }
+
+    fn byte(&self, net: &mut [u8], mark: u32, byte: u8, room: &mut [u8], written: &mut usize) -> u32 {
+        let number = Library.byte(net, mark, byte, room, written);
+        let ended = number == UNDAMAGED || number == DAMAGED;
+        match self.0 {
+            Spoil::RoomBehindReplies if ended && *written < room.len() => room[*written] ^= 1,
+            Spoil::OneByteMoreReported if ended => *written += 1,
+            Spoil::LastReplyByte if ended && *written > 0 => room[*written - 1] ^= 1,
+            Spoil::PlaceBeyondChain if ended && net[19] < 32 => net[LAST] ^= 1,
+            Spoil::UnusedByteOfSlot if ended => net[UNUSED] ^= 1,
+            Spoil::ModuleAtTakenByte if number == DONE => net[26] ^= 1,
+            Spoil::RefusedLength if number > DAMAGED => *written = 1,
+            Spoil::RefusedRoom if number > DAMAGED && !room.is_empty() => room[0] ^= 1,
+            Spoil::RefusedRecord if number == SHORT_ROOM => net[0] ^= 1,
+            _ => {}
+        }
+        number
+    }
+
+    fn io_sample(&self, net: &mut [u8], place: u32, inputs: u32, ad: [u8; 3], counter: u32) -> u32 {
+        let number = Library.io_sample(net, place, inputs, ad, counter);
+        if number == BAD_FIELD && self.0 == Spoil::RefusedSampleStored {
+            net[20 + 10] ^= 1;
+        }
+        number
+    }
+
+    fn tick(&self, net: &mut [u8]) -> u32 {
+        Library.tick(net)
+    }
+
+    fn outputs(&self, net: &[u8], place: u32, outputs: &mut [u8; 8]) -> u32 {
+        let number = Library.outputs(net, place, outputs);
+        match self.0 {
+            Spoil::OutputsOfPlaceZero if number == DONE => Library.outputs(net, 0, outputs),
+            Spoil::OutputsWhenRefused if number != DONE => {
+                *outputs = [0; 8];
+                number
+            }
+            _ => number,
+        }
+    }
+
+    fn write_frame(&self, address: u32, code: u32, data: &[u8], room: &mut [u8], written: &mut usize) -> u32 {
+        let number = Library.write_frame(address, code, data, room, written);
+        if self.0 == Spoil::WriterBehindFrame && *written < room.len() {
+            room[*written] ^= 1;
+        }
+        number
+    }
+
+    fn read_status(&self, module_type: u32, items: u8, reply: &[u8], reading: &mut [u8; 33]) -> u32 {
+        let number = Library.read_status(module_type, items, reply, reading);
+        if number != DONE && self.0 == Spoil::ReadingWhenRefused {
+            reading[32] = 1;
+        }
+        number
+    }
+}
+
+#[test]
+fn every_spoiled_answer_is_noticed() {
+    histories::run(&Spoiled(Spoil::Nothing), Slip::None, SEED, SESSIONS).unwrap_or_else(|told| panic!("{told}"));
+    for spoil in SPOILS {
+        let run = histories::run(&Spoiled(spoil), Slip::None, SEED, SESSIONS);
+        assert!(run.is_err(), "nobody noticed {spoil:?}");
+    }
+}

@@ -1,0 +1,162 @@
+//! The replay program, the captures that ship with the project, and the model's replay.
+
+use doljurven_tests::captures::{self, Capture};
+use doljurven_tests::dice::Dice;
+use doljurven_tests::model::{self, frame_bytes};
+use std::ffi::OsString;
+use std::io::Write;
+use std::path::{Path, PathBuf};
+use std::process::{Command, Stdio};
+use std::{env, fs};
+
+fn program() -> OsString {
+    let built = || Path::new(env!("CARGO_MANIFEST_DIR")).join("../target/bin/replay").into_os_string();
+    let program = env::var_os("DOLJURVEN_REPLAY").unwrap_or_else(built);
+    assert!(Path::new(&program).exists(), "{} is not there: run `rt check replay` first", program.to_string_lossy());
+    program
+}
+
+fn printed(command: &mut Command) -> String {
+    let output = command.output().expect("the replay program runs");
+    assert!(output.stderr.is_empty(), "{}", String::from_utf8_lossy(&output.stderr));
+    String::from_utf8(output.stdout).expect("plain text")
+}
+
+fn replay_of_file(path: &Path) -> String {
+    printed(Command::new(program()).arg(path))
+}
+
+fn replay_of_standard_input(bytes: &[u8]) -> String {
+    let mut child = Command::new(program())
+        .stdin(Stdio::piped())
+        .stdout(Stdio::piped())
+        .spawn()
+        .expect("the replay program runs");
+    let mut input = child.stdin.take().expect("a pipe");
+    let bytes = bytes.to_vec();
+    // a bad record ends the program before it has read all; what it left in the pipe is no fault
+    let writer = std::thread::spawn(move || drop(input.write_all(&bytes)));
+    let output = child.wait_with_output().expect("the replay program ends");
+    writer.join().expect("the writer ends");
+    String::from_utf8(output.stdout).expect("plain text")
+}
+
+fn all_captures() -> Vec<(PathBuf, Capture)> {
+    let texts = captures::with_extension("txt");
+    assert!(texts.len() >= 30, "only {} captures found", texts.len());
+    let parsed = texts.into_iter().map(|path| {
+        let text = fs::read_to_string(&path).expect("a readable text");
+        let capture = captures::parse(&text).unwrap_or_else(|told| panic!("{}: {told}", path.display()));
+        (path, capture)
+    });
+    parsed.collect()
+}
+
+#[test]
+fn captures_are_what_their_texts_say() {
+    for (path, capture) in all_captures() {
+        let bytes = fs::read(path.with_extension("nmc")).expect("an .nmc beside each .txt");
+        assert_eq!(bytes, capture.bytes, "{}", path.display());
+        let printed = fs::read_to_string(path.with_extension("out")).expect("an .out beside each .txt");
+        assert_eq!(printed, capture.printed, "{}", path.display());
+    }
+    for extension in ["nmc", "out"] {
+        for path in captures::with_extension(extension) {
+            assert!(path.with_extension("txt").exists(), "{} has no text", path.display());
+        }
+    }
+}
+
+#[test]
+fn model_prints_what_the_captures_expect() {
+    for (path, capture) in all_captures() {
+        assert_eq!(model::replay(&capture.bytes), capture.printed, "{}", path.display());
+    }
+}
+
+#[test]
+fn program_prints_what_the_captures_expect() {
+    for path in captures::with_extension("nmc") {
+        let expected = fs::read_to_string(path.with_extension("out")).expect("an .out beside each .nmc");
+        assert_eq!(replay_of_file(&path), expected, "{}", path.display());
+    }
+}
+
+#[test]
+fn program_reads_standard_input_too() {
+    let path = captures::folder().join("thirty-two-modules.nmc");
+    let bytes = fs::read(&path).expect("the capture of 32 modules");
+    let expected = fs::read_to_string(path.with_extension("out")).expect("its .out");
+    assert_eq!(replay_of_standard_input(&bytes), expected);
+    assert_eq!(replay_of_standard_input(&[]), "");
+}
+
+/// A long capture: a chain addressed, then frames, samples and ticks.
+fn long_capture(dice: &mut Dice, records: usize) -> Vec<u8> {
+    let modules = 1 + dice.below(6);
+    let mut file = Vec::new();
+    for _ in 0..modules {
+        file.extend([0, 2]);
+    }
+    let line = |file: &mut Vec<u8>, bytes: &[u8]| {
+        for byte in bytes {
+            file.extend([1, 0, *byte]);
+        }
+    };
+    for place in 0..modules {
+        line(&mut file, &frame_bytes(0, 1, &[place as u8 + 1, dice.pick(&[0xFF, 0x7F])]));
+    }
+    for _ in 0..records {
+        match dice.below(8) {
+            0 => file.push(4),
+            1 => {
+                file.extend([3, dice.below(modules) as u8, dice.byte(), dice.byte() & 15]);
+                file.extend(dice.bytes(7));
+            }
+            _ => {
+                let address = if dice.percent(30) { 0xFF } else { 1 + dice.below(modules) as u8 };
+                let (code, count) = dice.pick(&[(0, 2), (2, 1), (3, 1), (5, 0), (6, 2), (7, 4), (12, 0), (14, 0)]);
+                let mut bytes = frame_bytes(address, code, &dice.bytes(count));
+                let last = bytes.len() - 1;
+                bytes[last] ^= u8::from(dice.percent(10));
+                line(&mut file, &bytes);
+            }
+        }
+    }
+    file
+}
+
+#[test]
+fn program_agrees_with_the_model_on_long_captures() {
+    let mut dice = Dice::new(0x5EED_0003);
+    for records in [300, 3000, 30_000] {
+        let file = long_capture(&mut dice, records);
+        let expected = model::replay(&file);
+        assert!(expected.lines().count() > records / 4, "too little printed to tell anything");
+        // compared, not shown: what differs would fill the screen
+        assert!(replay_of_standard_input(&file) == expected, "{} bytes", file.len());
+    }
+}
+
+#[test]
+fn program_agrees_with_the_model_wherever_a_capture_is_cut_or_spoiled() {
+    let mut dice = Dice::new(0x5EED_0004);
+    let file = long_capture(&mut dice, 900);
+    let mut bad = 0;
+    for turn in 0..400 {
+        let mut spoiled = file.clone();
+        match turn % 3 {
+            0 => spoiled.truncate(dice.below(file.len())),
+            1 => {
+                let at = dice.below(file.len());
+                spoiled[at] = dice.byte();
+            }
+            // around the powers of two that a buffer may have for its length
+            _ => spoiled.truncate((1 << (8 + turn % 5)) + turn % 7 - 3),
+        }
+        let expected = model::replay(&spoiled);
+        bad += usize::from(expected.lines().last().is_some_and(|line| line.starts_with("bad ")));
+        assert!(replay_of_standard_input(&spoiled) == expected, "turn {turn}, {} bytes", spoiled.len());
+    }
+    assert!(bad > 100, "only {bad} of the spoiled captures were bad");
+}
