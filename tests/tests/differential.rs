@@ -5,7 +5,7 @@ use doljurven_tests::capi::Library;
 use doljurven_tests::histories;
 use doljurven_tests::slips::Slip;
 
-const SESSIONS: usize = 12_000;
+const SESSIONS: usize = 36_000;
 
 #[test]
 fn library_and_model_agree() {

@@ -22,9 +22,10 @@ use Rattle.chain.proofs.Replies.{flat-join}
 use Rattle.modules.specs.Types.{kind, slots, powered, outputs, Module, AnySample}
 use Rattle.modules.proofs.Laws.{lawful}
 use Rattle.network.specs.declared.Called.{Called}
+use Rattle.network.specs.declared.Walked.{Walked}
 use Rattle.network.specs.Record.{countAt, slotsAt, recordSize, receiverIn, receiverBytes, netIn, stored, putModules, valid}
 use Rattle.network.specs.Walk.{moduleAt, walked, speech, noted}
-use Rattle.network.specs.Calls.{fresh, sampleStep, spokenTo, calledBy, endedOf, outputsIn, outputsAt}
+use Rattle.network.specs.Calls.{fresh, sampleStep, spokenTo, calledBy, walkOf, endedOf, outputsIn, outputsAt}
 use Rattle.network.proofs.Valid.{valid-is}
 use Rattle.network.proofs.Head.{length-receiver}
 use Rattle.network.proofs.Exact.{waits, walked-is, speech-is, changed-is, module-at, length-modules}
@@ -57,6 +58,12 @@ called-by : (n : Net Module) (y : Byte) {t : Step Module} {ws : List (List ℕ)}
 unfolding calledBy
 called-by n y q w =
     ap₂ (λ (t : Step Module) (ws : List (List ℕ)). record { number = t .number; written = length (flat (t .replies)); lengths = noted ws 0 (replicate 32 0) }) q w
+
+-- what a frame that ended hands back, from the walk
+pub handed-on : (f : Frame) (n : ℕ) (s : List ℕ) {k : ℕ} {w : Walked} → k ≡ numberOf (Ended (f .damaged)) → w ≡ walkOf f n s
+    → _≡_ {A = Called} (record { number = k; written = w .written; lengths = w .lengths }) (endedOf f n s)
+unfolding walkOf endedOf
+handed-on f n s {k} {w} ek ew = ap₂ (λ (k : ℕ) (w : Walked). record { number = k; written = w .written; lengths = w .lengths }) ek ew
 
 module _ (s : List ℕ) (b : Bytes s) (v : valid slots s ≡ true) where
   -- what the board drives

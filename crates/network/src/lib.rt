@@ -113,7 +113,7 @@ fn is_receiver_ok(s: &[u8]) -> bool
     ensures { λ r. ⌜ r ≡ okReceiver (now (s .entry)) ⌝ }
 {
     if s[17] == 0 {
-        return is_blank(&s[..19]);
+        return is_blank(&s[..17]) & (s[18] == 0);
     }
     (s[17] <= 3 + s[16] / 16) & (s[18] <= 1)
 }

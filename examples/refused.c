@@ -1,0 +1,177 @@
+/*
+ * What a board gets back for bad input: one call after another that is
+ * refused, each with its number, and nothing lent is changed.
+ */
+#include "doljurven.h"
+
+#include <stdio.h>
+#include <string.h>
+
+enum { TOO_MANY = NMC_MOST_MODULES + 1 };
+
+static uint8_t net[NMC_NET_LEN], net_before[NMC_NET_LEN];
+static uint8_t room[NMC_ROOM_LEN], room_before[NMC_ROOM_LEN];
+static uint8_t outputs[NMC_OUTPUTS_LEN], outputs_before[NMC_OUTPUTS_LEN];
+static uint8_t reading[NMC_READING_LEN];
+static uint8_t types[TOO_MANY];
+static size_t written;
+static int surprises;
+
+/* A sound network, and something in everything that is lent. */
+static void prepare(void)
+{
+    memset(net, 0x5A, sizeof net);
+    memset(types, NMC_TYPE_IO, sizeof types);
+    if (nmc_setup(net, sizeof net, types, 3) != NMC_DONE)
+        surprises++;
+    memset(room, 0xC3, sizeof room);
+    memset(outputs, 0x3C, sizeof outputs);
+    memset(reading, 0, sizeof reading);
+    written = 0;
+}
+
+static void remember(void)
+{
+    memcpy(net_before, net, sizeof net);
+    memcpy(room_before, room, sizeof room);
+    memcpy(outputs_before, outputs, sizeof outputs);
+    memset(reading, 0x99, sizeof reading);
+    written = 99;
+}
+
+static int reading_cleared(void)
+{
+    for (size_t i = 0; i < sizeof reading; i++)
+        if (reading[i] != 0)
+            return 0;
+    return 1;
+}
+
+static void refused(const char *words, uint32_t number, uint32_t given)
+{
+    const char *verdict = "";
+    if (given != number)
+        verdict = "  surprise: another number";
+    else if (memcmp(net, net_before, sizeof net) != 0)
+        verdict = "  surprise: the record changed";
+    else if (memcmp(room, room_before, sizeof room) != 0)
+        verdict = "  surprise: the room changed";
+    else if (memcmp(outputs, outputs_before, sizeof outputs) != 0)
+        verdict = "  surprise: the outputs changed";
+    surprises += verdict[0] != 0;
+    printf("%2lu  %s%s\n", (unsigned long)given, words, verdict);
+}
+
+/* A call that reports a length must report 0, the status reader give all 0. */
+static void cleared(int holds)
+{
+    if (!holds) {
+        printf("    surprise: something is reported\n");
+        surprises++;
+    }
+}
+
+#define REFUSED(words, number, call)        \
+    do {                                    \
+        prepare();                          \
+        remember();                         \
+        refused(words, number, call);       \
+    } while (0)
+
+static void record(void)
+{
+    REFUSED("record one byte short", NMC_BAD_RECORD, nmc_tick(net, NMC_NET_LEN - 1));
+    REFUSED("setup of a record one byte short", NMC_BAD_RECORD,
+            nmc_setup(net, NMC_NET_LEN - 1, types, 3));
+    prepare();
+    net[19] = 33; /* number of modules */
+    remember();
+    refused("record with 33 modules", NMC_BAD_RECORD, nmc_tick(net, sizeof net));
+    prepare();
+    net[20] = 1; /* type of place 0 */
+    remember();
+    refused("record with an unknown type", NMC_BAD_RECORD,
+            nmc_byte(net, sizeof net, 0, 0xAA, room, sizeof room, &written));
+    cleared(written == 0);
+}
+
+static void setup(void)
+{
+    REFUSED("chain of none", NMC_BAD_CHAIN, nmc_setup(net, sizeof net, types, 0));
+    REFUSED("chain of 33", NMC_BAD_CHAIN, nmc_setup(net, sizeof net, types, TOO_MANY));
+    prepare();
+    types[2] = 1;
+    remember();
+    refused("third module of type 1", NMC_BAD_TYPE, nmc_setup(net, sizeof net, types, 3));
+}
+
+static void line_and_pins(void)
+{
+    REFUSED("sample for place 3 of three modules", NMC_BAD_PLACE,
+            nmc_io_sample(net, sizeof net, 3, 0, 0, 0, 0, 0));
+    REFUSED("outputs of place 3 of three modules", NMC_BAD_PLACE,
+            nmc_outputs(net, sizeof net, 3, outputs));
+    REFUSED("inputs 4096", NMC_BAD_FIELD, nmc_io_sample(net, sizeof net, 0, 4096, 0, 0, 0, 0));
+    REFUSED("mark 2", NMC_BAD_FIELD,
+            nmc_byte(net, sizeof net, 2, 0xAA, room, sizeof room, &written));
+    cleared(written == 0);
+    REFUSED("room of 607", NMC_SHORT_ROOM,
+            nmc_byte(net, sizeof net, 0, 0xAA, room, NMC_ROOM_LEN - 1, &written));
+    cleared(written == 0);
+}
+
+static void host(void)
+{
+    const uint8_t data[16] = {0};
+    const uint8_t reply[3] = {0x00, 0x80, 0x80};
+    const uint8_t wrong_sum[3] = {0x00, 0x80, 0x81};
+
+    REFUSED("frame to address 256", NMC_BAD_FRAME,
+            nmc_write_frame(256, 14, data, 0, room, sizeof room, &written));
+    cleared(written == 0);
+    REFUSED("frame with code 16", NMC_BAD_FRAME,
+            nmc_write_frame(1, 16, data, 0, room, sizeof room, &written));
+    cleared(written == 0);
+    REFUSED("frame with 16 data bytes", NMC_BAD_FRAME,
+            nmc_write_frame(1, 14, data, 16, room, sizeof room, &written));
+    cleared(written == 0);
+    REFUSED("room of 18 for a frame of 19", NMC_SHORT_ROOM,
+            nmc_write_frame(1, 14, data, 15, room, 18, &written));
+    cleared(written == 0);
+    REFUSED("reply of a module of type 1", NMC_BAD_TYPE, nmc_read_status(1, 0x02, reply, 3, reading));
+    cleared(reading_cleared());
+    REFUSED("reply one byte short", NMC_BAD_LENGTH,
+            nmc_read_status(NMC_TYPE_IO, 0x02, reply, 2, reading));
+    cleared(reading_cleared());
+    REFUSED("reply with a wrong sum", NMC_BAD_SUM,
+            nmc_read_status(NMC_TYPE_IO, 0x02, wrong_sum, 3, reading));
+    cleared(reading_cleared());
+}
+
+static void two_reasons(void)
+{
+    prepare();
+    net[19] = 0;
+    remember();
+    refused("spoiled record, mark 2 and no room", NMC_BAD_RECORD,
+            nmc_byte(net, sizeof net, 2, 0xAA, room, 0, &written));
+    cleared(written == 0);
+    REFUSED("mark 2 and no room", NMC_BAD_FIELD,
+            nmc_byte(net, sizeof net, 2, 0xAA, room, 0, &written));
+    cleared(written == 0);
+    REFUSED("place 3 and inputs 4096", NMC_BAD_PLACE,
+            nmc_io_sample(net, sizeof net, 3, 4096, 0, 0, 0, 0));
+    REFUSED("address 256 and no room", NMC_BAD_FRAME,
+            nmc_write_frame(256, 14, types, 0, room, 0, &written));
+    cleared(written == 0);
+}
+
+int main(void)
+{
+    record();
+    setup();
+    line_and_pins();
+    host();
+    two_reasons();
+    return surprises != 0;
+}

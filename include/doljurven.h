@@ -1,0 +1,109 @@
+/*
+ * A network of NMC modules on one board, and the host's side of the line.
+ *
+ * The network lives in a record of NMC_NET_LEN bytes that the board keeps and
+ * lends to each call. Set it up once, hand over every line byte as it comes,
+ * hand over samples as they are measured, and tick at the control rate.
+ *
+ * Each call gives back one of the numbers below. A refused call (11 and above)
+ * leaves everything lent as it was, but for *written, which is then 0, and the
+ * status reader's reading, which is then all 0.
+ *
+ * No pointer may be null, also where its length is 0, and what is lent to one
+ * call may not overlap. Nothing is allocated, nothing is kept between calls,
+ * and a network is used from one place at a time.
+ */
+#ifndef DOLJURVEN_H
+#define DOLJURVEN_H
+
+#include <stddef.h>
+#include <stdint.h>
+
+#ifdef __cplusplus
+extern "C" {
+#endif
+
+#define NMC_MOST_MODULES 32u  /* in one chain */
+#define NMC_NET_LEN 4116u     /* the network's record, for any chain */
+#define NMC_ROOM_LEN 608u     /* room for all replies that one byte can draw */
+#define NMC_FRAME_LEN 19u     /* the longest frame */
+#define NMC_REPLY_LEN 19u     /* the longest reply of one module */
+#define NMC_OUTPUTS_LEN 8u    /* what one module drives */
+#define NMC_READING_LEN 33u   /* a reply taken apart */
+
+/* Module types. A servo (type 0) cannot be set up yet; the status reader takes
+ * its replies apart already. */
+#define NMC_TYPE_SERVO 0u
+#define NMC_TYPE_IO 2u
+
+enum nmc_number {
+    NMC_DONE = 0,        /* done; of a byte: taken, no frame ended */
+    NMC_FRAME = 1,       /* byte: an undamaged frame ended */
+    NMC_DAMAGED = 2,     /* byte: a damaged frame ended */
+    NMC_BAD_CHAIN = 11,  /* setup: not 1 to 32 modules */
+    NMC_BAD_TYPE = 12,   /* setup, status reader: no such module type */
+    NMC_BAD_PLACE = 13,  /* no such place, or a sample for another type */
+    NMC_BAD_FIELD = 14,  /* mark not 0 or 1, or a sample out of range */
+    NMC_SHORT_ROOM = 15, /* room too short */
+    NMC_BAD_RECORD = 16, /* record of another length, or spoiled */
+    NMC_BAD_FRAME = 17,  /* writer: address, code or data too large */
+    NMC_BAD_LENGTH = 18, /* status reader: not as long as type and items ask */
+    NMC_BAD_SUM = 19     /* status reader: wrong checksum */
+};
+
+/*
+ * Puts a chain of so many modules, all at power-up, into the record, whatever
+ * it held. types has one module type a place, place 0 first: the one that is
+ * enabled without a predecessor.
+ */
+uint32_t nmc_setup(uint8_t *net, size_t net_len, const uint8_t *types, size_t chain);
+
+/*
+ * One byte from the line. mark is 1 if the UART saw a framing error or overrun
+ * with it, else 0. room_len is at least NMC_ROOM_LEN. Where the byte ends a
+ * frame that draws replies, they stand in room one after another in chain
+ * order, ready to be sent, and *written is their length together; the rest of
+ * the room is left alone.
+ */
+uint32_t nmc_byte(uint8_t *net, size_t net_len, uint32_t mark, uint8_t byte, uint8_t *room,
+                  size_t room_len, size_t *written);
+
+/*
+ * What an I/O module measures: twelve input bits (0 to 4095), three A/D bytes
+ * and the counter. It waits for the next tick; until then modules show the
+ * sample before it.
+ */
+uint32_t nmc_io_sample(uint8_t *net, size_t net_len, uint32_t place, uint32_t inputs, uint8_t ad1,
+                       uint8_t ad2, uint8_t ad3, uint32_t counter);
+
+/* One tick for all modules: waiting samples take effect. */
+uint32_t nmc_tick(uint8_t *net, size_t net_len);
+
+/*
+ * What the board is to drive for a module, in NMC_OUTPUTS_LEN bytes. I/O:
+ * directions of bits 1 to 8 and 9 to 12 (1 is input), output register of the
+ * same, PWM 1, PWM 2, 0, 0.
+ */
+uint32_t nmc_outputs(const uint8_t *net, size_t net_len, uint32_t place, uint8_t *outputs);
+
+/*
+ * Writes a frame for the line: address 0 to 255, code 0 to 15, at most 15 data
+ * bytes. It takes data_len + 4 bytes of room; *written is that length.
+ */
+uint32_t nmc_write_frame(uint32_t address, uint32_t code, const uint8_t *data, size_t data_len,
+                         uint8_t *room, size_t room_len, size_t *written);
+
+/*
+ * Takes a module's reply apart, knowing its type and the status items that
+ * were asked for. reading has NMC_READING_LEN bytes: the status byte, then for
+ * each item bit 0 to 7 its number in four bytes, least significant first; 0
+ * where the item was not asked for.
+ */
+uint32_t nmc_read_status(uint32_t type, uint8_t items, const uint8_t *reply, size_t reply_len,
+                         uint8_t *reading);
+
+#ifdef __cplusplus
+}
+#endif
+
+#endif

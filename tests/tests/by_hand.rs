@@ -1,0 +1,180 @@
+//! Answers worked out by hand, byte for byte: the bench sheet as far as it needs no servo, the manuals' frames, and what
+//! no reply shows but the board drives.
+
+use doljurven_tests::calls::*;
+use doljurven_tests::capi::Library;
+use doljurven_tests::record::{slot, COUNT, IO_LEN, MARK, SLOTS};
+
+fn network(modules: usize) -> Vec<u8> {
+    let mut net = vec![0x99; NET_LEN];
+    assert_eq!(Library.setup(&mut net, &vec![2; modules]), DONE);
+    net
+}
+
+/// Line bytes one after another: the last number, and all that was replied.
+fn send(net: &mut [u8], bytes: &[u8]) -> (u32, Vec<u8>) {
+    let mut last = DONE;
+    let mut replied = Vec::new();
+    for byte in bytes {
+        let mut room = [0; ROOM_LEN];
+        let mut written = 0;
+        last = Library.byte(net, 0, *byte, &mut room, &mut written);
+        replied.extend(&room[..written]);
+    }
+    (last, replied)
+}
+
+fn outputs(net: &[u8], place: u32) -> [u8; 8] {
+    let mut outputs = [0xEE; 8];
+    assert_eq!(Library.outputs(net, place, &mut outputs), DONE);
+    outputs
+}
+
+fn written(address: u32, code: u32, data: &[u8]) -> Vec<u8> {
+    let mut room = [0; 19];
+    let mut written = 0;
+    assert_eq!(Library.write_frame(address, code, data, &mut room, &mut written), DONE);
+    room[..written].to_vec()
+}
+
+fn reading(module_type: u32, items: u8, reply: &[u8]) -> (u8, [u32; 8]) {
+    let mut bytes = [0xEE; 33];
+    assert_eq!(Library.read_status(module_type, items, reply, &mut bytes), DONE);
+    let number = |bit: usize| u32::from_le_bytes(bytes[1 + 4 * bit..5 + 4 * bit].try_into().unwrap());
+    (bytes[0], std::array::from_fn(number))
+}
+
+#[test]
+fn setup_writes_power_up_into_every_slot() {
+    let net = network(3);
+    let mut module = [0; 128];
+    module[0] = 2;
+    module[2] = 0xFF;
+    module[26] = 0xFF;
+    module[27] = 0x0F;
+    for place in 0..32 {
+        let expected = if place < 3 { module } else { [0; 128] };
+        assert_eq!(net[slot(place)..slot(place + 1)], expected, "place {place}");
+    }
+    assert_eq!(net[..SLOTS], [0, 0, 0, 0, 0, 0, 0, 0, 0, 0, 0, 0, 0, 0, 0, 0, 0, 0, 0, 3]);
+}
+
+#[test]
+fn bench_sheet_frames_read_undamaged() {
+    assert_eq!(send(&mut network(1), &[0xAA, 0x01, 0x17, 0x02, 0x1A]), (UNDAMAGED, vec![]));
+    let stop_here = [0xAA, 0x01, 0x57, 0x11, 0x64, 0x00, 0x00, 0x00, 0xCD];
+    assert_eq!(send(&mut network(1), &stop_here), (UNDAMAGED, vec![]));
+    assert_eq!(written(1, 7, &[0x02]), [0xAA, 0x01, 0x17, 0x02, 0x1A]);
+    assert_eq!(written(1, 7, &[0x11, 0x64, 0, 0, 0]), stop_here);
+}
+
+#[test]
+fn bench_sheet_set_address() {
+    let mut net = network(2);
+    assert_eq!(send(&mut net, &[0xAA, 0x00, 0x21, 0x01, 0xFF, 0x21]), (UNDAMAGED, vec![0, 0]));
+    // individual, group, leader, ADDR_OUT low, cause
+    assert_eq!(net[slot(0) + 1..slot(0) + 6], [1, 255, 0, 1, 0]);
+    assert_eq!(net[slot(1) + 1..slot(1) + 6], [0, 255, 0, 0, 0], "two have not become 1");
+}
+
+#[test]
+fn bench_sheet_header_and_sixteen_nulls_end_idle() {
+    let mut net = network(1);
+    let mut line = vec![0xAA];
+    line.extend([0; 16]);
+    assert_eq!(send(&mut net, &line), (DONE, vec![2, 2]), "the first three nulls are a frame");
+    assert_eq!(net[..=MARK], [0; 19]);
+}
+
+#[test]
+fn sixteen_nulls_end_every_frame_idle() {
+    for command in 0..=255 {
+        for also in 0..=usize::from(command >> 4) {
+            let mut net = network(1);
+            let mut line = vec![0xAA, 0x07, command];
+            line.extend(vec![0xAA; also]);
+            line.extend([0; 16]);
+            send(&mut net, &line);
+            assert_eq!(net[..=MARK], [0; 19], "command {command:02X} with {also} data bytes");
+        }
+    }
+}
+
+#[test]
+fn open_frame_is_kept_in_the_record() {
+    let mut net = network(1);
+    let expect = |net: &[u8], data: &[u8], address: u8, command: u8, fill: u8| {
+        let mut receiver = [0; 19];
+        receiver[..data.len()].copy_from_slice(data);
+        receiver[15..18].copy_from_slice(&[address, command, fill]);
+        assert_eq!(net[..=MARK], receiver);
+    };
+    send(&mut net, &[0xAA]);
+    expect(&net, &[], 0, 0, 1);
+    send(&mut net, &[0x05]);
+    expect(&net, &[], 5, 0, 2);
+    send(&mut net, &[0x47]);
+    expect(&net, &[], 5, 0x47, 3);
+    send(&mut net, &[0xAA, 0x11]);
+    expect(&net, &[0xAA, 0x11], 5, 0x47, 5);
+    let (mut room, mut written) = ([0; ROOM_LEN], 9);
+    assert_eq!(Library.byte(&mut net, 1, 0x22, &mut room, &mut written), DONE);
+    assert_eq!((net[MARK], written), (1, 0));
+}
+
+#[test]
+fn board_drives_what_the_commands_set() {
+    let mut net = network(2);
+    assert_eq!(outputs(&net, 0), [0xFF, 0x0F, 0, 0, 0, 0, 0, 0]);
+    send(&mut net, &written(0, 0, &[0x0F, 0xF0]));
+    send(&mut net, &written(0, 6, &[0x5A, 0xFF]));
+    send(&mut net, &written(0, 4, &[0x40, 0xC0]));
+    // bits 1 to 4 are inputs and keep their register, the upper nibble of the second byte is nothing
+    assert_eq!(outputs(&net, 0), [0x0F, 0x00, 0x50, 0x0F, 0x40, 0xC0, 0, 0]);
+    send(&mut net, &written(0, 7, &[0xFF, 0x00, 1, 2]));
+    assert_eq!(outputs(&net, 0), [0x0F, 0x00, 0x50, 0x0F, 0x40, 0xC0, 0, 0]);
+    send(&mut net, &written(0, 5, &[]));
+    assert_eq!(outputs(&net, 0), [0x0F, 0x00, 0xF0, 0x00, 1, 2, 0, 0]);
+    send(&mut net, &written(0, 15, &[]));
+    assert_eq!(outputs(&net, 0), [0xFF, 0x0F, 0, 0, 0, 0, 0, 0]);
+    assert_eq!(outputs(&net, 1), [0xFF, 0x0F, 0, 0, 0, 0, 0, 0], "place 1 never heard of it");
+}
+
+#[test]
+fn stored_where_no_reply_shows_it() {
+    let mut net = network(1);
+    send(&mut net, &written(0, 8, &[0x33]));
+    send(&mut net, &written(0xFF, 10, &[0x0A]));
+    assert_eq!((net[slot(0) + 36], net[slot(0) + 7]), (0x33, 0x0A));
+    let before = net[slot(0)..slot(0) + IO_LEN].to_vec();
+    assert_eq!(send(&mut net, &written(0, 10, &[0x3F])).1, [2, 2]);
+    let mut expected = before;
+    expected[5] = 2;
+    assert_eq!(net[slot(0)..slot(0) + IO_LEN], expected, "a malformed frame leaves its cause and nothing else");
+}
+
+#[test]
+fn unmarked_and_marked_headers() {
+    let mut net = network(1);
+    let (mut room, mut length) = ([0; ROOM_LEN], 0);
+    assert_eq!(Library.byte(&mut net, 1, 0xAA, &mut room, &mut length), DONE);
+    assert_eq!(net[..=MARK], [0; 19], "a marked header opens nothing");
+    assert_eq!(Library.byte(&mut net, 0, 0xAB, &mut room, &mut length), DONE);
+    assert_eq!(net[..=MARK], [0; 19]);
+    assert_eq!(net[COUNT], 1);
+}
+
+#[test]
+fn status_reader_takes_replies_apart() {
+    assert_eq!(reading(2, 0, &[0x02, 0x02]), (2, [0; 8]));
+    let io = [
+        0x00, 0xA9, 0x05, 0x44, 0x55, 0x66, 0x78, 0x56, 0x34, 0x12, 0x02, 0x01, 0xA5, 0x09, 0x21, 0x43, 0x65, 0x87, 0xC2,
+    ];
+    assert_eq!(reading(2, 0xFF, &io), (0, [0x5A9, 0x44, 0x55, 0x66, 0x1234_5678, 0x0102, 0x9A5, 0x8765_4321]));
+    assert_eq!(reading(2, 0x28, &[0x00, 0x66, 0x02, 0x01, 0x69]), (0, [0, 0, 0, 0x66, 0, 0x0102, 0, 0]));
+    let servo = [
+        0x19, 0xFE, 0xFF, 0xFF, 0xFF, 0x80, 0x34, 0x12, 0x00, 0x00, 0x00, 0x00, 0x00, 0x00, 0x0A, 0xFF, 0xFF, 0x00, 0xE2,
+    ];
+    assert_eq!(reading(0, 0xFF, &servo), (0x19, [0xFFFF_FFFE, 0x80, 0x1234, 0, 0, 0x0A00, 0xFFFF, 0]));
+    assert_eq!(reading(0, 0x20, &[0x11, 0x00, 0x0A, 0x1B]), (0x11, [0, 0, 0, 0, 0, 0x0A00, 0, 0]));
+}
