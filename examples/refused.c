@@ -26,8 +26,6 @@ static void prepare(void)
         surprises++;
     memset(room, 0xC3, sizeof room);
     memset(outputs, 0x3C, sizeof outputs);
-    memset(reading, 0, sizeof reading);
-    written = 0;
 }
 
 static void remember(void)

@@ -9,9 +9,9 @@ fn main() {
         Ok(path) => PathBuf::from(path),
         Err(_) => package.join("../target/staticlib/libdoljurven.a"),
     };
-    let archive = archive.canonicalize().unwrap_or_else(|_| {
-        panic!("{} is not there: run `rt staticlib doljurven` first", archive.display())
-    });
+    let archive = archive
+        .canonicalize()
+        .unwrap_or_else(|_| panic!("{} is not there: run `rt staticlib doljurven` first", archive.display()));
     println!("cargo:rerun-if-changed={}", archive.display());
     println!("cargo:rustc-link-search=native={}", archive.parent().unwrap().display());
     println!("cargo:rustc-link-lib=static=doljurven");

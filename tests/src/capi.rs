@@ -63,9 +63,7 @@ impl Calls for Library {
     }
 
     fn write_frame(&self, address: u32, code: u32, data: &[u8], room: &mut [u8], written: &mut usize) -> u32 {
-        unsafe {
-            nmc_write_frame(address, code, data.as_ptr(), data.len(), room.as_mut_ptr(), room.len(), written)
-        }
+        unsafe { nmc_write_frame(address, code, data.as_ptr(), data.len(), room.as_mut_ptr(), room.len(), written) }
     }
 
     fn read_status(&self, module_type: u32, items: u8, reply: &[u8], reading: &mut [u8; 33]) -> u32 {

@@ -8,7 +8,7 @@ impl Dice {
     }
 
     /// splitmix64
-    pub fn next(&mut self) -> u64 {
+    pub fn throw(&mut self) -> u64 {
         self.0 = self.0.wrapping_add(0x9E37_79B9_7F4A_7C15);
         let mut z = self.0;
         z = (z ^ (z >> 30)).wrapping_mul(0xBF58_476D_1CE4_E5B9);
@@ -17,7 +17,7 @@ impl Dice {
     }
 
     pub fn below(&mut self, end: usize) -> usize {
-        (self.next() % end as u64) as usize
+        (self.throw() % end as u64) as usize
     }
 
     /// True this many times in a hundred.
@@ -26,7 +26,7 @@ impl Dice {
     }
 
     pub fn byte(&mut self) -> u8 {
-        self.next() as u8
+        self.throw() as u8
     }
 
     pub fn pick<T: Copy>(&mut self, from: &[T]) -> T {

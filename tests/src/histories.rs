@@ -6,13 +6,15 @@ use std::fmt;
 
 use crate::calls::*;
 use crate::dice::Dice;
-use crate::model::{frame_bytes, item_sizes, sum, Network, Touch, HEADER};
+use crate::model::{frame_bytes, item_sizes, sum, Network, Touch, DATA_COUNTS, HEADER};
 use crate::record::{decode, slot, Model, COUNT, FILL, IO_LEN, MARK, SLOTS, TWELVE_BITS};
 use crate::slips::Slip;
 
 /// What the histories have reached, so that a test can tell that its dice still fall everywhere.
-#[derive(Debug, Default)]
+#[derive(Debug)]
 pub struct Seen {
+    /// Frames that ended, by the length of the chain.
+    pub chains: [usize; MOST_MODULES + 1],
     /// Modules touched, by code and cause.
     pub met: [[usize; 4]; 16],
     /// Answers by their number.
@@ -26,6 +28,24 @@ pub struct Seen {
     pub damaged_records: usize,
     pub damaged_records_taken: usize,
     pub host_calls: usize,
+}
+
+impl Seen {
+    fn nothing() -> Seen {
+        Seen {
+            chains: [0; MOST_MODULES + 1],
+            met: [[0; 4]; 16],
+            numbers: [0; 20],
+            repliers: [0; 3],
+            bytes: 0,
+            samples: 0,
+            ticks: 0,
+            full_rooms: 0,
+            damaged_records: 0,
+            damaged_records_taken: 0,
+            host_calls: 0,
+        }
+    }
 }
 
 enum Event {
@@ -64,9 +84,8 @@ struct Pair<'a> {
 
 fn apart(library: &[u8], model: &[u8]) -> String {
     let apart = library.iter().zip(model).enumerate().filter(|(_, (library, model))| library != model);
-    let mut told: Vec<String> = apart
-        .map(|(at, (library, model))| format!("byte {at}: library {library:02X}, model {model:02X}"))
-        .collect();
+    let mut told: Vec<String> =
+        apart.map(|(at, (library, model))| format!("byte {at}: library {library:02X}, model {model:02X}")).collect();
     let more = told.len().saturating_sub(8);
     told.truncate(8);
     format!("{}{}", told.join("; "), if more > 0 { format!("; {more} more") } else { String::new() })
@@ -154,6 +173,7 @@ impl Pair<'_> {
                 repliers += usize::from(speaks && !(code == 15 && cause == 0));
             }
         }
+        self.seen.chains[network.modules.len()] += 1;
         self.seen.repliers[repliers.min(2)] += 1;
         self.seen.full_rooms += usize::from(written == ROOM_LEN);
     }
@@ -235,7 +255,6 @@ impl Pair<'_> {
 const INDIVIDUALS: &[u8] = &[0, 1, 2, 3, 4, 0x81, 0x82, HEADER, 0xFF];
 const GROUPS: &[u8] = &[0xFF, 0x7F, 0x81, 0x01, 0x82, 0x02, HEADER, 0x2A, 0x80, 0x00];
 const CODES: &[u8] = &[0, 0, 1, 1, 2, 2, 3, 3, 4, 5, 5, 6, 6, 7, 7, 8, 9, 10, 10, 11, 12, 12, 13, 14, 15];
-const COUNTS: [usize; 16] = [2, 2, 1, 1, 2, 0, 2, 4, 1, 0, 1, 0, 0, 0, 0, 0];
 const EDGES: &[u8] = &[0, 1, 2, 3, 4, 15, 16, 31, 32, 33, 127, 128, HEADER, 255];
 
 fn data_byte(dice: &mut Dice) -> u8 {
@@ -248,11 +267,19 @@ fn data_byte(dice: &mut Dice) -> u8 {
 }
 
 fn individual(dice: &mut Dice) -> u8 {
-    if dice.percent(85) { dice.pick(INDIVIDUALS) } else { dice.byte() }
+    if dice.percent(85) {
+        dice.pick(INDIVIDUALS)
+    } else {
+        dice.byte()
+    }
 }
 
 fn group(dice: &mut Dice) -> u8 {
-    if dice.percent(85) { dice.pick(GROUPS) } else { dice.byte() }
+    if dice.percent(85) {
+        dice.pick(GROUPS)
+    } else {
+        dice.byte()
+    }
 }
 
 fn chain_length(dice: &mut Dice) -> usize {
@@ -275,7 +302,7 @@ fn frame(dice: &mut Dice, network: &Network) -> (u8, u8, Vec<u8>) {
         _ => dice.byte(),
     };
     let code = dice.pick(CODES);
-    let count = if dice.percent(85) { COUNTS[usize::from(code)] } else { dice.below(16) };
+    let count = if dice.percent(85) { DATA_COUNTS[usize::from(code)] } else { dice.below(16) };
     let mut data: Vec<u8> = (0..count).map(|_| data_byte(dice)).collect();
     if code == 1 && count >= 2 {
         data[0] = individual(dice);
@@ -334,7 +361,11 @@ struct Session<'a> {
 
 impl Session<'_> {
     fn room_len(&mut self) -> usize {
-        if self.dice.percent(50) { ROOM_LEN } else { ROOM_LEN + self.dice.below(40) }
+        if self.dice.percent(50) {
+            ROOM_LEN
+        } else {
+            ROOM_LEN + self.dice.below(40)
+        }
     }
 
     fn line(&mut self, mark: u32, byte: u8) -> Result<(), String> {
@@ -347,7 +378,7 @@ impl Session<'_> {
         let place = self.dice.below(usize::from(self.pair.net[COUNT])) as u32;
         let inputs = self.dice.below(4096) as u32;
         let ad = [self.dice.byte(), self.dice.byte(), self.dice.byte()];
-        let counter = self.dice.next() as u32;
+        let counter = self.dice.throw() as u32;
         self.pair.sample(place, inputs, ad, counter)?;
         Ok(())
     }
@@ -377,7 +408,7 @@ impl Session<'_> {
             0 | 1 => marked = Some(1 + self.dice.below(bytes.len() - 1)),
             2 => marked = Some(0),
             3 => *bytes.last_mut().expect("a frame") ^= 1 + self.dice.below(255) as u8,
-            // a sum that leaves the address or the data out
+            // a sum that leaves the address out
             4 => *bytes.last_mut().expect("a frame") = bytes[2].wrapping_add(sum(&data)),
             5 => drop(bytes.remove(self.dice.below(bytes.len()))),
             _ => {}
@@ -529,7 +560,7 @@ impl Session<'_> {
 
 /// That many sessions from one seed; the first disagreement ends them.
 pub fn run(library: &dyn Calls, slip: Slip, seed: u64, sessions: usize) -> Result<Seen, String> {
-    let mut seen = Seen::default();
+    let mut seen = Seen::nothing();
     let junk = Dice::new(seed).bytes(8 * ROOM_LEN);
     for number in 0..sessions {
         let mut dice = Dice::new(seed.wrapping_add(number as u64).wrapping_mul(0x2545_F491_4F6C_DD1D));

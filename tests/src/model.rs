@@ -10,6 +10,10 @@ use crate::slips::Slip;
 pub const HEADER: u8 = 0xAA;
 pub const BITS: u16 = 0x0FFF;
 
+/// Data bytes of each code to an I/O module, 0 for those it does not know. Frames are steered by it; the model itself
+/// goes by the shape of the data that each command takes.
+pub const DATA_COUNTS: [usize; 16] = [2, 2, 1, 1, 2, 0, 2, 4, 1, 0, 1, 0, 0, 0, 0, 0];
+
 /// 8-bit wrapping sum, of frames and of replies.
 pub fn sum(bytes: &[u8]) -> u8 {
     bytes.iter().fold(0, |total: u8, byte| total.wrapping_add(*byte))
@@ -145,7 +149,7 @@ pub trait Device: Clone {
     fn perform(&mut self, frame: &Frame, touch: Touch, slip: Slip) -> Result<(), u8> {
         let mut data = &frame.data[..];
         if slip == Slip::LongDataTaken {
-            data = &data[..data.len().min(needed(frame.code))];
+            data = &data[..data.len().min(DATA_COUNTS[usize::from(frame.code)])];
         }
         match (frame.code, data) {
             (1, [individual, group]) => self.station_mut().set_address(*individual, *group, slip),
@@ -213,11 +217,6 @@ pub trait Device: Clone {
         reply.push(sum(&reply[summed..]));
         reply
     }
-}
-
-/// Data bytes that each code needs on an I/O module, for the slip that takes longer data.
-fn needed(code: u8) -> usize {
-    [2, 2, 1, 1, 2, 0, 2, 4, 1, 15, 1, 15, 0, 15, 0, 0][usize::from(code)]
 }
 
 // ---------------------------------------------------------------- the I/O module

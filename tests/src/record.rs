@@ -29,11 +29,7 @@ fn four(bytes: &[u8], at: usize) -> u32 {
 }
 
 fn sample(bytes: &[u8], at: usize) -> IoSample {
-    IoSample {
-        inputs: two(bytes, at),
-        ad: [bytes[at + 2], bytes[at + 3], bytes[at + 4]],
-        counter: four(bytes, at + 5),
-    }
+    IoSample { inputs: two(bytes, at), ad: [bytes[at + 2], bytes[at + 3], bytes[at + 4]], counter: four(bytes, at + 5) }
 }
 
 fn put_sample(bytes: &mut [u8], at: usize, sample: &IoSample) {
@@ -180,7 +176,11 @@ impl Calls for Model {
         let replies: Vec<u8> = ended.replies.into_iter().flat_map(|(_, reply)| reply).collect();
         room[..replies.len()].copy_from_slice(&replies);
         *written = replies.len();
-        if ended.frame.damaged { DAMAGED } else { UNDAMAGED }
+        if ended.frame.damaged {
+            DAMAGED
+        } else {
+            UNDAMAGED
+        }
     }
 
     fn io_sample(&self, net: &mut [u8], place: u32, inputs: u32, ad: [u8; 3], counter: u32) -> u32 {

@@ -27,11 +27,8 @@ fn replay_of_file(path: &Path) -> String {
 }
 
 fn replay_of_standard_input(bytes: &[u8]) -> String {
-    let mut child = Command::new(program())
-        .stdin(Stdio::piped())
-        .stdout(Stdio::piped())
-        .spawn()
-        .expect("the replay program runs");
+    let mut child =
+        Command::new(program()).stdin(Stdio::piped()).stdout(Stdio::piped()).spawn().expect("the replay program runs");
     let mut input = child.stdin.take().expect("a pipe");
     let bytes = bytes.to_vec();
     // a bad record ends the program before it has read all; what it left in the pipe is no fault

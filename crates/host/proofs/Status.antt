@@ -12,9 +12,9 @@ use lib.Dec.{eqb}
 use Rattle.layout.specs.Bytes.{le, ofLe}
 use Rattle.layout.proofs.Laws.{length-le, ofLe-le}
 use Rattle.line.specs.Receive.{total}
-use Rattle.station.specs.Report.{item, chosen, withSum, report}
+use Rattle.station.specs.Report.{item, chosen, withSum, report, Fit}
 use Rattle.host.specs.Reading.{chosenSize, neededFor, summed, numbersIn, readingOf, sizesOf, known, statusOf}
-use Rattle.host.specs.Promises.{Fit, shown, ReadBack, Status, ThereIs, Taken}
+use Rattle.host.specs.Promises.{shown, ReadBack, Status, ThereIs, Taken}
 
 item-long : (t : Bool) (k x : ℕ) → length (item t k x) ≡ cond t k 0
 item-long true k x = length-le k x

@@ -3,22 +3,15 @@ use mathlib.Core.Path.{_≡_}
 use mathlib.Core.List.{List, [], _∷_}
 use mathlib.Core.Bool.{true, false, cond}
 use mathlib.Core.Logic.{_⊎_}
-use Prim.Native.Nat.{ℕ, _+_, _-_, _/_, _%_, _^_, _<_, _≤_}
+use Prim.Native.Nat.{ℕ, _+_, _-_, _/_, _%_, _<_, _≤_}
 use lib.ListN.{length, getD, take, replicate}
 use lib.Dec.{eqb}
 use Rattle.layout.specs.Bytes.{pasted}
 use Rattle.line.specs.Receive.{total, idle}
 use Rattle.line.specs.Frames.{written, clean, reads, ended}
-use Rattle.station.specs.Report.{report}
+use Rattle.station.specs.Report.{report, Fit}
 use Rattle.host.specs.Reading.{neededFor, summed, readingOf, sizesOf, statusOf}
 use Rattle.host.specs.Writing.{writtenOf, roomAfter}
-
--- 01 Commands of both types: there is a number for each size, and it fits into that many bytes.
-abbrev pub Fit : List ℕ → List ℕ → Type 0
-Fit [] [] = Unit {0}
-Fit [] (x ∷ xs) = ⊥
-Fit (k ∷ ks) [] = ⊥
-Fit (k ∷ ks) (x ∷ xs) = (x < 256 ^ k) × Fit ks xs
 
 -- 01 Numbers given back, last paragraph: a number where its bit is set, 0 where it is clear.
 abbrev pub shown : ℕ → List ℕ → List ℕ

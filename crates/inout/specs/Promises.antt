@@ -10,7 +10,7 @@ use Rattle.line.specs.Frames.{Frame}
 use Rattle.station.specs.declared.Setting.the-variants.{Assign, Define, Rate, Nothing}
 use Rattle.station.specs.Touch.{powerUp}
 use Rattle.station.specs.Commands.{assigned}
-use Rattle.station.specs.Report.{report, causeBit, inoutSizes}
+use Rattle.station.specs.Report.{report, causeBit, inoutSizes, Fit}
 use Rattle.inout.specs.declared.Sample.{Sample}
 use Rattle.inout.specs.declared.Pins.{Pins}
 use Rattle.inout.specs.declared.Io.{Io}
@@ -180,13 +180,6 @@ Replied = (f : Frame) (m : Io) → Replies f m
 -- A reply has at most 19 bytes.
 abbrev pub Short : Type 0
 Short = (f : Frame) (m : Io) → length (reply f m) ≤ 19
-
--- as many numbers as sizes, and each fits into as many bytes as its size says
-abbrev pub Fit : List ℕ → List ℕ → Type 0
-Fit [] [] = Unit {0}
-Fit [] (x ∷ xs) = ⊥
-Fit (k ∷ ks) [] = ⊥
-Fit (k ∷ ks) (x ∷ xs) = (x < 256 ^ k) × Fit ks xs
 
 -- Every item's number fits into its bytes, so that a reply spells it whole.
 abbrev pub NumbersFit : Type 0

@@ -1,5 +1,5 @@
 -- How a reply is put together (document 01, "Commands of both types", last sentence).
-use Prim.Native.Nat.{ℕ, _+_, _/_, _%_}
+use Prim.Native.Nat.{ℕ, _/_, _%_, _^_, _<_}
 use mathlib.Core.List.{List, [], _∷_, _++_}
 use mathlib.Core.Bool.{Bool, cond, _&&_}
 use lib.ListN.{getD}
@@ -46,3 +46,10 @@ servoSizes = 4 ∷ 1 ∷ 2 ∷ 1 ∷ 4 ∷ 2 ∷ 2 ∷ 1 ∷ []
 
 abbrev pub inoutSizes : List ℕ
 inoutSizes = 2 ∷ 1 ∷ 1 ∷ 1 ∷ 4 ∷ 2 ∷ 2 ∷ 4 ∷ []
+
+-- there is a number for each size, and it fits into that many bytes
+abbrev pub Fit : List ℕ → List ℕ → Type 0
+Fit [] [] = Unit {0}
+Fit [] (x ∷ xs) = ⊥
+Fit (k ∷ ks) [] = ⊥
+Fit (k ∷ ks) (x ∷ xs) = (x < 256 ^ k) × Fit ks xs
