@@ -1,1 +1,8 @@
+pub mod Tables
 pub mod Refused
+pub mod Unchanged
+pub mod Kept
+pub mod Status
+pub mod Chain
+pub mod Room
+pub mod Listed

@@ -1,10 +1,10 @@
 -- Tables of refusals: what a call that was refused, or was not, may use. Assumes nothing.
 use mathlib.Core.Path.{_≡_, refl, sym, ap, _∙_}
-use mathlib.Core.List.{List, [], _∷_}
-use mathlib.Core.Bool.{Bool, true, false, cond, not, _||_}
-use Prim.Native.Nat.{ℕ, _<_, _≤_}
+use mathlib.Core.List.{List}
+use mathlib.Core.Bool.{Bool, true, false, cond, _||_}
+use Prim.Native.Nat.{ℕ, zero, suc, _<_, _≤_}
 use native.Mathlib.Omega.{arith}
-use borrow.Author.Tests.{eq-eqb, ne-eqb, eqb-true, ltb-true, ltb-false, not-false}
+use borrow.Author.Tests.{eq-eqb, ne-eqb, eqb-true, eqb-false, ltb-true, ltb-false, not-false}
 use lib.ListN.{length}
 use lib.Dec.{eqb, ltb}
 use Rattle.layout.specs.Bytes.{pasted}
@@ -13,8 +13,10 @@ use Rattle.modules.specs.Types.{Module, slots}
 use Rattle.network.specs.declared.Called.{Called}
 use Rattle.network.specs.Record.{recordSize, netIn, stored, valid}
 use Rattle.network.specs.Calls.{allKnown, byteOf, calledBy}
-use Rattle.doljurven.specs.Table.{Line, first, setupTable, byteTable, ioSampleTable, outputsTable}
+use Rattle.doljurven.specs.Table.{Line, first, setupTable, byteTable, ioSampleTable, tickTable, outputsTable}
+use Rattle.doljurven.specs.Promises.{Passes}
 use Rattle.doljurven.specs.Calls.{unless, stepOf, byteNumber, byteRecord, byteRoom, byteWritten}
+use Rattle.doljurven.proofs.Tables.{none-applies}
 
 -- by the number that a refusing function gave
 pub refused : {A : Type 0} (ls : List Line) (x y : A) {n : ℕ} → n ≡ first ls → (n ≡ 0 → ⊥) → x ≡ unless ls x y
@@ -23,23 +25,15 @@ refused {A} ls x y e h = sym (ap (λ (t : Bool). cond t y x) (ne-eqb (first ls) 
 pub done : {A : Type 0} (ls : List Line) (x y : A) {n : ℕ} → n ≡ first ls → n ≡ 0 → y ≡ unless ls x y
 done {A} ls x y e h = sym (ap (λ (t : Bool). cond t y x) (eq-eqb (first ls) 0 (sym e ∙ h)))
 
--- where none applies, each does not
-abbrev Numbered : List Line → Type 0
-Numbered [] = Unit {0}
-Numbered (l ∷ ls) = (0 < l .number) × Numbered ls
-
-abbrev NoneApplies : List Line → Type 0
-NoneApplies [] = Unit {0}
-NoneApplies (l ∷ ls) = (l .applies ≡ false) × NoneApplies ls
-
-none-applies : (ls : List Line) → Numbered ls → first ls ≡ 0 → NoneApplies ls
-none-applies [] h e = tt
-none-applies (l ∷ ls) h e = go (l .applies) refl (none-applies ls (h .1))
+-- what holds of a thing refused, and of the thing done, holds of what a call gives
+pub either-way : {A : Type 0} (P : A → Type 0) (ls : List Line) (x y : A) → P x → (Passes ls → P y) → P (unless ls x y)
+either-way P ls x y p q = go (eqb (first ls) 0) refl
   where
-    go : (t : Bool) → l .applies ≡ t → (first ls ≡ 0 → NoneApplies ls) → (l .applies ≡ false) × NoneApplies ls
-    go true q rest = let z = rw q at e in absurd (omega (arith, h .0))
-    go false q rest = (q, rest (rw q at e))
+    go : (t : Bool) → eqb (first ls) 0 ≡ t → P (cond t y x)
+    go true e = q (eqb-true _ _ e)
+    go false e = p
 
+-- a table that refuses nothing
 or-false : (a b : Bool) → (a || b) ≡ false → (a ≡ false) × (b ≡ false)
 or-false false b e = (refl, e)
 or-false true b e = let z : true ≡ false = e in (z, cc)
@@ -48,6 +42,16 @@ pub setup-passes : (net types : List ℕ) → first (setupTable net types) ≡ 0
 setup-passes net types e =
     let n = none-applies (setupTable net types) (omega arith, (omega arith, (omega arith, tt))) e in
     (eqb-true _ _ (not-false _ (n .0)), ltb-false _ _ (or-false (eqb (length types) 0) (ltb 32 (length types)) (n .1 .0) .1), not-false _ (n .1 .1 .0))
+
+pub setup-some : (net types : List ℕ) → first (setupTable net types) ≡ 0 → 1 ≤ length types
+setup-some net types e =
+    let n = none-applies (setupTable net types) (omega arith, (omega arith, (omega arith, tt))) e in
+    let h = eqb-false _ _ (or-false (eqb (length types) 0) (ltb 32 (length types)) (n .1 .0) .0) in
+    positive (length types) h
+  where
+    positive : (k : ℕ) → (k ≡ 0 → ⊥) → 1 ≤ k
+    positive zero h = absurd (h refl)
+    positive (suc k) h = omega arith
 
 pub byte-passes : (net : List ℕ) (mark : ℕ) (room : List ℕ) → first (byteTable net mark room) ≡ 0 → (valid slots net ≡ true) × (608 ≤ length room)
 byte-passes net mark room e =
@@ -59,6 +63,9 @@ pub io-sample-passes : (net : List ℕ) (place inputs : ℕ) → first (ioSample
 io-sample-passes net place inputs e =
     let n = none-applies (ioSampleTable net place inputs) (omega arith, (omega arith, (omega arith, tt))) e in
     (not-false _ (n .0), ltb-true _ _ (not-false _ (n .1 .0)), ltb-false _ _ (n .1 .1 .0))
+
+pub tick-passes : (net : List ℕ) → Passes (tickTable net) → valid slots net ≡ true
+tick-passes net e = let n = none-applies (tickTable net) (omega arith, tt) e in not-false _ (n .0)
 
 pub outputs-passes : (net : List ℕ) (place : ℕ) → first (outputsTable net place) ≡ 0 → (valid slots net ≡ true) × (place < length (netIn slots net .modules))
 outputs-passes net place e =

@@ -5,6 +5,7 @@ use Rattle.modules.specs.Types.{slots}
 use Rattle.doljurven.specs.Calls.{outputsBytes}
 use Rattle.doljurven.specs.Table.{outputsTable}
 use mathlib.Core.Path.{sym, _∙_}
+use native.Mathlib.Omega.{arith}
 use borrow.Author.Needs.{needs}
 use Rattle.doljurven.proofs.nmc_outputs.Statement.{statement}
 use Rattle.doljurven.proofs.nmc_outputs.Tie as tie
@@ -21,7 +22,7 @@ unfolding outputsBytes
 returns c = let a = c .before .before .before .args in (c .before .outputs-refusal .ensures, refused (outputsTable (a .net .now) (a .place)) (a .outputs .now) (outputsAt (netIn slots (a .net .now)) (a .place)) (c .before .outputs-refusal .ensures) (c .if1 .taken))
 
 outputs-requires : tie.Need-outputs-requires
-outputs-requires c κs = let a = c .before .before .before .args in outputs-passes (a .net .now) (a .place) (sym (c .before .outputs-refusal .ensures) ∙ c .if1 .left)
+outputs-requires c κs = let a = c .before .before .before .args in let p = outputs-passes (a .net .now) (a .place) (sym (c .before .outputs-refusal .ensures) ∙ c .if1 .left) in (p .0, omega arith)
 
 returns-2 : tie.Need-returns-2
 unfolding outputsBytes

@@ -1,0 +1,16 @@
+-- Document 01's replay examples, computed. Assumes nothing.
+use mathlib.Core.Path.{refl}
+use Rattle.line.specs.Receive.{taken}
+use Rattle.station.specs.Commands.{asked}
+use Rattle.station.specs.Report.{report, replyOf}
+use Rattle.chain.specs.Chain.{byteStep}
+use Rattle.inout.specs.Commands.{own, request}
+use Rattle.inout.specs.Module.{execute, reply}
+use Rattle.inout.specs.Pins.{blend}
+use Rattle.capture.specs.Text.{decimal, line, badLine}
+use Rattle.capture.specs.Records.{bodyLength, lineByte, netRecord, recordStep, replayed}
+use Rattle.capture.specs.Promises.{Examples}
+
+pub examples : Examples
+unfolding taken asked report replyOf byteStep own request execute reply blend decimal line badLine bodyLength lineByte netRecord recordStep replayed
+examples = (refl, refl, refl)

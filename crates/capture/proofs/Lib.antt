@@ -1,0 +1,8 @@
+pub mod Text
+pub mod Replies
+pub mod Spoken
+pub mod Gathered
+pub mod Fine
+pub mod Turning
+pub mod Whole
+pub mod Examples

@@ -1,0 +1,4 @@
+pub mod Text
+pub mod Records
+pub mod Turns
+pub mod Promises

@@ -1,0 +1,113 @@
+-- A replay in turns, as the code makes it: at most one record a turn, from the bytes of the file that are there. The types gathered and the
+-- network stand in two lent slices.
+use mathlib.Core.Path.{_≡_}
+use Prim.Native.Nat.{ℕ, zero, suc, _+_, _<_, _≤_}
+use mathlib.Core.List.{List, [], _∷_, _++_}
+use mathlib.Core.Bool.{Bool, true, false, cond}
+use lib.ListN.{length, getD, take, drop}
+use lib.Dec.{eqb, ltb}
+use Rattle.layout.specs.Bytes.{pasted, Bytes}
+use Rattle.modules.specs.Types.{slots}
+use Rattle.network.specs.Record.{recordSize, netIn, stored, valid}
+use Rattle.network.specs.Calls.{setUp, allKnown, fresh}
+use Rattle.capture.specs.declared.Place.{Place}
+use Rattle.capture.specs.declared.Turned.{Turned}
+use Rattle.capture.specs.Text.{line, badLine}
+use Rattle.capture.specs.Records.{Stage, gathering, running, Effect, goes, bad, bodyLength, recordStep}
+
+-- 01 Replay file: where a replay begins.
+abbrev pub start : Place
+start = record { offset = 0; count = 0; running = false }
+
+-- 01 Replay file: the stage that the slices hold.
+abbrev pub stageIn : Place → List ℕ → List ℕ → Stage
+stageIn at types net = cond (at .running) (running (netIn slots net)) (gathering (take (at .count) types))
+
+-- What holds of the slices between turns: known types, and from the first module on a valid record, newly set up as long as types are gathered.
+pub record Held (at : Place) (types net : List ℕ) : Type 0 where
+  pub size : length types ≡ 32
+  pub most : at .count ≤ 32
+  pub known : allKnown (take (at .count) types) ≡ true
+  pub long : length net ≡ recordSize
+  pub bytes : Bytes net
+  pub sound : 0 < at .count → valid slots net ≡ true
+  pub newly : at .running ≡ false → 0 < at .count → netIn slots net ≡ setUp (take (at .count) types)
+  pub some : at .running ≡ true → 0 < at .count
+
+-- What a turn comes to: the file is over, the record is not whole and more bytes are wanted, or a record of so many bytes was judged.
+pub data Outcome : Type 0 where
+  over : Outcome
+  wants : Outcome
+  judged : ℕ → Effect → Outcome
+
+-- the bytes of the record at the head of some bytes
+abbrev pub headSize : List ℕ → ℕ
+headSize input = 1 + bodyLength (getD input 0 0)
+
+-- 01 Replay file: a turn on the bytes that are there, of which last says that they are all that is left; a record that is cut is bad.
+unfoldable pub turnStep : Stage → List ℕ → Bool → Outcome
+turnStep stage input last =
+    cond (eqb (length input) 0) (cond last over wants)
+    (cond (ltb (length input) (headSize input)) (cond last (judged 0 bad) wants)
+    (judged (headSize input) (recordStep stage (getD input 0 0) (take (bodyLength (getD input 0 0)) (drop 1 input)))))
+
+-- where a replay is after a record of so many bytes
+abbrev pub placeAfter : ℕ → Stage → Place → Place
+placeAfter size (gathering ts) at = record { offset = at .offset + size; count = length ts; running = false }
+placeAfter size (running n) at = record { offset = at .offset + size; count = at .count; running = true }
+
+-- what a record hands back, and leaves in the slices
+unfoldable pub turned : ℕ → Effect → Place → Turned
+turned size bad at = record { next = at; took = 0; wrote = length (badLine (at .offset)); over = true; wants = false }
+turned size (goes s text) at = record { next = placeAfter size s at; took = size; wrote = length text; over = false; wants = false }
+
+unfoldable pub typesAfter : Effect → List ℕ → List ℕ
+typesAfter bad types = types
+typesAfter (goes (gathering ts) text) types = pasted 0 ts types
+typesAfter (goes (running n) text) types = types
+
+unfoldable pub netAfter : Effect → List ℕ → List ℕ
+netAfter bad net = net
+netAfter (goes (gathering ts) text) net = fresh ts
+netAfter (goes (running n) text) net = stored slots n net
+
+unfoldable pub textAfter : Effect → ℕ → List ℕ
+textAfter bad offset = badLine offset
+textAfter (goes s text) offset = text
+
+-- the same for a turn
+unfoldable pub turnedBy : Outcome → Place → Turned
+turnedBy over at = record { next = at; took = 0; wrote = 0; over = true; wants = false }
+turnedBy wants at = record { next = at; took = 0; wrote = 0; over = false; wants = true }
+turnedBy (judged size e) at = turned size e at
+
+unfoldable pub typesBy : Outcome → List ℕ → List ℕ
+typesBy over types = types
+typesBy wants types = types
+typesBy (judged size e) types = typesAfter e types
+
+unfoldable pub netBy : Outcome → List ℕ → List ℕ
+netBy over net = net
+netBy wants net = net
+netBy (judged size e) net = netAfter e net
+
+unfoldable pub textBy : Outcome → ℕ → List ℕ
+textBy over offset = []
+textBy wants offset = []
+textBy (judged size e) offset = textAfter e offset
+
+-- What a caller needs to go on: a turn takes at most 11 bytes, and no more than there are; the text fits into 1,920.
+pub record Within (r : Turned) (from there : ℕ) : Type 0 where
+  pub offset : r .next .offset ≤ from + 11
+  pub took : r .took ≤ there
+  pub wrote : r .wrote ≤ 1920
+
+-- what the code prints of the replies in a room, by the lengths of what each place said: of k places from one on, whose bytes begin at a place
+abbrev pub replyText : ℕ → List ℕ → List ℕ
+replyText place [] = []
+replyText place (b ∷ bs) = line place (b ∷ bs)
+
+unfoldable pub printed : ℕ → ℕ → ℕ → List ℕ → List ℕ → List ℕ
+printed zero place at lengths room = []
+printed (suc k) place at lengths room =
+    replyText place (take (getD lengths place 0) (drop at room)) ++ printed k (place + 1) (at + getD lengths place 0) lengths room

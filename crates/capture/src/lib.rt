@@ -1,0 +1,372 @@
+// A replay file's records, taken one after another, and the text that they print. The bytes of the file come in parts; the types of the modules
+// and the network stand in lent slices.
+ghost use mathlib.Core.Path.{_≡_};
+ghost use mathlib.Core.Bool.{true, false, cond};
+ghost use mathlib.Core.List.{_∷_, []};
+ghost use Prim.Native.Nat.{ℕ, _+_, _*_, _^_, _≤_, _<_};
+ghost use lib.ListN.{length, getD};
+ghost use Rattle.layout.specs.Bytes.{pasted};
+ghost use Rattle.modules.specs.Types.{slots};
+ghost use Rattle.network.specs.Record.{netIn, stored, valid};
+ghost use Rattle.network.specs.Calls.{tickStep};
+ghost use Rattle.capture.specs.Text.{space, hexDigit, hexPair, hexes, decimal, line, badLine};
+ghost use Rattle.capture.specs.Records.{bad, goes, running, bodyLength, moduleRecord, lineByte, sampleIn, ioSample, netRecord, recordStep};
+ghost use Rattle.capture.specs.Turns.{start, stageIn, Held, Within, over, wants, judged, turnStep, turned, typesAfter, netAfter, textAfter, turnedBy, typesBy, netBy, textBy, replyText, printed};
+use inout::Sample;
+
+// Where a replay is: the offset of the next record, how many modules there are, and whether another kind has come.
+pub struct Place {
+    pub offset: u64,
+    pub count: usize,
+    pub running: bool,
+}
+
+// What a turn hands back: where the replay is then, how many bytes it took and how many it wrote, whether the replay is over, and whether the
+// record at the head is not whole.
+pub struct Turned {
+    pub next: Place,
+    pub took: usize,
+    pub wrote: usize,
+    pub over: bool,
+    pub wants: bool,
+}
+
+fn hex_digit(d: u8) -> u8
+    requires { ⌜ d < 16 ⌝ }
+    ensures { λ r. ⌜ r ≡ hexDigit d ⌝ }
+{
+    if d < 10 { 48 + d } else { 55 + d }
+}
+
+// A space and a byte's two digits.
+fn put_pair(out: &mut [u8], at: usize, b: u8)
+    requires { ⌜ at + 3 ≤ length (now out) ⌝ }
+    ensures { λ _. ⌜ now (out .exit) ≡ pasted at (space ∷ hexPair b) (now (out .entry)) ⌝ }
+{
+    let text = [b' ', hex_digit(b / 16), hex_digit(b % 16)];
+    layout::put_all(out, at, &text);
+}
+
+// The bytes of a reply, as the line shows them.
+fn put_pairs(out: &mut [u8], at: usize, bytes: &[u8])
+    requires { ⌜ at + 3 * length (now bytes) ≤ length (now out) ⌝ }
+    ensures { λ _. ⌜ now (out .exit) ≡ pasted at (hexes (now (bytes .entry))) (now (out .entry)) ⌝ }
+{
+    let mut place = at;
+    let mut i = 0;
+    while i < bytes.len() {
+        put_pair(out, place, bytes[i]);
+        place += 3;
+        i += 1;
+    }
+}
+
+// A number in decimal; how many digits it has.
+fn put_decimal(out: &mut [u8], at: usize, n: u64) -> usize
+    requires { ⌜ at + length (decimal n) ≤ length (now out) ⌝ }
+    ensures { λ r. ⌜ r ≡ length (decimal n) ⌝ }
+    ensures { λ _. ⌜ now (out .exit) ≡ pasted at (decimal n) (now (out .entry)) ⌝ }
+{
+    let mut digits = [0u8; 20];
+    digits[19] = 48 + (n % 10) as u8;
+    let mut rest = n / 10;
+    let mut i: usize = 19;
+    while 0 < rest {
+        i -= 1;
+        digits[i] = 48 + (rest % 10) as u8;
+        rest = rest / 10;
+    }
+    layout::put_all(out, at, &digits[i..]);
+    20 - i
+}
+
+// The line of a reply.
+fn put_line(out: &mut [u8], at: usize, place: usize, bytes: &[u8]) -> usize
+    requires { ⌜ (place < 32) × (length (now bytes) ≤ 19) × (at + 60 ≤ length (now out)) ⌝ }
+    ensures { λ r. ⌜ r ≡ length (line place (now (bytes .entry))) ⌝ }
+    ensures { λ _. ⌜ now (out .exit) ≡ pasted at (line place (now (bytes .entry))) (now (out .entry)) ⌝ }
+{
+    let n = put_decimal(out, at, place as u64);
+    put_pairs(out, at + n, bytes);
+    let end = n + 3 * bytes.len();
+    out[at + end] = b'\n';
+    end + 1
+}
+
+// A place that says nothing has no line.
+fn put_reply(out: &mut [u8], at: usize, place: usize, bytes: &[u8]) -> usize
+    requires { ⌜ (place < 32) × (length (now bytes) ≤ 19) × (at + 60 ≤ length (now out)) ⌝ }
+    ensures { λ r. ⌜ r ≡ length (replyText place (now (bytes .entry))) ⌝ }
+    ensures { λ _. ⌜ now (out .exit) ≡ pasted at (replyText place (now (bytes .entry))) (now (out .entry)) ⌝ }
+{
+    if bytes.len() == 0 {
+        return 0;
+    }
+    put_line(out, at, place, bytes)
+}
+
+// The lines of the replies that stand in a room one after another; how many bytes they have.
+fn put_replies(lengths: [u8; 32], room: &[u8], out: &mut [u8]) -> usize
+    requires { ⌜ ((i : ℕ) → getD lengths i 0 ≤ 19) ⌝ }
+    requires { ⌜ (608 ≤ length (now room)) × (1920 ≤ length (now out)) ⌝ }
+    ensures { λ r. ⌜ r ≡ length (printed 32 0 0 lengths (now (room .entry))) ⌝ }
+    ensures { λ _. ⌜ now (out .exit) ≡ pasted 0 (printed 32 0 0 lengths (now (room .entry))) (now (out .entry)) ⌝ }
+{
+    let mut wrote: usize = 0;
+    let mut at: usize = 0;
+    let mut place: usize = 0;
+    let mut left: usize = 32;
+    while 0 < left {
+        let end = at + lengths[place] as usize;
+        wrote += put_reply(out, wrote, place, &room[at..end]);
+        at = end;
+        place += 1;
+        left -= 1;
+    }
+    wrote
+}
+
+impl Place {
+    // Before the file's first byte.
+    pub fn start() -> Self
+        ensures { λ r. ⌜ r ≡ start ⌝ }
+    {
+        Place {
+            offset: 0,
+            count: 0,
+            running: false,
+        }
+    }
+
+    // The record at the head is bad: the last line, and the end.
+    fn bad(self, out: &mut [u8]) -> Turned
+        requires { ⌜ (self .offset < 2 ^ 64) × (25 ≤ length (now out)) ⌝ }
+        ensures { λ r. ⌜ r ≡ turned 0 bad self ⌝ }
+        ensures { λ _. ⌜ now (out .exit) ≡ pasted 0 (badLine (self .offset)) (now (out .entry)) ⌝ }
+    {
+        layout::put_all(out, 0, b"bad ");
+        let n = put_decimal(out, 4, self.offset);
+        out[4 + n] = b'\n';
+        Turned {
+            next: self,
+            took: 0,
+            wrote: n + 5,
+            over: true,
+            wants: false,
+        }
+    }
+
+    // No record at all: the end of the file, or more bytes are wanted.
+    fn waits(self, last: bool) -> Turned
+        ensures { λ r. ⌜ r ≡ turnedBy (cond last over wants) self ⌝ }
+    {
+        Turned {
+            next: self,
+            took: 0,
+            wrote: 0,
+            over: last,
+            wants: !last,
+        }
+    }
+
+    // A record that is not whole: bad if the file ends there.
+    fn cut(self, last: bool, out: &mut [u8]) -> Turned
+        requires { ⌜ (self .offset < 2 ^ 64) × (25 ≤ length (now out)) ⌝ }
+        ensures { λ r. ⌜ r ≡ turnedBy (cond last (judged 0 bad) wants) self ⌝ }
+        ensures { λ _. ⌜ now (out .exit) ≡ pasted 0 (textBy (cond last (judged 0 bad) wants) (self .offset)) (now (out .entry)) ⌝ }
+    {
+        if last {
+            return self.bad(out);
+        }
+        self.waits(false)
+    }
+
+    // A record of so many bytes was taken by the network.
+    fn went(mut self, size: u8, wrote: usize) -> Turned
+        requires { ⌜ self .offset + size < 2 ^ 64 ⌝ }
+        ensures { λ r. ⌜ r ≡ record { next = record { offset = self .offset + size; count = self .count; running = true }; took = size; wrote = wrote; over = false; wants = false } ⌝ }
+    {
+        self.offset += size as u64;
+        self.running = true;
+        Turned {
+            next: self,
+            took: size as usize,
+            wrote,
+            over: false,
+            wants: false,
+        }
+    }
+}
+
+// How many bytes follow a kind byte.
+fn body_len(kind: u8) -> usize
+    ensures { λ r. ⌜ r ≡ bodyLength kind ⌝ }
+{
+    match kind {
+        0 => 1,
+        1 => 2,
+        2 => 7,
+        3 => 10,
+        _ => 0,
+    }
+}
+
+// A module. The network is set up anew for each, so that it stands ready when another kind comes.
+fn take_module(at: Place, t: u8, types: &mut [u8], net: &mut [u8], out: &mut [u8]) -> Turned
+    requires { ⌜ Held at (now types) (now net) ⌝ }
+    requires { ⌜ (at .offset + 11 < 2 ^ 64) × (1920 ≤ length (now out)) ⌝ }
+    ensures { λ r. ⌜ r ≡ turned 2 (moduleRecord (stageIn at (now (types .entry)) (now (net .entry))) t) at ⌝ }
+    ensures { λ _. ⌜ now (types .exit) ≡ typesAfter (moduleRecord (stageIn at (now (types .entry)) (now (net .entry))) t) (now (types .entry)) ⌝ }
+    ensures { λ _. ⌜ now (net .exit) ≡ netAfter (moduleRecord (stageIn at (now (types .entry)) (now (net .entry))) t) (now (net .entry)) ⌝ }
+    ensures { λ _. ⌜ now (out .exit) ≡ pasted 0 (textAfter (moduleRecord (stageIn at (now (types .entry)) (now (net .entry))) t) (at .offset)) (now (out .entry)) ⌝ }
+{
+    let n = at.count;
+    if at.running | (32 <= n) | !modules::is_known(t) {
+        return at.bad(out);
+    }
+    types[n] = t;
+    let count = n + 1;
+    network::set_up(net, &types[..count]);
+    Turned {
+        next: Place {
+            offset: at.offset + 2,
+            count,
+            running: false,
+        },
+        took: 2,
+        wrote: 0,
+        over: false,
+        wants: false,
+    }
+}
+
+// A line byte, and the lines of the replies that it draws.
+fn take_byte(at: Place, body: &[u8], net: &mut [u8], out: &mut [u8]) -> Turned
+    requires { ⌜ (valid slots (now net) ≡ true) × (length (now body) ≡ 2) ⌝ }
+    requires { ⌜ (at .offset + 11 < 2 ^ 64) × (1920 ≤ length (now out)) ⌝ }
+    ensures { λ r. ⌜ r ≡ turned 3 (lineByte (netIn slots (now (net .entry))) (getD (now (body .entry)) 0 0) (getD (now (body .entry)) 1 0)) at ⌝ }
+    ensures { λ _. ⌜ now (net .exit) ≡ netAfter (lineByte (netIn slots (now (net .entry))) (getD (now (body .entry)) 0 0) (getD (now (body .entry)) 1 0)) (now (net .entry)) ⌝ }
+    ensures { λ _. ⌜ now (out .exit) ≡ pasted 0 (textAfter (lineByte (netIn slots (now (net .entry))) (getD (now (body .entry)) 0 0) (getD (now (body .entry)) 1 0)) (at .offset)) (now (out .entry)) ⌝ }
+{
+    let mark = body[0];
+    let value = body[1];
+    if 1 < mark {
+        return at.bad(out);
+    }
+    let mut room = [0u8; 608];
+    let called = network::byte(net, value, mark == 1, &mut room);
+    let lengths = called.lengths;
+    let wrote = put_replies(lengths, &room, out);
+    at.went(3, wrote)
+}
+
+fn sample_in(body: &[u8]) -> Sample
+    requires { ⌜ length (now body) ≡ 10 ⌝ }
+    ensures { λ r. ⌜ r ≡ sampleIn (now (body .entry)) ⌝ }
+{
+    Sample {
+        inputs: layout::get2(body, 1),
+        ad1: body[3],
+        ad2: body[4],
+        ad3: body[5],
+        counter: layout::get4(body, 6),
+    }
+}
+
+// A sample for an I/O module.
+fn take_io_sample(at: Place, body: &[u8], net: &mut [u8], out: &mut [u8]) -> Turned
+    requires { ⌜ (valid slots (now net) ≡ true) × (length (now body) ≡ 10) ⌝ }
+    requires { ⌜ (at .offset + 11 < 2 ^ 64) × (1920 ≤ length (now out)) ⌝ }
+    ensures { λ r. ⌜ r ≡ turned 11 (ioSample (netIn slots (now (net .entry))) (now (body .entry))) at ⌝ }
+    ensures { λ _. ⌜ now (net .exit) ≡ netAfter (ioSample (netIn slots (now (net .entry))) (now (body .entry))) (now (net .entry)) ⌝ }
+    ensures { λ _. ⌜ now (out .exit) ≡ pasted 0 (textAfter (ioSample (netIn slots (now (net .entry))) (now (body .entry))) (at .offset)) (now (out .entry)) ⌝ }
+{
+    let place = body[0];
+    let x = sample_in(body);
+    if (place < network::chain_len(net)) & (x.inputs < 4096) {
+        network::put_io_sample(net, place as usize, x);
+        return at.went(11, 0);
+    }
+    at.bad(out)
+}
+
+fn take_tick(at: Place, net: &mut [u8]) -> Turned
+    requires { ⌜ (valid slots (now net) ≡ true) × (at .offset + 11 < 2 ^ 64) ⌝ }
+    ensures { λ r. ⌜ r ≡ turned 1 (goes (running (tickStep (netIn slots (now (net .entry))))) []) at ⌝ }
+    ensures { λ _. ⌜ now (net .exit) ≡ stored slots (tickStep (netIn slots (now (net .entry)))) (now (net .entry)) ⌝ }
+{
+    network::tick(net);
+    at.went(1, 0)
+}
+
+// A record of any kind but a module, at a network that is set up.
+fn take_other(at: Place, kind: u8, body: &[u8], net: &mut [u8], out: &mut [u8]) -> Turned
+    requires { ⌜ (valid slots (now net) ≡ true) × (length (now body) ≡ bodyLength kind) ⌝ }
+    requires { ⌜ (at .offset + 11 < 2 ^ 64) × (1920 ≤ length (now out)) ⌝ }
+    ensures { λ r. ⌜ r ≡ turned (1 + bodyLength kind) (netRecord kind (netIn slots (now (net .entry))) (now (body .entry))) at ⌝ }
+    ensures { λ _. ⌜ now (net .exit) ≡ netAfter (netRecord kind (netIn slots (now (net .entry))) (now (body .entry))) (now (net .entry)) ⌝ }
+    ensures { λ _. ⌜ now (out .exit) ≡ pasted 0 (textAfter (netRecord kind (netIn slots (now (net .entry))) (now (body .entry))) (at .offset)) (now (out .entry)) ⌝ }
+{
+    match kind {
+        1 => take_byte(at, body, net, out),
+        // No chain has a servo yet.
+        2 => at.bad(out),
+        3 => take_io_sample(at, body, net, out),
+        4 => take_tick(at, net),
+        _ => at.bad(out),
+    }
+}
+
+// A whole record.
+fn take_record(
+    at: Place,
+    kind: u8,
+    body: &[u8],
+    types: &mut [u8],
+    net: &mut [u8],
+    out: &mut [u8],
+) -> Turned
+    requires { ⌜ Held at (now types) (now net) ⌝ }
+    requires { ⌜ (length (now body) ≡ bodyLength kind) × (at .offset + 11 < 2 ^ 64) × (1920 ≤ length (now out)) ⌝ }
+    ensures { λ r. ⌜ r ≡ turned (1 + bodyLength kind) (recordStep (stageIn at (now (types .entry)) (now (net .entry))) kind (now (body .entry))) at ⌝ }
+    ensures { λ _. ⌜ now (types .exit) ≡ typesAfter (recordStep (stageIn at (now (types .entry)) (now (net .entry))) kind (now (body .entry))) (now (types .entry)) ⌝ }
+    ensures { λ _. ⌜ now (net .exit) ≡ netAfter (recordStep (stageIn at (now (types .entry)) (now (net .entry))) kind (now (body .entry))) (now (net .entry)) ⌝ }
+    ensures { λ _. ⌜ now (out .exit) ≡ pasted 0 (textAfter (recordStep (stageIn at (now (types .entry)) (now (net .entry))) kind (now (body .entry))) (at .offset)) (now (out .entry)) ⌝ }
+{
+    if kind == 0 {
+        return take_module(at, body[0], types, net, out);
+    }
+    if at.count == 0 {
+        return at.bad(out);
+    }
+    take_other(at, kind, body, net, out)
+}
+
+// A turn: at most one record, from the head of the bytes that are there; last says that the file has no more.
+pub fn turn(
+    at: Place,
+    types: &mut [u8],
+    net: &mut [u8],
+    input: &[u8],
+    last: bool,
+    out: &mut [u8],
+) -> Turned
+    requires { ⌜ Held at (now types) (now net) ⌝ }
+    requires { ⌜ (at .offset + 11 < 2 ^ 64) × (1920 ≤ length (now out)) ⌝ }
+    ensures { λ r. ⌜ r ≡ turnedBy (turnStep (stageIn at (now (types .entry)) (now (net .entry))) (now (input .entry)) last) at ⌝ }
+    ensures { λ _. ⌜ now (types .exit) ≡ typesBy (turnStep (stageIn at (now (types .entry)) (now (net .entry))) (now (input .entry)) last) (now (types .entry)) ⌝ }
+    ensures { λ _. ⌜ now (net .exit) ≡ netBy (turnStep (stageIn at (now (types .entry)) (now (net .entry))) (now (input .entry)) last) (now (net .entry)) ⌝ }
+    ensures { λ _. ⌜ now (out .exit) ≡ pasted 0 (textBy (turnStep (stageIn at (now (types .entry)) (now (net .entry))) (now (input .entry)) last) (at .offset)) (now (out .entry)) ⌝ }
+    ensures { λ r. ⌜ Held (r .next) (now (types .exit)) (now (net .exit)) ⌝ }
+    ensures { λ r. ⌜ Within r (at .offset) (length (now (input .entry))) ⌝ }
+{
+    if input.len() == 0 {
+        return at.waits(last);
+    }
+    let kind = input[0];
+    let size = 1 + body_len(kind);
+    if input.len() < size {
+        return at.cut(last, out);
+    }
+    take_record(at, kind, &input[1..size], types, net, out)
+}
