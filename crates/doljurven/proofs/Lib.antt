@@ -1,5 +1,6 @@
 pub mod Tables
 pub mod Refused
+pub mod Numbers
 pub mod Unchanged
 pub mod Kept
 pub mod Status

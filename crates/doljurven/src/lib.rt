@@ -1,10 +1,11 @@
 // The calls for the board's C code. Each refuses what its table says, in the table's order, and changes nothing then.
 ghost use mathlib.Core.Path.{_≡_};
 ghost use lib.ListN.{length};
+ghost use Rattle.layout.specs.Bytes.{pasted};
 ghost use Rattle.host.specs.Writing.{writtenOf, roomAfter};
 ghost use Rattle.host.specs.Reading.{statusOf};
 ghost use Rattle.doljurven.specs.Table.{first, setupTable, byteTable, ioSampleTable, tickTable, outputsTable};
-ghost use Rattle.doljurven.specs.Calls.{setupRecord, byteNumber, byteRecord, byteRoom, byteWritten, ioSampleRecord, tickRecord, outputsBytes, readingBytes, sampleOf};
+ghost use Rattle.doljurven.specs.Calls.{setupRecord, byteNumber, byteRecord, byteRoom, byteWritten, ioSampleRecord, tickRecord, outputsBytes, numbersBytes, readingBytes, sampleOf};
 use host::Reading;
 use inout::Sample;
 
@@ -177,45 +178,28 @@ pub extern "C" fn nmc_write_frame(
     w.number
 }
 
+// Puts eight numbers of four bytes into a reading, behind its status byte.
+fn put_numbers(s: &mut [u8], ns: [u32; 8])
+    requires { ⌜ length (now s) ≡ 33 ⌝ }
+    ensures { λ _. ⌜ now (s .exit) ≡ pasted 1 (numbersBytes 8 0 ns) (now (s .entry)) ⌝ }
+{
+    let mut at: usize = 1;
+    let mut i: usize = 0;
+    while i < 8 {
+        layout::put_number(s, at, 4, ns[i]);
+        at += 4;
+        i += 1;
+    }
+}
+
 fn reading_bytes(r: Reading) -> [u8; 33]
     ensures { λ s. ⌜ s ≡ readingBytes r ⌝ }
 {
-    let n = r.numbers;
-    [
-        r.status,
-        (n[0] % 256) as u8,
-        (n[0] / 256 % 256) as u8,
-        (n[0] / 256 / 256 % 256) as u8,
-        (n[0] / 256 / 256 / 256 % 256) as u8,
-        (n[1] % 256) as u8,
-        (n[1] / 256 % 256) as u8,
-        (n[1] / 256 / 256 % 256) as u8,
-        (n[1] / 256 / 256 / 256 % 256) as u8,
-        (n[2] % 256) as u8,
-        (n[2] / 256 % 256) as u8,
-        (n[2] / 256 / 256 % 256) as u8,
-        (n[2] / 256 / 256 / 256 % 256) as u8,
-        (n[3] % 256) as u8,
-        (n[3] / 256 % 256) as u8,
-        (n[3] / 256 / 256 % 256) as u8,
-        (n[3] / 256 / 256 / 256 % 256) as u8,
-        (n[4] % 256) as u8,
-        (n[4] / 256 % 256) as u8,
-        (n[4] / 256 / 256 % 256) as u8,
-        (n[4] / 256 / 256 / 256 % 256) as u8,
-        (n[5] % 256) as u8,
-        (n[5] / 256 % 256) as u8,
-        (n[5] / 256 / 256 % 256) as u8,
-        (n[5] / 256 / 256 / 256 % 256) as u8,
-        (n[6] % 256) as u8,
-        (n[6] / 256 % 256) as u8,
-        (n[6] / 256 / 256 % 256) as u8,
-        (n[6] / 256 / 256 / 256 % 256) as u8,
-        (n[7] % 256) as u8,
-        (n[7] / 256 % 256) as u8,
-        (n[7] / 256 / 256 % 256) as u8,
-        (n[7] / 256 / 256 / 256 % 256) as u8,
-    ]
+    let ns = r.numbers;
+    let mut s = [0u8; 33];
+    s[0] = r.status;
+    put_numbers(&mut s, ns);
+    s
 }
 
 // Takes a reply apart: 0, or 12, 18, 19 with a reading of zeros.
