@@ -1,9 +1,11 @@
 // The I/O module, type 2 version 1: what it is by value, what frames, samples and ticks make of it, and its bytes in a slot.
 ghost use mathlib.Core.Path.{_≡_};
 ghost use Prim.Native.Nat.{_+_, _≤_};
+ghost use mathlib.Core.List.{_∷_, _++_};
 ghost use lib.ListN.{length, getD};
 ghost use Rattle.layout.specs.Bytes.{pasted};
 ghost use Rattle.station.specs.Touch.{frameOf};
+ghost use Rattle.station.specs.Slot.{station};
 ghost use Rattle.chain.specs.Chain.{executed, replied};
 ghost use Rattle.inout.specs.Pins.{bitsOf, blend};
 ghost use Rattle.inout.specs.Commands.{counted, own, request};
@@ -421,55 +423,84 @@ pub fn decode(s: &[u8]) -> Io
     }
 }
 
-// The module's bytes, from the slot's start on.
-pub fn encode(m: Io) -> [u8; 43]
-    ensures { λ r. ⌜ r ≡ encodeOf m ⌝ }
+// A slot begins with the type and the station.
+fn head_bytes(s: Station) -> [u8; 8]
+    ensures { λ r. ⌜ r ≡ 2 ∷ station .codec .enc s ⌝ }
 {
     [
         2,
-        m.station.address.individual,
-        m.station.address.group,
-        m.station.address.leader as u8,
-        m.station.address.low as u8,
-        m.station.cause,
-        m.station.items,
-        m.station.baud,
-        (m.waiting.inputs % 256) as u8,
-        (m.waiting.inputs / 256 % 256) as u8,
-        m.waiting.ad1,
-        m.waiting.ad2,
-        m.waiting.ad3,
-        (m.waiting.counter % 256) as u8,
-        (m.waiting.counter / 256 % 256) as u8,
-        (m.waiting.counter / 256 / 256 % 256) as u8,
-        (m.waiting.counter / 256 / 256 / 256 % 256) as u8,
-        (m.latched.inputs % 256) as u8,
-        (m.latched.inputs / 256 % 256) as u8,
-        m.latched.ad1,
-        m.latched.ad2,
-        m.latched.ad3,
-        (m.latched.counter % 256) as u8,
-        (m.latched.counter / 256 % 256) as u8,
-        (m.latched.counter / 256 / 256 % 256) as u8,
-        (m.latched.counter / 256 / 256 / 256 % 256) as u8,
-        (m.pins.direction % 256) as u8,
-        (m.pins.direction / 256 % 256) as u8,
-        (m.pins.register % 256) as u8,
-        (m.pins.register / 256 % 256) as u8,
-        m.pins.pwm1,
-        m.pins.pwm2,
-        (m.synch.bits % 256) as u8,
-        (m.synch.bits / 256 % 256) as u8,
-        m.synch.pwm1,
-        m.synch.pwm2,
-        m.timer,
-        (m.captured.inputs % 256) as u8,
-        (m.captured.inputs / 256 % 256) as u8,
-        (m.captured.counter % 256) as u8,
-        (m.captured.counter / 256 % 256) as u8,
-        (m.captured.counter / 256 / 256 % 256) as u8,
-        (m.captured.counter / 256 / 256 / 256 % 256) as u8,
+        s.address.individual,
+        s.address.group,
+        s.address.leader as u8,
+        s.address.low as u8,
+        s.cause,
+        s.items,
+        s.baud,
     ]
+}
+
+fn sample_bytes(x: Sample) -> [u8; 9]
+    ensures { λ r. ⌜ r ≡ sample .codec .enc x ⌝ }
+{
+    [
+        (x.inputs % 256) as u8,
+        (x.inputs / 256 % 256) as u8,
+        x.ad1,
+        x.ad2,
+        x.ad3,
+        (x.counter % 256) as u8,
+        (x.counter / 256 % 256) as u8,
+        (x.counter / 256 / 256 % 256) as u8,
+        (x.counter / 256 / 256 / 256 % 256) as u8,
+    ]
+}
+
+fn outputs_bytes(p: Pins, y: Synch) -> [u8; 10]
+    ensures { λ r. ⌜ r ≡ pins .codec .enc p ++ synch .codec .enc y ⌝ }
+{
+    [
+        (p.direction % 256) as u8,
+        (p.direction / 256 % 256) as u8,
+        (p.register % 256) as u8,
+        (p.register / 256 % 256) as u8,
+        p.pwm1,
+        p.pwm2,
+        (y.bits % 256) as u8,
+        (y.bits / 256 % 256) as u8,
+        y.pwm1,
+        y.pwm2,
+    ]
+}
+
+fn capture_bytes(timer: u8, k: Capture) -> [u8; 7]
+    ensures { λ r. ⌜ r ≡ timer ∷ capture .codec .enc k ⌝ }
+{
+    [
+        timer,
+        (k.inputs % 256) as u8,
+        (k.inputs / 256 % 256) as u8,
+        (k.counter % 256) as u8,
+        (k.counter / 256 % 256) as u8,
+        (k.counter / 256 / 256 % 256) as u8,
+        (k.counter / 256 / 256 / 256 % 256) as u8,
+    ]
+}
+
+// Puts a module into a slot, from the slot's start on.
+pub fn put(s: &mut [u8], m: Io)
+    requires { ⌜ 43 ≤ length (now s) ⌝ }
+    ensures { λ _. ⌜ now (s .exit) ≡ pasted 0 (encodeOf m) (now (s .entry)) ⌝ }
+{
+    let head = head_bytes(m.station);
+    let waiting = sample_bytes(m.waiting);
+    let latched = sample_bytes(m.latched);
+    let outputs = outputs_bytes(m.pins, m.synch);
+    let captured = capture_bytes(m.timer, m.captured);
+    layout::put_all(s, 0, &head);
+    layout::put_all(s, 8, &waiting);
+    layout::put_all(s, 17, &latched);
+    layout::put_all(s, 26, &outputs);
+    layout::put_all(s, 36, &captured);
 }
 
 // Whether a slot holds a valid I/O module: its type byte, its station, and twelve-bit numbers below 4,096.
@@ -487,15 +518,6 @@ pub fn is_ok(s: &[u8]) -> bool
         & (s[29] <= 15)
         & (s[33] <= 15)
         & (s[38] <= 15)
-}
-
-// Puts a module into a slot.
-pub fn put(s: &mut [u8], m: Io)
-    requires { ⌜ 43 ≤ length (now s) ⌝ }
-    ensures { λ _. ⌜ now (s .exit) ≡ pasted 0 (encodeOf m) (now (s .entry)) ⌝ }
-{
-    let bytes = encode(m);
-    layout::put_all(s, 0, &bytes);
 }
 
 // A frame that touches the module in a slot: the module after it, and its reply in the room from place from on; how many bytes that has.

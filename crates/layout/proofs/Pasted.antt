@@ -43,6 +43,15 @@ pasted-twice at xs ys s h =
     sym (drop-drop (length ys) (at + length xs) p) ∙ ap (drop (length ys)) d ∙ drop-drop (length ys) (at + length xs) s ∙ ap (λ (i : ℕ). drop i s) i in
     rw (t, e, take-length ys, take-length (xs ++ ys)) (simp append-assoc)
 
+-- a part put behind those that were put from the start on
+pub put-next : (done x s : List ℕ) (at : ℕ) {s′ s″ : List ℕ} → length done ≡ at → at + length x ≤ length s
+    → s′ ≡ pasted 0 done s → s″ ≡ pasted at x s′ → s″ ≡ pasted 0 (done ++ x) s
+put-next done x s at l h e f =
+    f
+    ∙ ap (pasted at x) e
+    ∙ ap (λ (k : ℕ). pasted k x (pasted 0 done s)) (sym l ∙ sym (zero-add (length done)))
+    ∙ pasted-twice 0 done x s (omega arith)
+
 -- one byte
 pub pasted-one : (at b : ℕ) (s : List ℕ) → at < length s → set s at b ≡ pasted at (b ∷ []) s
 pasted-one at b s h = rw (set-split s at b h, add-one at) (sym (append-snoc (take at s) b (drop (suc at) s)))
