@@ -10,7 +10,7 @@ use Rattle.capture.specs.declared.Place.{Place}
 use Rattle.capture.specs.Records.{Stage, replayed}
 use Rattle.capture.specs.Turns.{start, stageIn, headSize, turnStep, turnedBy, typesBy, netBy, textBy}
 
--- A run of turns over the bytes that are left of a file, and all that it prints. Each turn is handed some of the bytes left, from the first on, as
+-- 01 Replay file: a run of turns over the bytes that are left of a file, and all that it prints. Each turn is handed some of the bytes left, from the first on, as
 -- many as the caller likes; that they are the last is said only of all of them. What it hands back and leaves in the slices goes into the next turn.
 pub data Run : Place → List ℕ → List ℕ → List ℕ → List ℕ → Type 0 where
   stops : {at : Place} {types net : List ℕ} (input more : List ℕ) (last : Bool)
@@ -24,7 +24,7 @@ pub data Run : Place → List ℕ → List ℕ → List ℕ → List ℕ → Typ
       (netBy (turnStep (stageIn at types net) input last) net) (drop (turnedBy (turnStep (stageIn at types net) input last) at .took) (input ++ more)) text
       → Run at types net (input ++ more) (textBy (turnStep (stageIn at types net) input last) (at .offset) ++ text)
 
--- In whatever pieces a file is handed over, and whatever the slices held before: a run over all of it prints what document 01 says.
+-- 01 Replay file: in whatever pieces a file is handed over, and whatever the slices held before: a run over all of it prints what document 01 says.
 abbrev pub Whole : Type 0
 Whole =
     (types net file text : List ℕ)
@@ -35,7 +35,7 @@ Whole =
     → Run start types net file text
     → text ≡ replayed file
 
--- There is such a run for every file: with all the bytes left at each turn.
+-- 01 Replay file: there is such a run for every file: with all the bytes left at each turn.
 abbrev pub Ends : Type 0
 Ends =
     (types net file : List ℕ)
@@ -45,7 +45,7 @@ Ends =
     → Bytes file
     → Run start types net file (replayed file)
 
--- A turn that is handed the whole record at the head does not look at what follows it, nor at whether anything does.
+-- 01 Replay file: a turn that is handed the whole record at the head does not look at what follows it, nor at whether anything does.
 abbrev pub HeadOnly : Type 0
 HeadOnly =
     (s : Stage) (input more : List ℕ) (last end : Bool)
@@ -53,7 +53,7 @@ HeadOnly =
     → headSize input ≤ length input
     → turnStep s (input ++ more) end ≡ turnStep s input last
 
--- Document 01's own examples, for type 2.
+-- 01 Replay file: its own examples for type 2, and the empty file.
 abbrev pub Examples : Type 0
 Examples =
     (replayed (0 ∷ 2 ∷ 1 ∷ 0 ∷ 0xAA ∷ 1 ∷ 0 ∷ 0 ∷ 1 ∷ 0 ∷ 0x0E ∷ 1 ∷ 0 ∷ 0x0E ∷ []) ≡ 48 ∷ 32 ∷ 48 ∷ 48 ∷ 32 ∷ 48 ∷ 48 ∷ 10 ∷ [])

@@ -5,10 +5,11 @@ use mathlib.Core.Bool.{cond}
 use lib.Dec.{eqb, ltb}
 use Rattle.chain.specs.Chain.{Reply}
 
--- 01 Replay file: what parts a line's numbers, and what ends the line.
+-- 01 Replay file: what stands before each byte.
 abbrev pub space : ℕ
 space = 32
 
+-- 01 Replay file: the line's end.
 abbrev pub newline : ℕ
 newline = 10
 
@@ -29,6 +30,7 @@ decimal n = digits n (n / 10) ++ digit (n % 10) ∷ []
 abbrev pub hexDigit : ℕ → ℕ
 hexDigit d = cond (ltb d 10) (48 + d) (55 + d)
 
+-- 01 Replay file: a byte as two hex digits, the upper one first.
 abbrev pub hexPair : ℕ → List ℕ
 hexPair b = hexDigit (b / 16) ∷ hexDigit (b % 16) ∷ []
 

@@ -23,7 +23,7 @@ start = record { offset = 0; count = 0; running = false }
 abbrev pub stageIn : Place → List ℕ → List ℕ → Stage
 stageIn at types net = cond (at .running) (running (netIn slots net)) (gathering (take (at .count) types))
 
--- What holds of the slices between turns: known types, and from the first module on a valid record, newly set up as long as types are gathered.
+-- 01 Numbers given back, 16: what holds of the slices between turns: known types, and from the first module on a valid record, newly set up as long as types are gathered.
 pub record Held (at : Place) (types net : List ℕ) : Type 0 where
   pub size : length types ≡ 32
   pub most : at .count ≤ 32
@@ -34,13 +34,13 @@ pub record Held (at : Place) (types net : List ℕ) : Type 0 where
   pub newly : at .running ≡ false → 0 < at .count → netIn slots net ≡ setUp (take (at .count) types)
   pub some : at .running ≡ true → 0 < at .count
 
--- What a turn comes to: the file is over, the record is not whole and more bytes are wanted, or a record of so many bytes was judged.
+-- 01 Replay file: what a turn comes to: the file is over, the record is not whole and more bytes are wanted, or a record of so many bytes was judged.
 pub data Outcome : Type 0 where
   over : Outcome
   wants : Outcome
   judged : ℕ → Effect → Outcome
 
--- the bytes of the record at the head of some bytes
+-- 01 Replay file: how many bytes the record at the head of some bytes has, its kind byte among them.
 abbrev pub headSize : List ℕ → ℕ
 headSize input = 1 + bodyLength (getD input 0 0)
 
@@ -51,31 +51,34 @@ turnStep stage input last =
     (cond (ltb (length input) (headSize input)) (cond last (judged 0 bad) wants)
     (judged (headSize input) (recordStep stage (getD input 0 0) (take (bodyLength (getD input 0 0)) (drop 1 input)))))
 
--- where a replay is after a record of so many bytes
+-- 01 Replay file: where a replay is after a record of so many bytes.
 abbrev pub placeAfter : ℕ → Stage → Place → Place
 placeAfter size (gathering ts) at = record { offset = at .offset + size; count = length ts; running = false }
 placeAfter size (running n) at = record { offset = at .offset + size; count = at .count; running = true }
 
--- what a record hands back, and leaves in the slices
+-- 01 Replay file: what a record hands back; a bad one ends the run.
 unfoldable pub turned : ℕ → Effect → Place → Turned
 turned size bad at = record { next = at; took = 0; wrote = length (badLine (at .offset)); over = true; wants = false }
 turned size (goes s text) at = record { next = placeAfter size s at; took = size; wrote = length text; over = false; wants = false }
 
+-- 01 Replay file: the slice of types after a record: the types gathered so far stand at its start.
 unfoldable pub typesAfter : Effect → List ℕ → List ℕ
 typesAfter bad types = types
 typesAfter (goes (gathering ts) text) types = pasted 0 ts types
 typesAfter (goes (running n) text) types = types
 
+-- 01 Replay file: the network's record after a record of the file: newly set up after a module, and else with the network as it is then.
 unfoldable pub netAfter : Effect → List ℕ → List ℕ
 netAfter bad net = net
 netAfter (goes (gathering ts) text) net = fresh ts
 netAfter (goes (running n) text) net = stored slots n net
 
+-- 01 Replay file: what is printed for a record.
 unfoldable pub textAfter : Effect → ℕ → List ℕ
 textAfter bad offset = badLine offset
 textAfter (goes s text) offset = text
 
--- the same for a turn
+-- 01 Replay file: what a turn hands back, and then what it leaves in the slices and prints; one that judges no record leaves all as it was.
 unfoldable pub turnedBy : Outcome → Place → Turned
 turnedBy over at = record { next = at; took = 0; wrote = 0; over = true; wants = false }
 turnedBy wants at = record { next = at; took = 0; wrote = 0; over = false; wants = true }
@@ -96,17 +99,18 @@ textBy over offset = []
 textBy wants offset = []
 textBy (judged size e) offset = textAfter e offset
 
--- What a caller needs to go on: a turn takes at most 11 bytes, and no more than there are; the text fits into 1,920.
+-- 01 Replay file: what a caller needs to go on: a turn takes at most 11 bytes, and no more than there are; the text fits into 1,920.
 pub record Within (r : Turned) (from there : ℕ) : Type 0 where
   pub offset : r .next .offset ≤ from + 11
   pub took : r .took ≤ there
   pub wrote : r .wrote ≤ 1920
 
--- what the code prints of the replies in a room, by the lengths of what each place said: of k places from one on, whose bytes begin at a place
+-- 01 Replay file: the line of what a place said; no line where it said nothing.
 abbrev pub replyText : ℕ → List ℕ → List ℕ
 replyText place [] = []
 replyText place (b ∷ bs) = line place (b ∷ bs)
 
+-- 01 Replay file: the lines of k places from one on, whose words stand in a room one after another, by the length of each.
 unfoldable pub printed : ℕ → ℕ → ℕ → List ℕ → List ℕ → List ℕ
 printed zero place at lengths room = []
 printed (suc k) place at lengths room =

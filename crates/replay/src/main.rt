@@ -1,10 +1,9 @@
 // Replays a capture: the file that the first argument names, or standard input where there is none. What the replay prints goes to standard output
 // as it comes.
 ghost use mathlib.Core.Path.{_≡_};
-ghost use Prim.Native.Nat.{ℕ, _+_, _-_, _^_, _<_, _≤_};
+ghost use Prim.Native.Nat.{_+_, _-_, _^_, _<_, _≤_};
 ghost use lib.ListN.{length, drop};
 ghost use lib.Seq.{paste};
-ghost use Rattle.layout.specs.Bytes.{Bytes};
 ghost use Rattle.capture.specs.Turns.{Held};
 use capture::Place;
 use libc::STDOUT_FILENO;

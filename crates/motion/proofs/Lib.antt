@@ -1,0 +1,6 @@
+pub mod Stopping
+pub mod Search
+pub mod Speeds
+pub mod Velocity
+pub mod Apart
+pub mod Runs

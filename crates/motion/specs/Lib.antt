@@ -1,0 +1,5 @@
+pub mod Trapezoid
+pub mod Setpoint
+pub mod Velocity
+pub mod Profile
+pub mod Promises
