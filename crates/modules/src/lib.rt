@@ -1,4 +1,4 @@
-// The module types that a chain can have: each call goes to the type of the slot.
+// The module types that a chain can have: each call goes to the type of the slot. A slot that is used is valid.
 ghost use mathlib.Core.Path.{_≡_};
 ghost use mathlib.Core.Bool.{true};
 ghost use Prim.Native.Nat.{_+_, _≤_};
@@ -36,7 +36,7 @@ pub fn power_up(s: &mut [u8], t: u8)
 
 // A frame that touches the module in a slot: the module after it, and its reply in the room from place from on; how many bytes that has.
 pub fn touch(s: &mut [u8], f: Head, ds: &[u8], room: &mut [u8], from: usize) -> usize
-    requires { ⌜ (length (now s) ≡ slotSize) × (from + 19 ≤ length (now room)) ⌝ }
+    requires { ⌜ (length (now s) ≡ slotSize) × (slots .ok (now s) ≡ true) × (from + 19 ≤ length (now room)) ⌝ }
     ensures { λ r. ⌜ r ≡ length (replied kind (frameOf f (now (ds .entry))) (slots .dec (now (s .entry)))) ⌝ }
     ensures { λ _. ⌜ now (s .exit) ≡ pasted 0 (slots .enc (executed kind (frameOf f (now (ds .entry))) (slots .dec (now (s .entry))))) (now (s .entry)) ⌝ }
     ensures { λ _. ⌜ now (room .exit) ≡ pasted from (replied kind (frameOf f (now (ds .entry))) (slots .dec (now (s .entry)))) (now (room .entry)) ⌝ }
@@ -46,7 +46,7 @@ pub fn touch(s: &mut [u8], f: Head, ds: &[u8], room: &mut [u8], from: usize) -> 
 
 // The module in a slot, after a tick.
 pub fn tick(s: &mut [u8])
-    requires { ⌜ length (now s) ≡ slotSize ⌝ }
+    requires { ⌜ (length (now s) ≡ slotSize) × (slots .ok (now s) ≡ true) ⌝ }
     ensures { λ _. ⌜ now (s .exit) ≡ pasted 0 (slots .enc (kind .tick (slots .dec (now (s .entry))))) (now (s .entry)) ⌝ }
 {
     inout::tick(s);
@@ -54,7 +54,7 @@ pub fn tick(s: &mut [u8])
 
 // The I/O module in a slot, with a sample waiting.
 pub fn put_io_sample(s: &mut [u8], x: Sample)
-    requires { ⌜ length (now s) ≡ slotSize ⌝ }
+    requires { ⌜ (length (now s) ≡ slotSize) × (slots .ok (now s) ≡ true) ⌝ }
     ensures { λ _. ⌜ now (s .exit) ≡ pasted 0 (slots .enc (kind .sample x (slots .dec (now (s .entry))))) (now (s .entry)) ⌝ }
 {
     inout::put_sample(s, x);
@@ -62,7 +62,7 @@ pub fn put_io_sample(s: &mut [u8], x: Sample)
 
 // What the board drives for the module in a slot.
 pub fn outputs(s: &[u8]) -> [u8; 8]
-    requires { ⌜ length (now s) ≡ slotSize ⌝ }
+    requires { ⌜ (length (now s) ≡ slotSize) × (slots .ok (now s) ≡ true) ⌝ }
     ensures { λ r. ⌜ r ≡ outputs (slots .dec (now (s .entry))) ⌝ }
 {
     inout::decode(s).outputs()

@@ -23,7 +23,7 @@ use Rattle.modules.specs.Types.{kind, slots, powered, outputs, Module, AnySampl
 use Rattle.modules.proofs.Laws.{lawful}
 use Rattle.network.specs.declared.Called.{Called}
 use Rattle.network.specs.declared.Walked.{Walked}
-use Rattle.network.specs.Record.{countAt, slotsAt, recordSize, receiverIn, receiverBytes, netIn, stored, putModules, valid}
+use Rattle.network.specs.Record.{countAt, slotsAt, recordSize, receiverIn, receiverBytes, okSlots, netIn, stored, putModules, valid}
 use Rattle.network.specs.Walk.{moduleAt, walked, speech, noted}
 use Rattle.network.specs.Calls.{fresh, sampleStep, spokenTo, calledBy, walkOf, endedOf, outputsIn, outputsAt}
 use Rattle.network.proofs.Valid.{valid-is}
@@ -31,17 +31,20 @@ use Rattle.network.proofs.Head.{length-receiver}
 use Rattle.network.proofs.Exact.{waits, walked-is, speech-is, changed-is, module-at, length-modules}
 use Rattle.network.proofs.OneTurn.{changed-turn}
 use Rattle.network.proofs.Turns.{noted-none}
+use Rattle.network.proofs.Ahead.{drop-after, place-ok}
 
--- a place of the chain has its slot within the record
+-- a place of the chain has its slot within the record, and the slot is valid
 pub record Placed (s : List ℕ) (place : ℕ) : Type 0 where
   pub size : length s ≡ 4116
   pub most : getD s countAt 0 ≤ 32
   pub below : place < getD s countAt 0
+  pub good : slots .ok (take slotSize (drop (20 + 128 * place) s)) ≡ true
 
 pub placed : (s : List ℕ) (place : ℕ) → valid slots s ≡ true → place < length (netIn slots s .modules) → Placed s place
 placed s place v h =
     let w = valid-is slots s v in
-    record { size = w .size; most = w .most; below = omega (arith, length-modules slots s) }
+    let l : place < getD s countAt 0 = omega (arith, length-modules slots s) in
+    record { size = w .size; most = w .most; below = l; good = place-ok lawful place (getD s countAt 0) slotsAt s l (w .slots) }
 
 -- what places say to a byte, by the receiver's answer
 spoken-on : (n : Net Module) (y : Byte) (r : Receiver) → taken (n .receiver) (y .value) (y .mark) ≡ record { next = r; answer = Nothing } → spokenTo kind n y ≡ []
@@ -104,10 +107,14 @@ module _ (s : List ℕ) (b : Bytes s) (v : valid slots s ≡ true) where
         ∙ getD-drop (length (receiverBytes (got .next))) s 0 0
         ∙ ap (λ (k : ℕ). getD s k 0) (add-zero (length (receiverBytes (got .next))) ∙ l)
 
-    pub sized : (length s′ ≡ 4116) × (getD s′ countAt 0 ≤ 32)
+    pub sized : (length s′ ≡ 4116) × (getD s′ countAt 0 ≤ 32) × (okSlots slots (getD s′ countAt 0) (drop slotsAt s′) ≡ true)
     sized =
         let w = valid-is slots s v in
-        (rw put-is (length-pasted 0 (receiverBytes (got .next)) s (omega (arith, length-receiver (got .next), w .size)) ∙ w .size), omega (arith, count-kept, w .most))
+        let l = length-receiver (got .next) in (
+          rw put-is (length-pasted 0 (receiverBytes (got .next)) s (omega (arith, l, w .size)) ∙ w .size),
+          omega (arith, count-kept, w .most),
+          rw (count-kept, put-is, drop-after slotsAt 0 (receiverBytes (got .next)) s (omega arith) (omega (arith, l))) (w .slots),
+        )
 
     answered : (a : Answer) → got .answer ≡ a → taken (netIn slots s .receiver) (y .value) (y .mark) ≡ record { next = got .next; answer = a }
     answered a e = got-is ∙ ap (λ (a : Answer). record { next = got .next; answer = a }) e

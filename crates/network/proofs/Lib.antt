@@ -8,6 +8,7 @@ pub mod Exact
 pub mod Kept
 pub mod Lengths
 pub mod Turns
+pub mod Ahead
 pub mod OneTurn
 pub mod Rounds
 pub mod Calls

@@ -3,7 +3,7 @@ ghost use mathlib.Core.Path.{_≡_};
 ghost use mathlib.Core.Bool.{true};
 ghost use mathlib.Core.List.{map};
 ghost use Prim.Native.Nat.{_+_, _*_, _≤_, _<_};
-ghost use lib.ListN.{length, getD, replicate, drop};
+ghost use lib.ListN.{length, getD, replicate, take, drop};
 ghost use Rattle.layout.specs.Bytes.{pasted};
 ghost use Rattle.line.specs.Receive.{numberOf, carried};
 ghost use Rattle.line.specs.Frames.{frameIn};
@@ -160,7 +160,7 @@ fn take_turn(
     room: &mut [u8],
     from: usize,
 ) -> Turn
-    requires { ⌜ (at + slotSize ≤ length (now net)) × (from + 19 ≤ length (now room)) ⌝ }
+    requires { ⌜ (at + slotSize ≤ length (now net)) × (from + 19 ≤ length (now room)) × (slots .ok (take slotSize (drop at (now net))) ≡ true) ⌝ }
     ensures { λ r. ⌜ r ≡ turnOf (frameOf f (now (ds .entry))) enabled at (now (net .entry)) ⌝ }
     ensures { λ _. ⌜ now (net .exit) ≡ turned kind slots (frameOf f (now (ds .entry))) enabled at (now (net .entry)) ⌝ }
     ensures { λ _. ⌜ now (room .exit) ≡ pasted from (wordsAt kind slots (frameOf f (now (ds .entry))) enabled at (now (net .entry))) (now (room .entry)) ⌝ }
@@ -182,7 +182,7 @@ fn take_turn(
 
 // The frame at the n modules from place 20 on, their replies one after another in the room.
 fn walk(net: &mut [u8], n: usize, f: Head, ds: &[u8], room: &mut [u8]) -> Walked
-    requires { ⌜ (slotsAt + slotSize * n ≤ length (now net)) × (19 * n ≤ length (now room)) × (n ≤ 32) ⌝ }
+    requires { ⌜ (slotsAt + slotSize * n ≤ length (now net)) × (19 * n ≤ length (now room)) × (n ≤ 32) × (okSlots slots n (drop slotsAt (now net)) ≡ true) ⌝ }
     ensures { λ r. ⌜ r ≡ walkOf (frameOf f (now (ds .entry))) n (now (net .entry)) ⌝ }
     ensures { λ _. ⌜ now (net .exit) ≡ walked kind slots (frameOf f (now (ds .entry))) true n slotsAt (now (net .entry)) ⌝ }
     ensures { λ _. ⌜ now (room .exit) ≡ pasted 0 (join (speech kind slots (frameOf f (now (ds .entry))) true n slotsAt (now (net .entry)))) (now (room .entry)) ⌝ }
@@ -214,6 +214,7 @@ fn ended_number(damaged: bool) -> u32
 // The frame that a receiver held when its last byte came, handed to the chain.
 fn hand_on(net: &mut [u8], r: Receiver, damaged: bool, room: &mut [u8]) -> Called
     requires { ⌜ (length (now net) ≡ recordSize) × (getD (now net) countAt 0 ≤ 32) × (608 ≤ length (now room)) × (length (r .bytes) ≡ 15) ⌝ }
+    requires { ⌜ okSlots slots (getD (now net) countAt 0) (drop slotsAt (now net)) ≡ true ⌝ }
     ensures { λ c. ⌜ c ≡ endedOf (frameIn r damaged) (getD (now (net .entry)) countAt 0) (now (net .entry)) ⌝ }
     ensures { λ _. ⌜ now (net .exit) ≡ walked kind slots (frameIn r damaged) true (getD (now (net .entry)) countAt 0) slotsAt (now (net .entry)) ⌝ }
     ensures { λ _. ⌜ now (room .exit) ≡ pasted 0 (join (speech kind slots (frameIn r damaged) true (getD (now (net .entry)) countAt 0) slotsAt (now (net .entry)))) (now (room .entry)) ⌝ }
@@ -260,7 +261,7 @@ pub fn byte(net: &mut [u8], value: u8, mark: bool, room: &mut [u8]) -> Called
 
 // A tick at the n modules from place 20 on.
 fn tick_each(net: &mut [u8], n: usize)
-    requires { ⌜ slotsAt + slotSize * n ≤ length (now net) ⌝ }
+    requires { ⌜ (slotsAt + slotSize * n ≤ length (now net)) × (okSlots slots n (drop slotsAt (now net)) ≡ true) ⌝ }
     ensures { λ _. ⌜ now (net .exit) ≡ ticked kind slots n slotsAt (now (net .entry)) ⌝ }
 {
     let mut at: usize = 20;

@@ -36,7 +36,7 @@ hand-on-requires c κs =
     let k = p .before .before .before .before .before .before .before .before .before in
     let a = k .before in
     let z = sized (a .args .net .now) (λ i. omega (arith, k .slice-known .given i)) (a .pre .0) (a .args .room .now) (byteOf (a .args .value) (a .args .mark)) (p .before .before .before .before .before .before .receiver-in .ensures) (p .before .before .before .before .before .take .ensures) (p .before .before .before .receiver-bytes .ensures) (p .put-all .ensures) in
-    (z .0, z .1, a .pre .1, ap (λ (r : Receiver). length (r .bytes)) (p .before .before .before .before .before .before .receiver-in .ensures))
+    ((z .0, z .1, a .pre .1, ap (λ (r : Receiver). length (r .bytes)) (p .before .before .before .before .before .before .receiver-in .ensures)), z .2)
 
 returns-2 : tie.Need-returns-2
 returns-2 c =

@@ -1,5 +1,7 @@
 -- `network::outputs` meets its contract. Assumes nothing.
 use Rattle.network.proofs.Calls.{Placed, placed, outputs-is}
+use Prim.Native.Nat.{_+_, _*_, _-_}
+use mathlib.Core.Path.{_≡_}
 use native.Mathlib.Omega.{arith}
 use borrow.Author.Needs.{needs}
 use Rattle.network.proofs.outputs.Statement.{statement}
@@ -20,6 +22,12 @@ add-end c = omega (arith, within (c .before))
 part-outputs-end : tie.Need-part-outputs-end
 part-outputs-end c = omega (arith, within (c .before))
 
+outputs-requires : tie.Need-outputs-requires
+outputs-requires c κs =
+    let s = c .before .before in
+    let n : 20 + 128 * s .args .place + 128 - (20 + 128 * s .args .place) ≡ 128 = omega arith in
+    (search needs, rw n (within s .good))
+
 returns : tie.Need-returns
 returns c = let s = c .before .before .before in outputs-is (s .args .net .now) (λ i. omega (arith, c .before .before .shared-slice-known .given i)) (s .pre .0) (s .args .place) (within s .below) (c .outputs .ensures)
 
@@ -33,5 +41,5 @@ outputs-spec =
     (λ c. search needs)
     (λ c. search needs)
     part-outputs-end
-    (λ c κs. search needs)
+    outputs-requires
     returns)

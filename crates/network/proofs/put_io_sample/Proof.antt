@@ -1,5 +1,7 @@
 -- `network::put_io_sample` meets its contract. Assumes nothing.
 use Rattle.network.proofs.Calls.{Placed, placed, sample-is}
+use Prim.Native.Nat.{_+_, _*_, _-_}
+use mathlib.Core.Path.{_≡_}
 use native.Mathlib.Omega.{arith}
 use borrow.Author.Needs.{needs}
 use Rattle.network.proofs.put_io_sample.Statement.{statement}
@@ -20,6 +22,12 @@ add-end c = omega (arith, within (c .before))
 part-put-io-sample-end : tie.Need-part-put-io-sample-end
 part-put-io-sample-end c = omega (arith, within (c .before))
 
+put-io-sample-requires : tie.Need-put-io-sample-requires
+put-io-sample-requires c κs =
+    let s = c .before .before in
+    let n : 20 + 128 * s .args .place + 128 - (20 + 128 * s .args .place) ≡ 128 = omega arith in
+    (search needs, rw n (within s .good))
+
 returns : tie.Need-returns
 returns c = let s = c .before .before .before .before .before in sample-is (s .args .net .now) (λ i. omega (arith, c .before .before .before .before .slice-known .given i)) (s .pre .0) (s .args .place) (s .args .x) (within s .below) (omega (arith, within s)) (c .before .before .put-io-sample .ensures)
 
@@ -33,6 +41,6 @@ put-io-sample-spec =
     (λ c. search needs)
     (λ c. search needs)
     part-put-io-sample-end
-    (λ c κs. search needs)
+    put-io-sample-requires
     (λ c. search needs)
     returns)

@@ -1,9 +1,19 @@
 -- `network::take_turn` meets its contract. Assumes nothing.
 use Rattle.network.proofs.OneTurn.{touched-turn, passed-turn}
 use Rattle.station.specs.Touch.{frameOf}
+use Rattle.chain.specs.Slots.{slotSize}
+use Prim.Native.Nat.{_+_, _-_}
+use mathlib.Core.Path.{_≡_}
+use native.Mathlib.Omega.{arith}
 use borrow.Author.Needs.{needs}
 use Rattle.network.proofs.take_turn.Statement.{statement}
 use Rattle.network.proofs.take_turn.Tie as tie
+
+touch-requires : tie.Need-touch-requires
+touch-requires c κs =
+    let s = c .before .before .before .before .before .before .before .before .before .before in
+    let n : s .args .at + slotSize - s .args .at ≡ slotSize = omega arith in
+    (search needs, rw n (s .pre .2), search needs)
 
 returns : tie.Need-returns
 returns c =
@@ -30,7 +40,7 @@ take-turn-spec =
     (λ c. search needs)
     (λ c. search needs)
     (λ c. search needs)
-    (λ c κs. search needs)
+    touch-requires
     (λ c. search needs)
     (λ c. search needs)
     returns

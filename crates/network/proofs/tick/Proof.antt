@@ -19,7 +19,7 @@ cast-tick-each : tie.Need-cast-tick-each
 cast-tick-each c = omega (arith, known (c .before .before .before))
 
 tick-each-requires : tie.Need-tick-each-requires
-tick-each-requires c κs = omega (arith, known (c .before .before .before))
+tick-each-requires c κs = let k = known (c .before .before .before) in (omega (arith, k), k .slots)
 
 returns : tie.Need-returns
 returns c = let s = c .before .before .before .before .before .before in c .before .before .tick-each .ensures ∙ ticked-is kind lawful (s .args .net .now) (λ i. omega (arith, c .before .before .before .before .before .slice-known .given i)) (s .pre)

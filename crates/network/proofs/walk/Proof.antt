@@ -4,14 +4,17 @@ use mathlib.Core.List.{List}
 use mathlib.Core.Bool.{true}
 use Prim.Native.Nat.{ℕ, _+_, _*_, _≤_}
 use native.Mathlib.Omega.{arith}
-use lib.ListN.{length, replicate}
+use lib.ListN.{length, drop, replicate}
 use Rattle.layout.specs.Bytes.{pasted}
 use Rattle.station.specs.Touch.{frameOf}
 use Rattle.chain.specs.Chain.{join}
 use Rattle.modules.specs.Types.{kind, slots}
+use Rattle.modules.proofs.Laws.{lawful}
 use Rattle.network.specs.declared.Turn.{Turn}
-use Rattle.network.specs.Walk.{walked, speech, noted, wordsAt}
+use Rattle.network.specs.Record.{okSlots}
+use Rattle.network.specs.Walk.{turned, walked, speech, noted, wordsAt}
 use Rattle.network.specs.Calls.{turnOf, walkOf}
+use Rattle.network.proofs.Ahead.{turn-ok, ahead-ok, turned-after}
 use Rattle.network.proofs.Rounds.{Round, round, done, word-short}
 use Rattle.network.proofs.walk.Statement.{statement}
 use Rattle.network.proofs.walk.Tie as tie
@@ -30,12 +33,16 @@ Inv-loop net₀ n f ds room₀ lengths₀ enabled₀ at₀ place₀ written₀ l
     × (pasted written (join (speech kind slots (frameOf f ds) enabled left at net)) room ≡ pasted 0 (join (speech kind slots (frameOf f ds) true n 20 net₀)) room₀)
     × (written + length (join (speech kind slots (frameOf f ds) enabled left at net)) ≡ length (join (speech kind slots (frameOf f ds) true n 20 net₀)))
     × (noted (speech kind slots (frameOf f ds) enabled left at net) place lengths ≡ noted (speech kind slots (frameOf f ds) true n 20 net₀) 0 (replicate 32 0))
+    × (okSlots slots left (drop at net) ≡ true)
 
 abbrev μ-loop : tie.MeasureT-loop
 μ-loop net₀ n f ds room₀ lengths₀ enabled₀ at₀ place₀ written₀ left₀ net room lengths enabled at place written left = left
 
 loop-holds : tie.Need-loop-holds Inv-loop μ-loop
-loop-holds c = (refl, omega arith, refl, refl, omega arith, refl, refl, omega arith, refl)
+loop-holds c = (refl, omega arith, refl, refl, omega arith, refl, refl, omega arith, refl, c .before .before .before .pre .3)
+
+take-turn-requires : tie.Need-take-turn-requires Inv-loop μ-loop
+take-turn-requires c κs = let l = c .before .before .before .loop in (omega arith, omega arith, turn-ok lawful (l .left) (l .at) (l .net) (omega arith) (l .inv .9))
 
 -- what a turn hands back
 module _ (c : lts.After-take-turn (take-turn-reads.Asked, take-turn-reads.Learnt) reads.Pre reads.Post Inv-loop μ-loop) where
@@ -84,6 +91,7 @@ loop-again c =
       rw (e .0, e .1 .0, e .1 .1) (r .said ∙ l .inv .6),
       rw (e .0, e .1 .0) (r .total ∙ l .inv .7),
       rw (e .0, e .1 .0) (r .each ∙ l .inv .8),
+      rw (e .1 .0) (ahead-ok lawful (l .left) (l .at) (l .net) (turned kind slots f (l .enabled) (l .at) (l .net)) (omega arith) (turned-after kind lawful f (l .enabled) (l .at) (l .net) (omega arith)) (l .inv .9)),
     )
 
 returns : tie.Need-returns Inv-loop μ-loop
@@ -101,7 +109,7 @@ walk-spec =
     Inv-loop
     μ-loop
     loop-holds
-    (λ c κs. omega arith)
+    take-turn-requires
     cast-lengths
     array-write-lengths
     add-written
