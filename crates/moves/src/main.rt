@@ -180,53 +180,52 @@ fn velocities() {
     velocity(83886080, -83886080, 1, 3);
 }
 
-// A 256th toward zero; all gains at their greatest, with the errors that bring u to its bound; held integral, an error above the limit.
-fn filters() {
-    let small = [255u32, 256, 4294967041, 4294967040, 0];
-    let large = [
+// A 256th toward zero.
+fn small_errors() {
+    let positions = [255u32, 256, 4294967041, 4294967040, 0];
+    let g = Gains {
+        kp: 1,
+        kd: 0,
+        ki: 0,
+        il: 0,
+        ol: 255,
+        el: 16383,
+    };
+    outputs(g, 0, &positions);
+}
+
+// All gains at their greatest, with the errors that bring u to its bound.
+fn greatest_gains() {
+    let positions = [
         2147467265u32,
         2147467265,
         2147467265,
         2147500031,
         2147467265,
     ];
-    let held = [500u32, 200, 700, 1200, 3000, 3001, 1000];
-    outputs(
-        Gains {
-            kp: 1,
-            kd: 0,
-            ki: 0,
-            il: 0,
-            ol: 255,
-            el: 16383,
-        },
-        0,
-        &small,
-    );
-    outputs(
-        Gains {
-            kp: 32767,
-            kd: 32767,
-            ki: 32767,
-            il: 32767,
-            ol: 255,
-            el: 16383,
-        },
-        2147483648,
-        &large,
-    );
-    outputs(
-        Gains {
-            kp: 9,
-            kd: 5,
-            ki: 30,
-            il: 1000,
-            ol: 100,
-            el: 2000,
-        },
-        1000,
-        &held,
-    );
+    let g = Gains {
+        kp: 32767,
+        kd: 32767,
+        ki: 32767,
+        il: 32767,
+        ol: 255,
+        el: 16383,
+    };
+    outputs(g, 2147483648, &positions);
+}
+
+// A held integral, and an error above the limit.
+fn held_integral() {
+    let positions = [500u32, 200, 700, 1200, 3000, 3001, 1000];
+    let g = Gains {
+        kp: 9,
+        kd: 5,
+        ki: 30,
+        il: 1000,
+        ol: 100,
+        el: 2000,
+    };
+    outputs(g, 1000, &positions);
 }
 
 fn main() {
@@ -234,5 +233,7 @@ fn main() {
     wraps();
     limits();
     velocities();
-    filters();
+    small_errors();
+    greatest_gains();
+    held_integral();
 }
