@@ -1,5 +1,4 @@
 pub mod Blend
-pub mod Touching
 pub mod Putting
 pub mod Bits
 pub mod Cause

@@ -1,15 +1,17 @@
 -- Whatever happens, a module's values stay such as its slot can hold, and its numbers such as a reply can spell. Assumes nothing.
 use mathlib.Core.List.{List}
 use mathlib.Core.Bool.{Bool, true, false, cond}
-use Prim.Native.Nat.{ℕ, _+_, _%_, _<_, _≤_}
+use Prim.Native.Nat.{ℕ, _<_, _≤_}
 use native.Mathlib.Omega.{arith}
 use lib.ListN.{getD}
 use Rattle.layout.specs.Bytes.{Bytes}
 use Rattle.line.specs.Frames.{Frame}
 use Rattle.station.specs.declared.Station.{Station}
-use Rattle.station.specs.declared.Setting.the-variants.{Assign, Define, Rate}
-use Rattle.station.specs.Commands.{applied}
+use Rattle.station.specs.declared.Setting.{Setting}
+use Rattle.station.specs.declared.Setting.the-variants.{Assign, Define, Rate, Nothing}
+use Rattle.station.specs.Commands.{applied, caused}
 use Rattle.station.specs.Slot.{station}
+use Rattle.station.proofs.Kept.{powerUp-fits, caused-fits, Sized, applied-fits}
 use Rattle.inout.specs.declared.Sample.{Sample}
 use Rattle.inout.specs.declared.Pins.{Pins}
 use Rattle.inout.specs.declared.Synch.{Synch}
@@ -30,13 +32,6 @@ abbrev Good : Request → Type 0
 Good Malformed = Unit {0}
 Good (Wants c) = (m : Io) → Fits m → Fits (perform c m)
 
-caused-fits : (c : ℕ) → c ≤ 3 → (m : Io) → Fits m → Fits (withCause c m)
-caused-fits c h m t = (t .0, ((t .1 .0 .0, ((omega arith, h), t .1 .0 .1 .1)), t .1 .1))
-
-settled-fits : (q : Request) → Good q → (m : Io) → Fits m → Fits (settled q m)
-settled-fits Malformed g m t = caused-fits 2 (omega arith) m t
-settled-fits (Wants c) g m t = caused-fits 0 (omega arith) (perform c m) (g m t)
-
 -- values that fit, with one part replaced
 module _ (m : Io) (t : Fits m) where
   pins-fit : (p : Pins) → pins .codec .fits p → Fits (withPins p m)
@@ -54,6 +49,16 @@ module _ (m : Io) (t : Fits m) where
   capture-fits : (k : Capture) → capture .codec .fits k → Fits (withCapture k m)
   capture-fits _ h = (t .0, (t .1 .0, (t .1 .1 .0, (t .1 .1 .1 .0, (t .1 .1 .1 .1 .0, (t .1 .1 .1 .1 .1 .0, (t .1 .1 .1 .1 .1 .1 .0, h)))))))
 
+set-fits : (z : Setting) → Sized z → (m : Io) → Fits m → Fits (withStation (applied z (m .station)) m)
+set-fits z h m t = station-fits m t (applied z (m .station)) (applied-fits z h (m .station) (t .1 .0))
+
+cause-fits : (c : ℕ) → c ≤ 3 → (m : Io) → Fits m → Fits (withCause c m)
+cause-fits c h m t = station-fits m t (caused c (m .station)) (caused-fits c h (m .station) (t .1 .0))
+
+settled-fits : (q : Request) → Good q → (m : Io) → Fits m → Fits (settled q m)
+settled-fits Malformed g m t = cause-fits 2 (omega arith) m t
+settled-fits (Wants c) g m t = cause-fits 0 (omega arith) (perform c m) (g m t)
+
 -- twelve bits, picked or from two bytes
 picked-fits : (d x y : ℕ) → twelve .codec .fits (blend 12 d x y)
 picked-fits d x y = let h = no-further 12 d x y in (omega arith, omega arith)
@@ -65,7 +70,7 @@ fresh-fits : (waiting latched : Sample) → sample .codec .fits waiting → samp
 fresh-fits w l hw hl = (
   tt,
   (
-    ((omega arith, (omega arith, (tt, tt))), ((omega arith, omega arith), (omega arith, omega arith))),
+    powerUp-fits,
     (hw, (hl, (((omega arith, omega arith), ((omega arith, omega arith), (omega arith, omega arith))), (((omega arith, omega arith), (omega arith, omega arith)), (omega arith, ((omega arith, omega arith), omega arith)))))),
   ),
 )
@@ -73,16 +78,13 @@ fresh-fits w l hw hl = (
 none-fits : sample .codec .fits noSample
 none-fits = ((omega arith, omega arith), (omega arith, (omega arith, (omega arith, omega arith))))
 
-group-fits : (b : ℕ) → 128 + b % 128 < 256
-group-fits b = omega arith
-
 each : (f : Frame) → Bytes (f .content) → Each Good (f .code) (f .content)
 each f b = record {
   malformed = tt;
-  assign = λ e m t. station-fits m t (applied (Assign (getD (f .content) 0 0) (getD (f .content) 1 0)) (m .station)) ((b 0, (group-fits (getD (f .content) 1 0), (tt, tt))), t .1 .0 .1);
-  define = λ m t. station-fits m t (applied (Define (getD (f .content) 0 0)) (m .station)) (t .1 .0 .0, (t .1 .0 .1 .0, (b 0, t .1 .0 .1 .1 .1)));
-  rate = λ m t. station-fits m t (applied (Rate (getD (f .content) 0 0)) (m .station)) (t .1 .0 .0, (t .1 .0 .1 .0, (t .1 .0 .1 .1 .0, b 0)));
-  nothing = λ m t. t;
+  assign = λ e. set-fits (Assign (getD (f .content) 0 0) (getD (f .content) 1 0)) (b 0);
+  define = set-fits (Define (getD (f .content) 0 0)) (b 0);
+  rate = set-fits (Rate (getD (f .content) 0 0)) (b 0);
+  nothing = set-fits Nothing tt;
   reset = λ e m t. fresh-fits (m .waiting) (m .latched) (t .1 .1 .0) (t .1 .1 .1 .0);
   direction = λ m t. pins-fit m t _ (bits-fit (f .content) b, t .1 .1 .1 .1 .0 .1);
   pwm = λ m t. pins-fit m t _ (t .1 .1 .1 .1 .0 .0, (t .1 .1 .1 .1 .0 .1 .0, (b 0, b 1)));
@@ -103,7 +105,7 @@ kept = record {
 }
   where
     frame : (d : Bool) (q : Request) → Good q → (m : Io) → Fits m → Fits (cond d (withCause 1 m) (settled q m))
-    frame true q g m t = caused-fits 1 (omega arith) m t
+    frame true q g m t = cause-fits 1 (omega arith) m t
     frame false q g m t = settled-fits q g m t
 
 pub numbers-fit : NumbersFit

@@ -1,13 +1,13 @@
 -- How large negated numbers, sums, products and quotients are, and that the machine's word holds what is small enough. Assumes nothing.
 use mathlib.Core.Path.{_≡_, refl}
-use mathlib.Core.Bool.{Bool, true, false, cond}
+use mathlib.Core.Bool.{Bool, true, false, cond, true≢false}
 use Prim.Native.Nat.{ℕ, zero, suc, _+_, _-_, _*_, _/_, _%_, _^_, _≤_, _<_}
-use native.Mathlib.Nat.{le-refl, le-trans, le-of-eq, lt-of-le-of-lt, div-le-self, mul-le-mul}
+use native.Mathlib.Nat.{not-suc-le-zero, le-refl, le-trans, le-of-eq, lt-of-le-of-lt, div-le-self, mul-le-mul}
 use native.Mathlib.Omega.{arith}
-use lib.Dec.{ltb}
+use lib.Dec.{T, ltb}
 use borrow.Author.Tests.{ltb-true, ltb-false}
 use lib.IntN.{ℤ, pos, negsuc, negℤ, natAbs, _+ℤ_, _-ℤ_, _*ℤ_}
-use lib.Signed.{mag, quotZ}
+use lib.Signed.{mag, ltZ, nonNeg, quotZ}
 use mir.Syntax.{Width}
 use mir.Val.{SFits, hbits, toZ, ofZ}
 use mir.ValLaws.{toZ-ofZ, sfits-le}
@@ -46,6 +46,17 @@ abs-signed n h = at (ltb n (2 ^ 31)) refl
 pub abs-difference : (x y : ℕ) → natAbs (difference x y) ≤ 2 ^ 31
 unfolding difference
 abs-difference x y = abs-signed ((x + (2 ^ 32 - y)) % 2 ^ 32) (omega arith)
+
+-- ---- signs
+
+pub below : (z : ℤ) → ltZ z (pos 0) ≡ true → T (nonNeg (negℤ z))
+below (pos zero) e = tt
+below (pos (suc n)) e = let h = ltb-true (suc n) 0 e in absurd (not-suc-le-zero h)
+below (negsuc n) e = tt
+
+pub above : (z : ℤ) → ltZ z (pos 0) ≡ false → T (nonNeg z)
+above (pos n) e = tt
+above (negsuc n) e = absurd (true≢false e)
 
 -- ---- the machine's word
 

@@ -9,8 +9,10 @@ use lib.ListN.{length, getD, take, length-append}
 use lib.Seq.{getD-append-seam, take-all, append-snoc}
 use lib.Dec.{eqb}
 use borrow.Author.Tests.{leb-true, le-leb, eqb-true, eq-eqb}
+use Rattle.integers.specs.Whole.{signed, word}
+use Rattle.integers.proofs.Words.{word-lt, word-signed}
 use Rattle.layout.specs.Bytes.{le, ofLe, readAt, Bytes}
-use Rattle.layout.specs.Codec.{Codec, byte, stamp, raw, number, capped, topped, oneOf, bit, flag, _then_, shaped, okIn}
+use Rattle.layout.specs.Codec.{Codec, byte, stamp, raw, number, whole, capped, topped, oneOf, bit, flag, _then_, shaped, such, okIn}
 use Rattle.layout.proofs.Every.{Hold, hold-left, hold-right, hold-both, every-hold, hold-every}
 use Rattle.layout.proofs.Laws.{length-le, bytes-le, bytes-one, bytes-append, le-ofLe, ofLe-le, ofLe-lt, readAt-part, length-read, bytes-read, read-add, read-back}
 
@@ -86,6 +88,16 @@ number-lawful k = record {
   back = number-back k;
   valid = λ x p q f. tt;
   bytes = λ x f. bytes-le k x;
+}
+
+pub whole-lawful : Lawful whole
+whole-lawful = record {
+  length-enc = λ z. length-le 4 (word z);
+  there = λ at s h t. ap (le 4) (word-signed (ofLe (readAt 4 at s)) (number-sound 4 at s h)) ∙ number-there 4 at s h;
+  sound = λ at s h t. ap signed (word-signed (ofLe (readAt 4 at s)) (number-sound 4 at s h));
+  back = λ z p q f. ap signed (number-back 4 (word z) p q (word-lt z)) ∙ f;
+  valid = λ z p q f. tt;
+  bytes = λ z f. bytes-le 4 (word z);
 }
 
 upper-byte : (x : ℕ) (p q : List ℕ) → getD (p ++ le 2 x ++ q) (length p + 1) 0 ≡ x / 256 % 256
@@ -170,6 +182,22 @@ module _ {A B : Type 0} {a : Codec A} where
     back = λ y p q f. ap to (la .back (from y) p q f) ∙ tf y;
     valid = λ y p q f. la .valid (from y) p q f;
     bytes = λ y f. la .bytes (from y) f;
+  }
+
+module _ {A : Type 0} {a : Codec A} where
+  pub such-lawful : Lawful a → (ok : A → Bool) → Lawful (such ok a)
+  such-lawful la ok = record {
+    length-enc = la .length-enc;
+    there = λ at s h t. la .there at s h (hold-left (a .tests at s) (ok (a .dec at s) ∷ []) t);
+    sound = λ at s h t. (
+      la .sound at s h (hold-left (a .tests at s) (ok (a .dec at s) ∷ []) t),
+      hold-right (a .tests at s) (ok (a .dec at s) ∷ []) t .0,
+    );
+    back = λ x p q f. la .back x p q (f .0);
+    valid = λ x p q f.
+        hold-both (a .tests (length p) (p ++ a .enc x ++ q)) (ok (a .dec (length p) (p ++ a .enc x ++ q)) ∷ []) (la .valid x p q (f .0))
+        (ap ok (la .back x p q (f .0)) ∙ f .1, tt);
+    bytes = λ x f. la .bytes x (f .0);
   }
 
 -- of a list that begins with the value's bytes

@@ -61,6 +61,10 @@ read-add (suc k) l at s =
     let e : at + 1 + k ≡ at + suc k = omega arith in
     rw (suc-add, read-add k l (at + 1) s, e)
 
+-- six bytes are four and two
+pub read-six : (at : ℕ) (s : List ℕ) → ofLe (readAt 6 at s) ≡ ofLe (readAt 4 at s) + 2 ^ 32 * ofLe (readAt 2 (at + 4) s)
+read-six at s = ap ofLe (read-add 4 2 at s) ∙ omega arith
+
 -- what stands between two lists is read back
 pub read-back : (xs p q : List ℕ) → readAt (length xs) (length p) (p ++ xs ++ q) ≡ xs
 read-back xs p q =

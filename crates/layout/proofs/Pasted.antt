@@ -43,14 +43,30 @@ pasted-twice at xs ys s h =
     sym (drop-drop (length ys) (at + length xs) p) ∙ ap (drop (length ys)) d ∙ drop-drop (length ys) (at + length xs) s ∙ ap (λ (i : ℕ). drop i s) i in
     rw (t, e, take-length ys, take-length (xs ++ ys)) (simp append-assoc)
 
--- a part put behind those that were put from the start on
-pub put-next : (done x s : List ℕ) (at : ℕ) {s′ s″ : List ℕ} → length done ≡ at → at + length x ≤ length s
-    → s′ ≡ pasted 0 done s → s″ ≡ pasted at x s′ → s″ ≡ pasted 0 (done ++ x) s
-put-next done x s at l h e f =
+-- a part put behind those that stand from a place on
+pub put-next : (done x s : List ℕ) (from at : ℕ) {s′ s″ : List ℕ} → from + length done ≡ at → at + length x ≤ length s
+    → s′ ≡ pasted from done s → s″ ≡ pasted at x s′ → s″ ≡ pasted from (done ++ x) s
+put-next done x s from at l h e f =
     f
     ∙ ap (pasted at x) e
-    ∙ ap (λ (k : ℕ). pasted k x (pasted 0 done s)) (sym l ∙ sym (zero-add (length done)))
-    ∙ pasted-twice 0 done x s (omega arith)
+    ∙ ap (λ (k : ℕ). pasted k x (pasted from done s)) (sym l)
+    ∙ pasted-twice from done x s (omega arith)
+
+-- five parts, each equal to what it should be, put one behind the other
+pub put-five : (A B C D E s : List ℕ) (from b c d e : ℕ) {v w x y z s1 s2 s3 s4 s5 : List ℕ}
+    → from + length A ≡ b → b + length B ≡ c → c + length C ≡ d → d + length D ≡ e → e + length E ≤ length s
+    → v ≡ A → w ≡ B → x ≡ C → y ≡ D → z ≡ E
+    → s1 ≡ pasted from v s → s2 ≡ pasted b w s1 → s3 ≡ pasted c x s2 → s4 ≡ pasted d y s3 → s5 ≡ pasted e z s4
+    → s5 ≡ pasted from ((((A ++ B) ++ C) ++ D) ++ E) s
+put-five A B C D E s from b c d e {s1 = s1} {s2 = s2} {s3 = s3} {s4 = s4} lb lc ld le h ea eb ec ed ee p1 p2 p3 p4 p5 =
+    let ab = length-append A B in
+    let abc = length-append (A ++ B) C in
+    let abcd = length-append ((A ++ B) ++ C) D in
+    let q1 : s1 ≡ pasted from A s = p1 ∙ ap (λ (l : List ℕ). pasted from l s) ea in
+    let q2 : s2 ≡ pasted from (A ++ B) s = put-next A B s from b lb (omega arith) q1 (p2 ∙ ap (λ (l : List ℕ). pasted b l s1) eb) in
+    let q3 : s3 ≡ pasted from ((A ++ B) ++ C) s = put-next (A ++ B) C s from c (omega arith) (omega arith) q2 (p3 ∙ ap (λ (l : List ℕ). pasted c l s2) ec) in
+    let q4 : s4 ≡ pasted from (((A ++ B) ++ C) ++ D) s = put-next ((A ++ B) ++ C) D s from d (omega arith) (omega arith) q3 (p4 ∙ ap (λ (l : List ℕ). pasted d l s3) ed) in
+    put-next (((A ++ B) ++ C) ++ D) E s from e (omega arith) h q4 (p5 ∙ ap (λ (l : List ℕ). pasted e l s4) ee)
 
 -- one byte
 pub pasted-one : (at b : ℕ) (s : List ℕ) → at < length s → set s at b ≡ pasted at (b ∷ []) s

@@ -3,9 +3,10 @@ use mathlib.Core.Path.{_≡_}
 use mathlib.Core.List.{List}
 use mathlib.Core.Bool.{Bool}
 use Prim.Native.Nat.{ℕ, _<_, _≤_}
+use lib.IntN.{ℤ}
 use Rattle.layout.specs.Codec as C
 use Rattle.layout.specs.Codec.{Codec}
-use Rattle.layout.proofs.Codec.{Lawful, byte-lawful, number-lawful, capped-lawful, oneOf-lawful, stamp-lawful, raw-lawful, topped-lawful, flag-lawful, then-lawful, shaped-lawful}
+use Rattle.layout.proofs.Codec.{Lawful, byte-lawful, number-lawful, whole-lawful, capped-lawful, oneOf-lawful, stamp-lawful, raw-lawful, topped-lawful, flag-lawful, then-lawful, shaped-lawful, such-lawful}
 
 pub record Shape (A : Type 0) : Type 1 where
   pub codec : Codec A
@@ -16,6 +17,9 @@ byte = record { codec = C.byte; lawful = byte-lawful }
 
 abbrev pub number : ℕ → Shape ℕ
 number k = record { codec = C.number k; lawful = number-lawful k }
+
+abbrev pub whole : Shape ℤ
+whole = record { codec = C.whole; lawful = whole-lawful }
 
 abbrev pub capped : ℕ → Shape ℕ
 capped m = record { codec = C.capped m; lawful = capped-lawful m }
@@ -41,3 +45,6 @@ a then b = record { codec = C._then_ (a .codec) (b .codec); lawful = then-lawful
 
 abbrev pub shaped : {A B : Type 0} (to : A → B) (from : B → A) → ((x : A) → from (to x) ≡ x) → ((y : B) → to (from y) ≡ y) → Shape A → Shape B
 shaped to from ft tf a = record { codec = C.shaped to from (a .codec); lawful = shaped-lawful (a .lawful) to from ft tf }
+
+abbrev pub such : {A : Type 0} → (A → Bool) → Shape A → Shape A
+such ok a = record { codec = C.such ok (a .codec); lawful = such-lawful (a .lawful) ok }

@@ -6,6 +6,8 @@ use mathlib.Core.List.{List, [], _∷_, _++_}
 use mathlib.Core.Bool.{Bool, true, false}
 use lib.ListN.{getD, length}
 use lib.Dec.{leb, eqb}
+use lib.IntN.{ℤ}
+use Rattle.integers.specs.Whole.{signed, word}
 use Rattle.layout.specs.Every.{every}
 use Rattle.layout.specs.Bytes.{le, ofLe, readAt, Bytes}
 
@@ -54,6 +56,16 @@ raw k = record {
 abbrev pub number : ℕ → Codec ℕ
 number k = record { size = k; enc = le k; dec = λ at s. ofLe (readAt k at s); tests = λ at s. []; fits = λ x. x < 256 ^ k }
 
+-- a whole number of four bytes, in two's complement
+abbrev pub whole : Codec ℤ
+whole = record {
+  size = 4;
+  enc = λ z. le 4 (word z);
+  dec = λ at s. signed (ofLe (readAt 4 at s));
+  tests = λ at s. [];
+  fits = λ z. signed (word z) ≡ z;
+}
+
 -- a number of two bytes of which the upper one is at most m
 abbrev pub topped : ℕ → Codec ℕ
 topped m = record {
@@ -101,6 +113,16 @@ shaped to from a = record {
   dec = λ at s. to (a .dec at s);
   tests = a .tests;
   fits = λ x. a .fits (from x);
+}
+
+-- the same bytes with one more test, on the value
+abbrev pub such : {A : Type 0} → (A → Bool) → Codec A → Codec A
+such ok a = record {
+  size = a .size;
+  enc = a .enc;
+  dec = a .dec;
+  tests = λ at s. a .tests at s ++ ok (a .dec at s) ∷ [];
+  fits = λ x. a .fits x × (ok x ≡ true);
 }
 
 -- whether a list holds valid bytes of a layout from its start on

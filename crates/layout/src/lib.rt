@@ -1,8 +1,9 @@
-// Numbers of two and four bytes, least significant first, read from a slice; numbers and bytes put into one.
+// Numbers of two, four and six bytes, least significant first, read from a slice; numbers and bytes put into one.
 ghost use mathlib.Core.Path.{_≡_};
 ghost use Prim.Native.Nat.{_+_, _≤_, _<_};
 ghost use mathlib.Core.List.{_∷_, []};
 ghost use lib.ListN.{length, getD, take, drop};
+ghost use Rattle.integers.specs.Whole.{signed};
 ghost use Rattle.layout.specs.Bytes.{le, ofLe, readAt, pasted};
 
 pub fn of2(a: u8, b: u8) -> u16
@@ -31,6 +32,22 @@ pub fn get4(s: &[u8], at: usize) -> u32
     let b = at + 1;
     let c = b + 1;
     of4(s[at], s[b], s[c], s[c + 1])
+}
+
+pub fn get6(s: &[u8], at: usize) -> u64
+    requires { ⌜ at + 6 ≤ length (now s) ⌝ }
+    ensures { λ r. ⌜ r ≡ ofLe (readAt 6 at (now (s .entry))) ⌝ }
+{
+    let low = get4(s, at) as u64;
+    low + 0x1_0000_0000 * (get2(s, at + 4) as u64)
+}
+
+// A whole number of four bytes, in two's complement.
+pub fn get_whole(s: &[u8], at: usize) -> i64
+    requires { ⌜ at + 4 ≤ length (now s) ⌝ }
+    ensures { λ r. ⌜ r ≡ signed (ofLe (readAt 4 at (now (s .entry)))) ⌝ }
+{
+    integers::signed(get4(s, at))
 }
 
 // The byte at a place, 0 beyond the end.

@@ -4,3 +4,4 @@ pub mod Speeds
 pub mod Velocity
 pub mod Apart
 pub mod Runs
+pub mod Tests

@@ -1,9 +1,12 @@
 -- A profile and its step in either mode (document 01, "Tick").
 use mathlib.Core.List.{List, [], _∷_}
-use Prim.Native.Nat.{ℕ, zero, suc, _^_, _≤_, _<_}
+use mathlib.Core.Bool.{Bool, _&&_, _||_}
+use Prim.Native.Nat.{ℕ, zero, suc, _-_, _^_, _≤_, _<_}
+use lib.Dec.{leb, ltb}
 use lib.IntN.{ℤ, pos, negsuc, negℤ, natAbs}
+use lib.Signed.{leZ}
 use Rattle.motion.specs.declared.Profile.{Profile}
-use Rattle.motion.specs.Trapezoid.{nextSpeed}
+use Rattle.motion.specs.Trapezoid.{stop, nextSpeed}
 use Rattle.motion.specs.Setpoint.{distance, moved}
 use Rattle.motion.specs.Velocity.{toward}
 
@@ -20,6 +23,11 @@ pub record Ranged (p : Profile) : Type 0 where
   pub acceleration : p .acceleration ≤ fastest
   pub top : p .top ≤ fastest
 
+-- 01 Servo: whether a stored profile's numbers are in range (its setpoint and goal always are, by their bytes).
+unfoldable pub inRange : Profile → Bool
+inRange p =
+    leb (natAbs (p .speed)) fastest && leb (natAbs (p .aim)) fastest && leb (p .acceleration) fastest && leb (p .top) fastest
+
 -- 01 Tick: the trapezoid's new speed with the distance d left and the speed v; it is mirrored for a distance below 0.
 unfoldable pub trapezoid : ℕ → ℕ → ℤ → ℤ → ℤ
 trapezoid a top (pos d) v = pos (nextSpeed a top d (natAbs v))
@@ -28,6 +36,18 @@ trapezoid a top (negsuc d) v = negℤ (pos (nextSpeed a top (suc d) (natAbs v)))
 -- 01 Tick: the distance that a profile has left.
 abbrev pub left : Profile → ℤ
 left p = distance (p .goal) (p .setpoint)
+
+-- 01 Numbers given back: whether the speed v goes the way of the distance d; with no distance left it may have either sign.
+unfoldable pub heads : ℤ → ℤ → Bool
+heads d v = (leZ d (pos 0) || leZ (pos 0) v) && (leZ (pos 0) d || leZ v (pos 0))
+
+-- 01 Numbers given back: whether a trapezoid runs toward its goal and can still stop.
+unfoldable pub running : Profile → Bool
+running p =
+    ltb 0 (p .acceleration)
+    && leb (natAbs (p .speed)) (p .top)
+    && heads (left p) (p .speed)
+    && leb (stop (natAbs (p .speed) - p .acceleration) (p .acceleration)) (natAbs (left p))
 
 -- 01 Tick: a profile after a tick at the speed w.
 unfoldable pub stepped : Profile → ℤ → Profile

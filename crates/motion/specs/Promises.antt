@@ -9,7 +9,7 @@ use Rattle.motion.specs.declared.Profile.{Profile}
 use Rattle.motion.specs.Trapezoid.{stop, nextSpeed}
 use Rattle.motion.specs.Setpoint.{distance, moved}
 use Rattle.motion.specs.Velocity.{toward}
-use Rattle.motion.specs.Profile.{Ranged, left, byTrapezoid, byVelocity}
+use Rattle.motion.specs.Profile.{Ranged, inRange, left, running, byTrapezoid, byVelocity}
 
 -- 01 Tick: from lo to hi, w is the greatest with the property.
 pub record Greatest (Has : ℕ → Type 0) (lo hi w : ℕ) : Type 0 where
@@ -34,6 +34,10 @@ pub record Running (p : Profile) : Type 0 where
   pub forth : leZ (left p) (pos 0) ≡ false → leZ (pos 0) (p .speed) ≡ true
   pub back : leZ (pos 0) (left p) ≡ false → leZ (p .speed) (pos 0) ≡ true
   pub stops : CanStop (p .acceleration) (p .top) (natAbs (left p)) (natAbs (p .speed))
+
+-- The test that code makes is the whole of what a running trapezoid satisfies.
+abbrev pub Tested : Type 0
+Tested = (p : Profile) → (running p ≡ true → Running p) × (Running p → running p ≡ true)
 
 -- Where a trapezoid can still stop, the speed that the text asks for exists, and the new speed is it.
 abbrev pub Next : Type 0
@@ -88,3 +92,10 @@ Velocity = (a : ℕ) (goal v : ℤ) → Toward a goal v (toward a goal v)
 -- Both ticks keep the ranges of a stored profile.
 abbrev pub InRange : Type 0
 InRange = (p : Profile) → Ranged p → Ranged (byTrapezoid p) × Ranged (byVelocity p)
+
+-- The test of a profile's numbers is the whole of its ranges, where setpoint and goal are such as their bytes spell.
+abbrev pub InRanges : Type 0
+InRanges =
+    (p : Profile)
+    → p .setpoint < 2 ^ 48 → p .goal < 2 ^ 32
+    → (inRange p ≡ true → Ranged p) × (Ranged p → inRange p ≡ true)

@@ -7,7 +7,7 @@ ghost use lib.IntN.{natAbs};
 ghost use Rattle.motion.specs.Trapezoid.{stop, greatest, nextSpeed};
 ghost use Rattle.motion.specs.Setpoint.{whole, distance, moved};
 ghost use Rattle.motion.specs.Velocity.{toward};
-ghost use Rattle.motion.specs.Profile.{fastest, Ranged, trapezoid, stepped, byTrapezoid, byVelocity};
+ghost use Rattle.motion.specs.Profile.{fastest, Ranged, inRange, heads, running, trapezoid, stepped, byTrapezoid, byVelocity};
 
 // The goal is a position in counts, the aim velocity mode's goal speed, top the trapezoid's greatest speed.
 pub struct Profile {
@@ -151,7 +151,39 @@ fn moved(setpoint: u64, w: i64) -> u64
     }
 }
 
+// Whether the speed v goes the way of the distance d.
+fn is_heading(d: i64, v: i64) -> bool
+    ensures { λ r. ⌜ r ≡ heads d v ⌝ }
+{
+    ((d <= 0) | (0 <= v)) & ((0 <= d) | (v <= 0))
+}
+
 impl Profile {
+    // Whether its numbers are in range.
+    pub fn is_in_range(self) -> bool
+        ensures { λ r. ⌜ r ≡ inRange self ⌝ }
+    {
+        integers::is_within(83_886_080, self.speed)
+            & integers::is_within(83_886_080, self.aim)
+            & (self.acceleration <= 83_886_080)
+            & (self.top <= 83_886_080)
+    }
+
+    // Whether a trapezoid runs toward its goal and can still stop.
+    pub fn is_running(self) -> bool
+        requires { ⌜ Ranged self ⌝ }
+        ensures { λ r. ⌜ r ≡ running self ⌝ }
+    {
+        let a = self.acceleration;
+        if a == 0 {
+            return false;
+        }
+        let v = integers::size(self.speed) as u32;
+        let d = distance(self.goal, self.setpoint);
+        let stops = can_stop(lowered(v, a), a, integers::size(d));
+        (v <= self.top) & is_heading(d, self.speed) & stops
+    }
+
     // A tick at the speed w.
     fn stepped(self, w: i64) -> Profile
         requires { ⌜ Ranged self ⌝ }

@@ -1,29 +1,14 @@
 -- `integers::size` meets its contract: a number below 0 is negated first. Assumes nothing.
 use mathlib.Core.Path.{_≡_}
-use mathlib.Core.Bool.{true, false, true≢false}
-use Prim.Native.Nat.{zero, suc}
 use native.Mathlib.Omega.{arith}
-use native.Mathlib.Nat.{not-suc-le-zero}
 use borrow.Author.Needs.{needs}
-use borrow.Author.Tests.{ltb-true}
-use lib.Dec.{T}
-use lib.IntN.{ℤ, pos, negsuc, negℤ, natAbs, +ℤ-idl}
-use lib.Signed.{ltZ, nonNeg}
+use lib.IntN.{negℤ, natAbs, +ℤ-idl}
 use mir.Syntax.{w64}
 use mir.Val.{Fits, SFits, toZ, ofZ}
 use mir.ValLaws.{toZ-ofZ}
-use Rattle.integers.proofs.Sizes.{abs-neg, fits}
+use Rattle.integers.proofs.Sizes.{abs-neg, below, above, fits}
 use Rattle.integers.proofs.size.Statement.{statement}
 use Rattle.integers.proofs.size.Tie as tie
-
-below : (z : ℤ) → ltZ z (pos 0) ≡ true → T (nonNeg (negℤ z))
-below (pos zero) e = tt
-below (pos (suc n)) e = let h = ltb-true (suc n) 0 e in absurd (not-suc-le-zero h)
-below (negsuc n) e = tt
-
-above : (z : ℤ) → ltZ z (pos 0) ≡ false → T (nonNeg z)
-above (pos n) e = tt
-above (negsuc n) e = absurd (true≢false e)
 
 module _ (s : tie.Start) where
   z-is : toZ w64 (ofZ w64 (s .args .z)) ≡ s .args .z

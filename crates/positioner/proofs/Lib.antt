@@ -1,0 +1,9 @@
+pub mod Good
+pub mod Replaced
+pub mod Starts
+pub mod Orders
+pub mod Ticks
+pub mod Within
+pub mod Listed
+pub mod Putting
+pub mod Tested

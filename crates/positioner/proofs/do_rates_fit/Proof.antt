@@ -1,0 +1,12 @@
+-- `positioner::do_rates_fit` meets its contract. Assumes nothing.
+use borrow.Author.Needs.{needs}
+use Rattle.positioner.specs.List.{ratesFit}
+use Rattle.positioner.proofs.do_rates_fit.Statement.{statement}
+use Rattle.positioner.proofs.do_rates_fit.Tie as tie
+
+returns : tie.Need-returns
+unfolding ratesFit
+returns c = search needs
+
+pub do-rates-fit-spec : {M : Type 1} → statement M
+do-rates-fit-spec = tie.close (tie.spec returns)

@@ -1,0 +1,3 @@
+pub mod List
+pub mod Slot
+pub mod Promises

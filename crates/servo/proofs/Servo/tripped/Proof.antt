@@ -1,0 +1,12 @@
+-- `servo::Servo::tripped` meets its contract. Assumes nothing.
+use Rattle.servo.specs.Tick.{tripped}
+use borrow.Author.Needs.{needs}
+use Rattle.servo.proofs.Servo.tripped.Statement.{statement}
+use Rattle.servo.proofs.Servo.tripped.Tie as tie
+
+returns : tie.Need-returns
+unfolding tripped
+returns c = rw (c .with-drive .ensures, c .before .with-error .ensures, c .before .before .before .off .ensures)
+
+pub tripped-spec : {M : Type 1} → statement M
+tripped-spec = tie.close (tie.spec (λ c κs. search needs) (λ c κs. search needs) (λ c κs. search needs) returns)
