@@ -1,11 +1,14 @@
--- One chain of two module types: each module is as its own type says, and a sample for the other type changes nothing.
+-- One chain of two module types: each module is as its own type says, in its slot too, and a sample for the other type changes nothing.
 use Prim.Native.Nat.{ℕ}
 use mathlib.Core.List.{List}
-use mathlib.Core.Bool.{Bool}
+use mathlib.Core.Bool.{Bool, cond}
 use mathlib.Core.Logic.{_⊎_, inl, inr}
+use lib.ListN.{getD}
+use lib.Dec.{eqb}
 use Rattle.line.specs.Frames.{Frame}
 use Rattle.station.specs.declared.Address.{Address}
 use Rattle.chain.specs.Chain.{Kind}
+use Rattle.chain.specs.Slots.{Slots}
 
 abbrev pub either : {A B S T : Type 0} → Kind A S → Kind B T → Kind (A ⊎ B) (S ⊎ T)
 either {A} {B} {S} {T} K L = record {
@@ -37,3 +40,21 @@ either {A} {B} {S} {T} K L = record {
     tickE : A ⊎ B → A ⊎ B
     tickE (inl a) = inl (K .tick a)
     tickE (inr b) = inr (L .tick b)
+
+-- a property of each of the two
+abbrev pub eitherIs : {A B : Type 0} → (A → Type 0) → (B → Type 0) → A ⊎ B → Type 0
+eitherIs P Q (inl a) = P a
+eitherIs P Q (inr b) = Q b
+
+-- the slots of both: the first byte of a slot tells the first type, t, from the other
+abbrev pub eitherSlots : {A B : Type 0} → ℕ → Slots A → Slots B → Slots (A ⊎ B)
+eitherSlots {A} {B} t L R = record {
+  enc = encE;
+  dec = λ s. cond (eqb (getD s 0 0) t) (inl (L .dec s)) (inr (R .dec s));
+  ok = λ s. cond (eqb (getD s 0 0) t) (L .ok s) (R .ok s);
+  fits = eitherIs (L .fits) (R .fits);
+}
+  where
+    encE : A ⊎ B → List ℕ
+    encE (inl a) = L .enc a
+    encE (inr b) = R .enc b

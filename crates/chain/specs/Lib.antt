@@ -1,4 +1,4 @@
 pub mod Chain
-pub mod Either
 pub mod Slots
+pub mod Either
 pub mod Promises

@@ -1,13 +1,34 @@
 -- A module of any type that can be written stays one, from power-up on. Assumes nothing.
 use mathlib.Core.Path.{_≡_}
-use mathlib.Core.Bool.{true}
+use mathlib.Core.Bool.{Bool, true, false, cond}
+use mathlib.Core.Logic.{inl, inr}
 use Prim.Native.Nat.{ℕ}
+use lib.Dec.{eqb}
 use Rattle.chain.specs.Slots.{Preserves}
-use Rattle.inout.proofs.Within.{kept}
-use Rattle.modules.specs.Types.{kind, slots, known, powered, Good}
+use Rattle.chain.proofs.Either.{either-preserves}
+use Rattle.inout.specs.Module as Inout
+use Rattle.inout.specs.Slot as InoutSlot
+use Rattle.inout.proofs.Within as Inouts
+use Rattle.servo.specs.Servo as ServoState
+use Rattle.servo.specs.Answers as ServoAnswers
+use Rattle.positioner.specs.Slot as ServoSlot
+use Rattle.positioner.proofs.Within as Servos
+use Rattle.modules.specs.Types.{kind, servoSlots, inoutSlots, slots, known, powered, Good}
+
+servo-preserves : Preserves ServoAnswers.servo servoSlots (ServoSlot.sample .codec .fits)
+servo-preserves = record { execute = Servos.kept .frame; sample = Servos.kept .sampling; tick = Servos.kept .tick }
+
+inout-preserves : Preserves Inout.inout inoutSlots (InoutSlot.sample .codec .fits)
+inout-preserves = record { execute = Inouts.kept .frame; sample = Inouts.kept .sampling; tick = Inouts.kept .tick }
 
 pub preserves : Preserves kind slots Good
-preserves = record { execute = kept .frame; sample = kept .sampling; tick = kept .tick }
+preserves =
+    either-preserves 0 ServoAnswers.servo Inout.inout servoSlots inoutSlots (ServoSlot.sample .codec .fits) (InoutSlot.sample .codec .fits) servo-preserves
+    inout-preserves
 
 pub powered-fits : (t : ℕ) → known t ≡ true → slots .fits (powered t)
-powered-fits t e = kept .power
+powered-fits t e = at (eqb t 0)
+  where
+    at : (k : Bool) → slots .fits (cond k (inl ServoState.started) (inr Inout.started))
+    at true = Servos.kept .power
+    at false = Inouts.kept .power

@@ -1,21 +1,28 @@
 // The module types that a chain can have: each call goes to the type of the slot. A slot that is used is valid.
 ghost use mathlib.Core.Path.{_≡_};
 ghost use mathlib.Core.Bool.{true};
+ghost use mathlib.Core.Logic.{inl, inr};
 ghost use Prim.Native.Nat.{_+_, _≤_};
 ghost use lib.ListN.{length};
 ghost use Rattle.layout.specs.Bytes.{pasted};
 ghost use Rattle.station.specs.Touch.{frameOf};
 ghost use Rattle.chain.specs.Chain.{executed, replied};
 ghost use Rattle.chain.specs.Slots.{slotSize};
-ghost use Rattle.modules.specs.Types.{kind, slots, known, powered, outputs};
+ghost use Rattle.modules.specs.Types.{kind, slots, known, powered, measured, outputs};
 use inout::Io;
-use inout::Sample;
+use servo::Servo;
 use station::Head;
+
+// A sample, as it was measured for a module of either type.
+pub enum Measured {
+    Servo(servo::Sample),
+    Io(inout::Sample),
+}
 
 pub fn is_known(t: u8) -> bool
     ensures { λ r. ⌜ r ≡ known t ⌝ }
 {
-    t == 2
+    (t == 0) | (t == 2)
 }
 
 // Whether a slot holds a valid module.
@@ -23,6 +30,9 @@ pub fn is_ok(s: &[u8]) -> bool
     requires { ⌜ length (now s) ≡ slotSize ⌝ }
     ensures { λ r. ⌜ r ≡ slots .ok (now (s .entry)) ⌝ }
 {
+    if s[0] == 0 {
+        return positioner::is_ok(s);
+    }
     inout::is_ok(s)
 }
 
@@ -31,7 +41,11 @@ pub fn power_up(s: &mut [u8], t: u8)
     requires { ⌜ (length (now s) ≡ slotSize) × (known t ≡ true) ⌝ }
     ensures { λ _. ⌜ now (s .exit) ≡ pasted 0 (slots .enc (powered t)) (now (s .entry)) ⌝ }
 {
-    inout::put(s, Io::power_up());
+    if t == 0 {
+        positioner::put(s, Servo::power_up());
+    } else {
+        inout::put(s, Io::power_up());
+    }
 }
 
 // A frame that touches the module in a slot: the module after it, and its reply in the room from place from on; how many bytes that has.
@@ -41,6 +55,9 @@ pub fn touch(s: &mut [u8], f: Head, ds: &[u8], room: &mut [u8], from: usize) -> 
     ensures { λ _. ⌜ now (s .exit) ≡ pasted 0 (slots .enc (executed kind (frameOf f (now (ds .entry))) (slots .dec (now (s .entry))))) (now (s .entry)) ⌝ }
     ensures { λ _. ⌜ now (room .exit) ≡ pasted from (replied kind (frameOf f (now (ds .entry))) (slots .dec (now (s .entry)))) (now (room .entry)) ⌝ }
 {
+    if s[0] == 0 {
+        return positioner::touch(s, f, ds, room, from);
+    }
     inout::touch(s, f, ds, room, from)
 }
 
@@ -49,15 +66,42 @@ pub fn tick(s: &mut [u8])
     requires { ⌜ (length (now s) ≡ slotSize) × (slots .ok (now s) ≡ true) ⌝ }
     ensures { λ _. ⌜ now (s .exit) ≡ pasted 0 (slots .enc (kind .tick (slots .dec (now (s .entry))))) (now (s .entry)) ⌝ }
 {
-    inout::tick(s);
+    if s[0] == 0 {
+        positioner::tick(s);
+    } else {
+        inout::tick(s);
+    }
 }
 
-// The I/O module in a slot, with a sample waiting.
-pub fn put_io_sample(s: &mut [u8], x: Sample)
+// A sample for a servo; a module of another type is left as it is.
+fn put_servo_sample(s: &mut [u8], x: servo::Sample)
     requires { ⌜ (length (now s) ≡ slotSize) × (slots .ok (now s) ≡ true) ⌝ }
-    ensures { λ _. ⌜ now (s .exit) ≡ pasted 0 (slots .enc (kind .sample x (slots .dec (now (s .entry))))) (now (s .entry)) ⌝ }
+    ensures { λ _. ⌜ now (s .exit) ≡ pasted 0 (slots .enc (kind .sample (inl x) (slots .dec (now (s .entry))))) (now (s .entry)) ⌝ }
 {
-    inout::put_sample(s, x);
+    if s[0] == 0 {
+        positioner::put_sample(s, x);
+    }
+}
+
+// A sample for an I/O module.
+fn put_io_sample(s: &mut [u8], x: inout::Sample)
+    requires { ⌜ (length (now s) ≡ slotSize) × (slots .ok (now s) ≡ true) ⌝ }
+    ensures { λ _. ⌜ now (s .exit) ≡ pasted 0 (slots .enc (kind .sample (inr x) (slots .dec (now (s .entry))))) (now (s .entry)) ⌝ }
+{
+    if s[0] != 0 {
+        inout::put_sample(s, x);
+    }
+}
+
+// The module in a slot, with a sample waiting; one for another type changes nothing.
+pub fn put_sample(s: &mut [u8], x: Measured)
+    requires { ⌜ (length (now s) ≡ slotSize) × (slots .ok (now s) ≡ true) ⌝ }
+    ensures { λ _. ⌜ now (s .exit) ≡ pasted 0 (slots .enc (kind .sample (measured x) (slots .dec (now (s .entry))))) (now (s .entry)) ⌝ }
+{
+    match x {
+        Measured::Servo(y) => put_servo_sample(s, y),
+        Measured::Io(y) => put_io_sample(s, y),
+    }
 }
 
 // What the board drives for the module in a slot.
@@ -65,5 +109,8 @@ pub fn outputs(s: &[u8]) -> [u8; 8]
     requires { ⌜ (length (now s) ≡ slotSize) × (slots .ok (now s) ≡ true) ⌝ }
     ensures { λ r. ⌜ r ≡ outputs (slots .dec (now (s .entry))) ⌝ }
 {
+    if s[0] == 0 {
+        return positioner::outputs(s);
+    }
     inout::decode(s).outputs()
 }

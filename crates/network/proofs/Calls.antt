@@ -1,13 +1,15 @@
 -- What the calls on a valid record give, put together. Assumes nothing.
-use mathlib.Core.Path.{_≡_, sym, ap, ap₂, _∙_}
+use mathlib.Core.Path.{_≡_, refl, sym, ap, ap₂, _∙_}
 use mathlib.Core.List.{List, [], _∷_, _++_, map}
-use mathlib.Core.Bool.{Bool, true}
-use Prim.Native.Nat.{ℕ, _+_, _*_, _-_, _<_, _≤_}
+use mathlib.Core.Bool.{Bool, true, false}
+use mathlib.Core.Option.{none}
+use Prim.Native.Nat.{ℕ, zero, suc, _+_, _*_, _-_, _<_, _≤_}
 use native.Mathlib.Nat.{add-zero}
 use native.Mathlib.Omega.{arith}
-use lib.ListN.{length, getD, take, drop, replicate, length-map}
+use lib.Dec.{eqb}
+use lib.ListN.{length, getD, getElem?, take, drop, replicate, length-map}
 use Rattle.layout.specs.Bytes.{pasted, Bytes}
-use lib.Seq.{getD-append-add, getD-drop}
+use lib.Seq.{getD-append-add, getD-drop, drop-cons}
 use Rattle.layout.proofs.Pasted.{pasted-none, pasted-start, length-pasted}
 use Rattle.line.specs.declared.Receiver.{Receiver}
 use Rattle.line.specs.declared.Received.{Received}
@@ -20,12 +22,12 @@ use Rattle.chain.specs.Slots.{slotSize}
 use Rattle.chain.proofs.Bytes.{step-on, step-end}
 use Rattle.chain.proofs.Replies.{flat-join}
 use Rattle.modules.specs.Types.{kind, slots, powered, outputs, Module, AnySample}
-use Rattle.modules.proofs.Laws.{lawful}
+use Rattle.modules.proofs.Laws.{lawful, type-is}
 use Rattle.network.specs.declared.Called.{Called}
 use Rattle.network.specs.declared.Walked.{Walked}
 use Rattle.network.specs.Record.{countAt, slotsAt, recordSize, receiverIn, receiverBytes, okSlots, netIn, stored, putModules, valid}
 use Rattle.network.specs.Walk.{moduleAt, walked, speech, noted}
-use Rattle.network.specs.Calls.{fresh, sampleStep, spokenTo, calledBy, walkOf, endedOf, outputsIn, outputsAt}
+use Rattle.network.specs.Calls.{fresh, sampleStep, spokenTo, calledBy, walkOf, endedOf, isOf, ofType, outputsIn, outputsAt}
 use Rattle.network.proofs.Valid.{valid-is}
 use Rattle.network.proofs.Head.{length-receiver}
 use Rattle.network.proofs.Exact.{waits, walked-is, speech-is, changed-is, module-at, length-modules}
@@ -68,7 +70,26 @@ pub handed-on : (f : Frame) (n : ℕ) (s : List ℕ) {k : ℕ} {w : Walked} → 
 unfolding walkOf endedOf
 handed-on f n s {k} {w} ek ew = ap₂ (λ (k : ℕ) (w : Walked). record { number = k; written = w .written; lengths = w .lengths }) ek ew
 
+-- beyond the chain there is no module
+none-beyond : {A : Type 0} (xs : List A) (i : ℕ) → (i < length xs → ⊥) → getElem? xs i ≡ none
+none-beyond [] i h = refl
+none-beyond (x ∷ xs) zero h = absurd (h (omega arith))
+none-beyond (x ∷ xs) (suc i) h = none-beyond xs i (λ l. h (omega arith))
+
+pub type-beyond : (s : List ℕ) (place t : ℕ) → (place < length (netIn slots s .modules) → ⊥) → false ≡ ofType t (netIn slots s) place
+type-beyond s place t h = sym (ap (isOf t) (none-beyond (netIn slots s .modules) place h))
+
 module _ (s : List ℕ) (b : Bytes s) (v : valid slots s ≡ true) where
+  -- the first byte of a slot is its module's type
+  pub type-at : (place t : ℕ) → place < length (netIn slots s .modules) → eqb (getD s (20 + 128 * place) 0) t ≡ ofType t (netIn slots s) place
+  unfolding moduleAt
+  type-at place t h =
+      let p = placed s place v h in
+      let at : ℕ = 20 + 128 * place in
+      let first : getD (take slotSize (drop at s)) 0 0 ≡ getD s at 0 = ap (λ (l : List ℕ). getD (take slotSize l) 0 0) (drop-cons s at 0 (omega (arith, p))) in
+      ap (λ (n : ℕ). eqb n t) (sym first ∙ type-is (take slotSize (drop at s)) (p .good))
+      ∙ sym (ap (isOf t) (module-at kind lawful s b v place (p .below)))
+
   -- what the board drives
   pub outputs-is : (place : ℕ) {r : List ℕ} → place < getD s countAt 0
       → r ≡ outputs (slots .dec (take (20 + 128 * place + 128 - (20 + 128 * place)) (drop (20 + 128 * place) s)))

@@ -1,15 +1,16 @@
 -- What the calls on a network mean, before their refusals (document 01, "What the boards do", "Numbers given back").
 use Prim.Native.Nat.{ℕ}
 use mathlib.Core.List.{List, [], _∷_, map}
-use mathlib.Core.Bool.{Bool, true, _&&_}
+use mathlib.Core.Bool.{Bool, true, false, _&&_}
 use mathlib.Core.Option.{Option, some, none}
 use lib.ListN.{length, replicate, getElem?}
+use lib.Dec.{eqb}
 use Rattle.line.specs.declared.Received.{Received}
 use Rattle.line.specs.declared.Answer.the-variants.{Ended, Nothing}
 use Rattle.line.specs.Receive.{idle, taken, numberOf}
 use Rattle.line.specs.Frames.{Byte, Frame, frameIn}
 use Rattle.chain.specs.Chain.{Kind, Net, join, flat, said, byteStep}
-use Rattle.modules.specs.Types.{Module, AnySample, kind, slots, known, powered, outputs}
+use Rattle.modules.specs.Types.{Module, AnySample, kind, slots, known, typeOf, powered, outputs}
 use Rattle.network.specs.declared.Called.{Called}
 use Rattle.network.specs.declared.Turn.{Turn}
 use Rattle.network.specs.declared.Walked.{Walked}
@@ -39,6 +40,14 @@ sampleStep place x n = record { receiver = n .receiver; modules = changed (kind 
 -- a byte of the line with its mark
 abbrev pub byteOf : ℕ → Bool → Byte
 byteOf value mark = record { value = value; mark = mark }
+
+-- whether the module at a place is of type t; beyond the chain there is none
+abbrev pub isOf : ℕ → Option Module → Bool
+isOf t none = false
+isOf t (some m) = eqb (typeOf m) t
+
+abbrev pub ofType : ℕ → Net Module → ℕ → Bool
+ofType t n place = isOf t (getElem? (n .modules) place)
 
 -- what the board drives at a place, nothing beyond the chain
 abbrev pub outputsIn : Option Module → List ℕ

@@ -11,13 +11,13 @@ ghost use Rattle.line.specs.declared.Answer;
 ghost use Rattle.station.specs.Touch.{frameOf};
 ghost use Rattle.chain.specs.Chain.{join, flat, byteStep};
 ghost use Rattle.chain.specs.Slots.{slotSize};
-ghost use Rattle.modules.specs.Types.{kind, slots, powered, outputs};
+ghost use Rattle.modules.specs.Types.{kind, slots, powered, measured, outputs};
 ghost use Rattle.network.specs.Record.{recordSize, slotsAt, countAt, receiverIn, receiverBytes, okReceiver, blank, okSlots, netIn, putModules, stored, valid};
 ghost use Rattle.network.specs.Walk.{moduleAt, lowAt, turned, wordsAt, walked, speech, changedAt, ticked, noted};
-ghost use Rattle.network.specs.Calls.{allKnown, fresh, tickStep, sampleStep, calledBy, turnOf, walkOf, endedOf, byteOf, outputsAt};
-use inout::Sample;
+ghost use Rattle.network.specs.Calls.{allKnown, fresh, tickStep, sampleStep, calledBy, turnOf, walkOf, endedOf, byteOf, ofType, outputsAt};
 use line::Answer;
 use line::Receiver;
+use modules::Measured;
 use station::Address;
 use station::Head;
 
@@ -291,14 +291,26 @@ pub fn chain_len(net: &[u8]) -> u8
     net[19]
 }
 
-// A sample for the I/O module at a place.
-pub fn put_io_sample(net: &mut [u8], place: usize, x: Sample)
+// Whether the module at a place is of this type, which its slot's first byte tells; beyond the chain there is none.
+pub fn is_of_type(net: &[u8], place: usize, t: u8) -> bool
+    requires { ⌜ valid slots (now net) ≡ true ⌝ }
+    ensures { λ r. ⌜ r ≡ ofType t (netIn slots (now (net .entry))) place ⌝ }
+{
+    let n = chain_len(net) as usize;
+    if place < n {
+        return net[20 + 128 * place] == t;
+    }
+    false
+}
+
+// A sample for the module at a place; one for another type changes nothing.
+pub fn put_sample(net: &mut [u8], place: usize, x: Measured)
     requires { ⌜ (valid slots (now net) ≡ true) × (place < length (netIn slots (now net) .modules)) ⌝ }
-    ensures { λ _. ⌜ now (net .exit) ≡ stored slots (sampleStep place x (netIn slots (now (net .entry)))) (now (net .entry)) ⌝ }
+    ensures { λ _. ⌜ now (net .exit) ≡ stored slots (sampleStep place (measured x) (netIn slots (now (net .entry)))) (now (net .entry)) ⌝ }
 {
     let at = 20 + 128 * place;
     let end = at + 128;
-    modules::put_io_sample(&mut net[at..end], x);
+    modules::put_sample(&mut net[at..end], x);
 }
 
 // What the board drives for the module at a place.

@@ -3,3 +3,8 @@ pub mod Loads
 pub mod Orders
 pub mod Tick
 pub mod Answers
+pub mod Promises
+pub mod LoadPromises
+pub mod StopPromises
+pub mod TickPromises
+pub mod RestPromises

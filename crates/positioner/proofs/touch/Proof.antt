@@ -16,8 +16,7 @@ execute-requires c κs =
 
 put-reply-requires : tie.Need-put-reply-requires
 put-reply-requires c κs =
-    let a = c .before .before .before .before .before .before .before .before .before .before .before .before .before .before .before in
-    (
+    let a = c .before .before .before .before .before .before .before .before .before .before .before .before .before .before .before in (
       rw (c .before .before .before .before .before .before .before .execute .ensures, c .before .before .before .before .before .before .before .before .before .before .decode .ensures)
           (ranged-after (a .args .s .now) (λ i. omega (arith, c .before .before .before .before .before .before .before .before .before .before .before .before .before .before .slice-known .given i)) (a .pre .1) (frameOf (a .args .f) (a .args .ds .now))
           (c .before .before .before .before .before .before .before .before .is-individually .result) (λ i. omega (arith, c .before .before .before .before .before .before .before .before .before .before .before .before .before .shared-slice-known .given i))),
