@@ -86,7 +86,7 @@ rates-good r t =
       force = λ e. leb-true 1 _ (ap (λ (s : Bool). not s || leb 1 (r .acceleration)) (sym e) ∙ h .1 .1 .0);
     }
 
-rates-fit : (r : Rates) → Rated r → rates .codec .fits r
+pub rates-fit : (r : Rates) → Rated r → rates .codec .fits r
 unfolding ratesFit
 rates-fit r g =
     let v = g .velocity in
@@ -117,7 +117,7 @@ memory-good y t =
     let h = every-hold (leb (natAbs (y .integral)) 32767 ∷ leb (natAbs (y .previous)) 16383 ∷ []) (t .1) in
     record { integral = leb-true _ _ (h .0); previous = leb-true _ _ (h .1 .0) }
 
-memory-fits : (y : Memory) → Kept y → memory .codec .fits y
+pub memory-fits : (y : Memory) → Kept y → memory .codec .fits y
 unfolding memoryFits
 memory-fits y k = (
   (small-fits _ 32767 (omega arith) (k .integral), small-fits _ 16383 (omega arith) (k .previous)),
@@ -130,7 +130,7 @@ drive-good d t =
     let h = every-hold (leb (natAbs (d .pulse)) 255 ∷ leb (natAbs (d .output)) 255 ∷ []) (t .1) in
     (leb-true _ _ (h .0), leb-true _ _ (h .1 .0))
 
-drive-fits : (d : Drive) → natAbs (d .pulse) ≤ 255 → natAbs (d .output) ≤ 255 → drive .codec .fits d
+pub drive-fits : (d : Drive) → natAbs (d .pulse) ≤ 255 → natAbs (d .output) ≤ 255 → drive .codec .fits d
 unfolding driveFits
 drive-fits d p o = (
   (tt, (small-fits _ 255 (omega arith) p, (small-fits _ 255 (omega arith) o, (tt, tt)))),
@@ -181,7 +181,7 @@ module _ (m : Servo) where
   live-fits l =
       hold-every (not (m .drive .error) ∷ not (eqb (m .latched .power) 0) ∷ []) (ap not (l .clear), (ap not (ne-eqb _ _ (l .alive)), tt))
 
-  mode-fits : (k : Mode) → InMode k (m .latched .power) (m .profile) (m .memory) (m .drive) → modeFits k m ≡ true
+  pub mode-fits : (k : Mode) → InMode k (m .latched .power) (m .profile) (m .memory) (m .drive) → modeFits k m ≡ true
   mode-fits Off t =
       hold-every (atRest m ∷ silent m ∷ emptied (m .memory) ∷ unpulsed m ∷ [])
       (eq-same _ _ (t .0 .rest), (eq-same _ _ (t .1), (emptied-fits (t .0), (eq-same _ _ (t .2), tt))))
@@ -193,7 +193,7 @@ module _ (m : Servo) where
   mode-fits Trapezoid t =
       hold-every (unpulsed m ∷ live m ∷ running (m .profile) ∷ []) (eq-same _ _ (t .0), (live-fits (t .1), (tested (m .profile) .1 (t .2), tt)))
 
-  powerless-fits : ((m .latched .power ≡ 1 → ⊥) → m .drive .output ≡ pos 0) → (powered m || silent m) ≡ true
+  pub powerless-fits : ((m .latched .power ≡ 1 → ⊥) → m .drive .output ≡ pos 0) → (powered m || silent m) ≡ true
   powerless-fits h = at (powered m) refl
     where
       at : (s : Bool) → powered m ≡ s → (s || silent m) ≡ true

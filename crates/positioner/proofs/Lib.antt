@@ -4,6 +4,7 @@ pub mod Starts
 pub mod Orders
 pub mod Ticks
 pub mod Within
+pub mod Passed
 pub mod Listed
 pub mod Putting
 pub mod Tested

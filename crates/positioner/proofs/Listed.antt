@@ -1,8 +1,11 @@
--- A slot that passes the tests satisfies the written list. Assumes nothing.
+-- A slot is valid exactly when it satisfies the written list. Assumes nothing.
 use mathlib.Core.Path.{_≡_, refl}
+use mathlib.Core.List.{List}
+use mathlib.Core.Bool.{true}
 use Prim.Native.Nat.{ℕ}
 use borrow.Author.Tests.{eqb-true, leb-true}
 use lib.IntN.{pos}
+use Rattle.layout.specs.Bytes.{Bytes}
 use Rattle.layout.proofs.Every.{every-hold}
 use Rattle.layout.proofs.Codec.{head-sound}
 use Rattle.motion.specs.declared.Profile.{Profile}
@@ -12,10 +15,10 @@ use Rattle.servo.specs.declared.Mode.the-variants.{Off, Pwm, Hold, Velocity, Tr
 use Rattle.servo.specs.declared.Drive.{Drive}
 use Rattle.servo.specs.declared.Servo.{Servo}
 use Rattle.positioner.specs.Slot.{slot, decodeOf, okOf}
-use Rattle.positioner.specs.Promises.{Fits, Listed}
+use Rattle.positioner.specs.Promises.{Fits, Lines, Listed}
 use Rattle.positioner.proofs.Good.{Live, InMode, good}
 use Rattle.positioner.proofs.Ticks.{gains-ranged}
-use Rattle.positioner.proofs.Within.{defined}
+use Rattle.positioner.proofs.Passed.{passed}
 
 module _ (power : ℕ) (p : Profile) (y : Memory) (d : Drive) where
   no-pulse : (k : Mode) → (k ≡ Pwm → ⊥) → InMode k power p y d → d .pulse ≡ pos 0
@@ -32,9 +35,9 @@ module _ (power : ℕ) (p : Profile) (y : Memory) (d : Drive) where
   is-live Velocity n t = t .1
   is-live Trapezoid n t = t .1
 
-pub listed : Listed
+lines : (s : List ℕ) → Bytes s → okOf s ≡ true → Lines s (decodeOf s)
 unfolding okOf decodeOf
-listed s b n v =
+lines s b v =
     let m : Servo = decodeOf s in
     let t : Fits m = head-sound (slot .lawful) s b v in
     let g = good m t in
@@ -61,8 +64,14 @@ listed s b n v =
       placed = leb-true _ _ (loads .1 .1 .0);
       pulsed = leb-true _ _ (loads .1 .1 .1 .0);
       reverse = leb-true _ _ (loads .1 .1 .1 .1 .0);
-      steady = defined m t;
+      speed = g .sane .profile .speed;
+      aim = g .sane .profile .aim;
+      runningAcceleration = g .sane .profile .acceleration;
+      top = g .sane .profile .top;
+      integral = g .sane .memory .integral;
+      previous = g .sane .memory .previous;
       mode = leb-true _ _ (drives .0);
+      pulse = g .sane .pulse;
       output = g .sane .output;
       error = leb-true _ _ (drives .1 .0);
       amplifier = leb-true _ _ (drives .1 .1 .0);
@@ -77,3 +86,6 @@ listed s b n v =
       clear = λ k. is-live _ _ _ _ (m .drive .mode) k i .clear;
       alive = λ k. is-live _ _ _ _ (m .drive .mode) k i .alive;
     }
+
+pub listed : Listed
+listed s b = (lines s b, passed s)

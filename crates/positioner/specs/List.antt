@@ -1,10 +1,8 @@
 -- What a servo in a slot satisfies beyond the ranges of its bytes (document 01, "Numbers given back", the list for 16).
-use mathlib.Core.Bool.{Bool, cond, not, _&&_, _||_}
-use Prim.Native.Nat.{ℕ}
+use mathlib.Core.Bool.{Bool, not, _&&_, _||_}
 use lib.Dec.{eqb, leb}
 use lib.IntN.{pos, natAbs}
 use Rattle.integers.specs.Whole.{same}
-use Rattle.motion.specs.declared.Profile.{Profile}
 use Rattle.motion.specs.Profile.{fastest, running}
 use Rattle.filter.specs.declared.Memory.{Memory}
 use Rattle.servo.specs.declared.Rates.{Rates}

@@ -1,17 +1,18 @@
 -- What is promised of a servo in a slot. Each is proved under its name, with small letters, in proofs/.
 use mathlib.Core.Path.{_≡_}
-use Prim.Native.Nat.{ℕ, _<_, _≤_}
+use mathlib.Core.Logic.{_↔_}
+use Prim.Native.Nat.{ℕ, _≤_}
 use mathlib.Core.List.{List}
 use mathlib.Core.Bool.{Bool, true, false}
 use lib.IntN.{pos, natAbs}
-use lib.ListN.{length, getD}
+use lib.ListN.{getD}
 use Rattle.layout.specs.Bytes.{Bytes}
 use Rattle.line.specs.Frames.{Frame}
 use Rattle.motion.specs.Profile.{fastest}
 use Rattle.motion.specs.Promises.{Running}
 use Rattle.filter.specs.Promises.{Ranged}
 use Rattle.servo.specs.declared.Sample.{Sample}
-use Rattle.servo.specs.declared.Mode.the-variants.{Off, Pwm, Hold, Velocity, Trapezoid}
+use Rattle.servo.specs.declared.Mode.the-variants.{Off, Pwm, Hold, Trapezoid}
 use Rattle.servo.specs.declared.Servo.{Servo}
 use Rattle.servo.specs.Servo.{started, sampled}
 use Rattle.servo.specs.Orders.{execute}
@@ -33,7 +34,7 @@ pub record Kept : Type 0 where
 abbrev pub Defined : Type 0
 Defined = (m : Servo) → Fits m → Steady m
 
--- The list that a valid slot of this type satisfies, line by line.
+-- the list that a valid slot of this type satisfies, line by line
 pub record Lines (s : List ℕ) (m : Servo) : Type 0 where
   pub typeByte : getD s 0 0 ≡ 0
   pub leader : getD s 3 0 ≤ 1
@@ -52,8 +53,15 @@ pub record Lines (s : List ℕ) (m : Servo) : Type 0 where
   pub placed : getD s 53 0 ≤ 1
   pub pulsed : getD s 58 0 ≤ 1
   pub reverse : getD s 60 0 ≤ 1
-  pub steady : Steady m
+  -- what runs: profile, memory and drive
+  pub speed : natAbs (m .profile .speed) ≤ fastest
+  pub aim : natAbs (m .profile .aim) ≤ fastest
+  pub runningAcceleration : m .profile .acceleration ≤ fastest
+  pub top : m .profile .top ≤ fastest
+  pub integral : natAbs (m .memory .integral) ≤ 32767
+  pub previous : natAbs (m .memory .previous) ≤ 16383
   pub mode : getD s 95 0 ≤ 4
+  pub pulse : natAbs (m .drive .pulse) ≤ 255
   pub output : natAbs (m .drive .output) ≤ 255
   pub error : getD s 104 0 ≤ 1
   pub amplifier : getD s 105 0 ≤ 1
@@ -73,5 +81,6 @@ pub record Lines (s : List ℕ) (m : Servo) : Type 0 where
   pub clear : (m .drive .mode ≡ Off → ⊥) → m .drive .error ≡ false
   pub alive : (m .drive .mode ≡ Off → ⊥) → m .latched .power ≡ 0 → ⊥
 
+-- A slot of bytes is valid exactly when it satisfies the list.
 abbrev pub Listed : Type 0
-Listed = (s : List ℕ) → Bytes s → 106 ≤ length s → okOf s ≡ true → Lines s (decodeOf s)
+Listed = (s : List ℕ) → Bytes s → (okOf s ≡ true) ↔ Lines s (decodeOf s)

@@ -237,7 +237,7 @@ fn sample_bytes(x: Sample) -> [u8; 6]
 }
 
 // Two numbers of four bytes.
-fn two_bytes(a: u32, b: u32) -> [u8; 8]
+fn pair_bytes(a: u32, b: u32) -> [u8; 8]
     ensures { λ r. ⌜ r ≡ le 4 a ++ le 4 b ⌝ }
 {
     [
@@ -323,8 +323,8 @@ fn setpoint_bytes(x: u64) -> [u8; 6]
 }
 
 // What stands after the setpoint: five numbers of four bytes.
-fn course_bytes(speed: u32, goal: u32, aim: u32, a: u32, top: u32) -> [u8; 20]
-    ensures { λ r. ⌜ r ≡ le 4 speed ++ le 4 goal ++ le 4 aim ++ le 4 a ++ le 4 top ⌝ }
+fn course_bytes(speed: u32, goal: u32, aim: u32, acceleration: u32, top: u32) -> [u8; 20]
+    ensures { λ r. ⌜ r ≡ le 4 speed ++ le 4 goal ++ le 4 aim ++ le 4 acceleration ++ le 4 top ⌝ }
 {
     [
         (speed % 256) as u8,
@@ -339,10 +339,10 @@ fn course_bytes(speed: u32, goal: u32, aim: u32, a: u32, top: u32) -> [u8; 20]
         (aim / 256 % 256) as u8,
         (aim / 256 / 256 % 256) as u8,
         (aim / 256 / 256 / 256 % 256) as u8,
-        (a % 256) as u8,
-        (a / 256 % 256) as u8,
-        (a / 256 / 256 % 256) as u8,
-        (a / 256 / 256 / 256 % 256) as u8,
+        (acceleration % 256) as u8,
+        (acceleration / 256 % 256) as u8,
+        (acceleration / 256 / 256 % 256) as u8,
+        (acceleration / 256 / 256 / 256 % 256) as u8,
         (top % 256) as u8,
         (top / 256 % 256) as u8,
         (top / 256 / 256 % 256) as u8,
@@ -366,11 +366,11 @@ fn put_profile(s: &mut [u8], p: Profile)
 fn memory_bytes(y: Memory) -> [u8; 8]
     ensures { λ r. ⌜ r ≡ memory .codec .enc y ⌝ }
 {
-    two_bytes(integers::word(y.integral), integers::word(y.previous))
+    pair_bytes(integers::word(y.integral), integers::word(y.previous))
 }
 
-// The mode, the two numbers and the two bits of a drive.
-fn mixed_bytes(mode: u8, pulse: u32, output: u32, error: bool, amplifier: bool) -> [u8; 11]
+// The mode's number, the two numbers as words and the two bits of a drive.
+fn drive_parts_bytes(mode: u8, pulse: u32, output: u32, error: bool, amplifier: bool) -> [u8; 11]
     ensures { λ r. ⌜ r ≡ mode ∷ le 4 pulse ++ le 4 output ++ bit error ∷ bit amplifier ∷ [] ⌝ }
 {
     [
@@ -394,7 +394,7 @@ fn drive_bytes(d: Drive) -> [u8; 11]
     let mode = d.mode;
     let pulse = integers::word(d.pulse);
     let output = integers::word(d.output);
-    mixed_bytes(mode_byte(mode), pulse, output, d.error, d.amplifier)
+    drive_parts_bytes(mode_byte(mode), pulse, output, d.error, d.amplifier)
 }
 
 // Puts the first 41 bytes.
@@ -405,7 +405,7 @@ fn put_front(s: &mut [u8], m: Servo)
     let head = head_bytes(m.station);
     let waiting = sample_bytes(m.waiting);
     let latched = sample_bytes(m.latched);
-    let counts = two_bytes(m.counts.offset, m.counts.last);
+    let counts = pair_bytes(m.counts.offset, m.counts.last);
     let tuning = tuning_bytes(m.tuning);
     layout::put_all(s, 0, &head);
     layout::put_all(s, 8, &waiting);

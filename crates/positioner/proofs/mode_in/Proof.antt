@@ -1,7 +1,6 @@
 -- `positioner::mode_in` meets its contract. Assumes nothing.
 use Rattle.positioner.specs.Slot.{modeIn}
 use Rattle.servo.specs.declared.Mode.the-variants.{Trapezoid}
-use Rattle.servo.specs.declared.Mode.{Mode}
 use Prim.Native.Nat.{ℕ, zero, suc}
 use mathlib.Core.Path.{_≡_, refl}
 use borrow.Author.Needs.{needs}

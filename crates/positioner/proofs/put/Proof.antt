@@ -1,6 +1,5 @@
 -- `positioner::put` meets its contract. Assumes nothing.
 use Rattle.positioner.proofs.Putting.{all-put}
-use Rattle.positioner.specs.List.{ratesFit}
 use borrow.Author.Needs.{needs}
 use Rattle.positioner.proofs.put.Statement.{statement}
 use Rattle.positioner.proofs.put.Tie as tie

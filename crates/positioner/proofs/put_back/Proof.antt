@@ -1,6 +1,5 @@
 -- `positioner::put_back` meets its contract. Assumes nothing.
 use Rattle.positioner.proofs.Putting.{back-put}
-use Rattle.positioner.specs.List.{ratesFit}
 use borrow.Author.Needs.{needs}
 use Rattle.positioner.proofs.put_back.Statement.{statement}
 use Rattle.positioner.proofs.put_back.Tie as tie

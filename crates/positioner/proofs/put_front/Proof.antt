@@ -1,6 +1,5 @@
 -- `positioner::put_front` meets its contract. Assumes nothing.
 use Rattle.positioner.proofs.Putting.{front-put}
-use Rattle.positioner.specs.List.{ratesFit}
 use borrow.Author.Needs.{needs}
 use Rattle.positioner.proofs.put_front.Statement.{statement}
 use Rattle.positioner.proofs.put_front.Tie as tie
@@ -12,7 +11,7 @@ returns c =
     (c .before .before .before .before .before .before .before .before .before .before .before .before .before .before .before .before .before .before .before .before .before .before .before .before .before .before .before .before .before .head-bytes .ensures)
     (c .before .before .before .before .before .before .before .before .before .before .before .before .before .before .before .before .before .before .before .before .before .before .before .before .before .before .before .before .sample-bytes .ensures)
     (c .before .before .before .before .before .before .before .before .before .before .before .before .before .before .before .before .before .before .before .before .before .before .before .before .before .before .before .sample-bytes2 .ensures)
-    (c .before .before .before .before .before .before .before .before .before .before .before .before .before .before .before .before .before .before .before .before .before .before .before .before .before .before .two-bytes .ensures)
+    (c .before .before .before .before .before .before .before .before .before .before .before .before .before .before .before .before .before .before .before .before .before .before .before .before .before .before .pair-bytes .ensures)
     (c .before .before .before .before .before .before .before .before .before .before .before .before .before .before .before .before .before .before .before .before .before .before .before .before .before .tuning-bytes .ensures)
     (c .before .before .before .before .before .before .before .before .before .before .before .before .before .before .before .before .before .before .before .before .before .before .put-all .ensures)
     (c .before .before .before .before .before .before .before .before .before .before .before .before .before .before .before .before .before .put-all2 .ensures)

@@ -1,7 +1,6 @@
 -- `positioner::way_in` meets its contract. Assumes nothing.
 use Rattle.positioner.specs.Slot.{wayIn}
 use Rattle.servo.specs.declared.Way.the-variants.{Move}
-use Rattle.servo.specs.declared.Way.{Way}
 use Prim.Native.Nat.{ℕ, zero, suc}
 use mathlib.Core.Path.{_≡_, refl}
 use borrow.Author.Needs.{needs}
