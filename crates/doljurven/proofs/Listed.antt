@@ -8,8 +8,8 @@ use native.Mathlib.Omega.{arith}
 use lib.ListN.{length, getD, take, drop, length-drop}
 use lib.Seq.{drop-drop, length-take-le}
 use lib.Dec.{eqb, leb}
-use borrow.Author.Tests.{eqb-true, eq-eqb, leb-true, leb-false, le-leb}
-use Rattle.layout.specs.Bytes.{readAt}
+use borrow.Author.Tests.{eqb-true, eqb-false, eq-eqb, ne-eqb, leb-true, leb-false, le-leb}
+use Rattle.layout.specs.Bytes.{readAt, Bytes}
 use Rattle.layout.proofs.Laws.{bytes-take, bytes-drop}
 use Rattle.layout.proofs.Every.{hold-every}
 use Rattle.chain.specs.Slots.{slotSize}
@@ -17,11 +17,13 @@ use Rattle.modules.specs.Types.{slots}
 use Rattle.inout.specs.Slot.{slot, decodeOf, okOf}
 use Rattle.inout.specs.Promises.{Lines}
 use Rattle.inout.proofs.Listed as Slot
+use Rattle.positioner.specs.Slot as Positioner
+use Rattle.positioner.proofs.Listed as Servo
 use Rattle.network.specs.Record.{slotsAt, blank, okReceiver, okSlots, valid}
 use Rattle.network.proofs.Tests.{and-true}
 use Rattle.network.proofs.Head.{told}
 use Rattle.network.proofs.Valid.{Valid, valid-is, is-valid}
-use Rattle.doljurven.specs.Promises.{Satisfies, Listed}
+use Rattle.doljurven.specs.Promises.{SlotLines, Satisfies, Listed}
 
 -- bytes that are read as 0
 blank-read : (k at : ℕ) (s : List ℕ) → blank (readAt k at s) ≡ true → (i : ℕ) → at ≤ i → i < at + k → getD s i 0 ≡ 0
@@ -60,25 +62,25 @@ idle-blank s v z i h =
 next-slot : (i : ℕ) (t : List ℕ) → drop (slotSize * i) (drop slotSize t) ≡ drop (slotSize * suc i) t
 next-slot i t = let e : slotSize + slotSize * i ≡ slotSize * suc i = omega (arith, mul-suc slotSize i) in drop-drop (slotSize * i) slotSize t ∙ ap (λ (n : ℕ). drop n t) e
 
-each-ok : (k : ℕ) (t : List ℕ) → okSlots slots k t ≡ true → (i : ℕ) → i < k → okOf (take slotSize (drop (slotSize * i) t)) ≡ true
+each-ok : (k : ℕ) (t : List ℕ) → okSlots slots k t ≡ true → (i : ℕ) → i < k → slots .ok (take slotSize (drop (slotSize * i) t)) ≡ true
 unfolding okSlots
 each-ok zero t v i h = absurd (omega arith)
-each-ok (suc k) t v zero h = and-true (okOf (take slotSize t)) (okSlots slots k (drop slotSize t)) v .0
+each-ok (suc k) t v zero h = and-true (slots .ok (take slotSize t)) (okSlots slots k (drop slotSize t)) v .0
 each-ok (suc k) t v (suc i) h =
-    ap (λ (l : List ℕ). okOf (take slotSize l)) (sym (next-slot i t))
-    ∙ each-ok k (drop slotSize t) (and-true (okOf (take slotSize t)) (okSlots slots k (drop slotSize t)) v .1) i (omega arith)
+    ap (λ (l : List ℕ). slots .ok (take slotSize l)) (sym (next-slot i t))
+    ∙ each-ok k (drop slotSize t) (and-true (slots .ok (take slotSize t)) (okSlots slots k (drop slotSize t)) v .1) i (omega arith)
 
-ok-each : (k : ℕ) (t : List ℕ) → ((i : ℕ) → i < k → okOf (take slotSize (drop (slotSize * i) t)) ≡ true) → okSlots slots k t ≡ true
+ok-each : (k : ℕ) (t : List ℕ) → ((i : ℕ) → i < k → slots .ok (take slotSize (drop (slotSize * i) t)) ≡ true) → okSlots slots k t ≡ true
 unfolding okSlots
 ok-each zero t h = refl
 ok-each (suc k) t h =
     ap₂ _&&_ (h 0 (omega arith))
-    (ok-each k (drop slotSize t) (λ i l. ap (λ (x : List ℕ). okOf (take slotSize x)) (next-slot i t) ∙ h (suc i) (omega arith)))
+    (ok-each k (drop slotSize t) (λ i l. ap (λ (x : List ℕ). slots .ok (take slotSize x)) (next-slot i t) ∙ h (suc i) (omega arith)))
 
--- a slot that satisfies its list passes the tests
-slot-ok : (s : List ℕ) → Lines s → okOf s ≡ true
+-- an I/O module's slot that satisfies its list passes the tests
+io-ok : (s : List ℕ) → Lines s → okOf s ≡ true
 unfolding okOf decodeOf
-slot-ok s l =
+io-ok s l =
     hold-every (slot .codec .tests 0 s) (
       eq-eqb _ _ (l .typeByte),
       (
@@ -105,6 +107,20 @@ slot-ok s l =
     top : (a b : ℕ) → a + 256 * (b + 256 * 0) < 4096 → b ≤ 15
     top a b h = omega arith
 
+-- a slot of either type
+slot-ok : (s : List ℕ) → Bytes s → SlotLines s → slots .ok s ≡ true
+slot-ok s b l = go (eqb (getD s 0 0) 0) refl
+  where
+    go : (t : Bool) → eqb (getD s 0 0) 0 ≡ t → cond t (Positioner.okOf s) (okOf s) ≡ true
+    go true e = Servo.listed s b .1 (l .servo (eqb-true _ _ e))
+    go false e = io-ok s (l .io (eqb-false _ _ e))
+
+slot-lines : (s : List ℕ) → Bytes s → 43 ≤ length s → slots .ok s ≡ true → SlotLines s
+slot-lines s b h v = record {
+  servo = λ e. Servo.listed s b .0 (rw (eq-eqb _ _ e) at v);
+  io = λ n. Slot.listed s b h (rw (ne-eqb _ _ n) at v);
+}
+
 at-slot : (i : ℕ) (s : List ℕ) → drop (slotSize * i) (drop slotsAt s) ≡ drop (20 + 128 * i) s
 at-slot i s = drop-drop (slotSize * i) slotsAt s
 
@@ -129,8 +145,8 @@ listed s b = (there, back)
           within = t .within;
           mark = t .flag;
           each = λ i h.
-              Slot.listed (take 128 (drop (20 + 128 * i) s)) (bytes-take 128 (drop (20 + 128 * i) s) (bytes-drop (20 + 128 * i) s b)) (slot-long i w h)
-              (ap (λ (l : List ℕ). okOf (take 128 l)) (sym (at-slot i s)) ∙ each-ok (getD s 19 0) (drop slotsAt s) (w .slots) i h);
+              slot-lines (take 128 (drop (20 + 128 * i) s)) (bytes-take 128 (drop (20 + 128 * i) s) (bytes-drop (20 + 128 * i) s b)) (slot-long i w h)
+              (ap (λ (l : List ℕ). slots .ok (take 128 l)) (sym (at-slot i s)) ∙ each-ok (getD s 19 0) (drop slotsAt s) (w .slots) i h);
         }
 
     back : Satisfies s → valid slots s ≡ true
@@ -141,5 +157,5 @@ listed s b = (there, back)
           most = h .most;
           receiver = receiver-ok s h;
           slots = ok-each (getD s 19 0) (drop slotsAt s)
-              (λ i l. ap (λ (x : List ℕ). okOf (take 128 x)) (at-slot i s) ∙ slot-ok (take 128 (drop (20 + 128 * i) s)) (h .each i l));
+              (λ i l. ap (λ (x : List ℕ). slots .ok (take 128 x)) (at-slot i s) ∙ slot-ok (take 128 (drop (20 + 128 * i) s)) (bytes-take 128 (drop (20 + 128 * i) s) (bytes-drop (20 + 128 * i) s b)) (h .each i l));
         })

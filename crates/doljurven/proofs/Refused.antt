@@ -9,13 +9,14 @@ use lib.ListN.{length}
 use lib.Dec.{eqb, ltb}
 use Rattle.layout.specs.Bytes.{pasted}
 use Rattle.chain.specs.Chain.{Step, flat}
-use Rattle.modules.specs.Types.{Module, slots}
+use Rattle.modules.specs.Types.{Module, AnySample, slots}
 use Rattle.network.specs.declared.Called.{Called}
 use Rattle.network.specs.Record.{recordSize, netIn, stored, valid}
-use Rattle.network.specs.Calls.{allKnown, byteOf, calledBy}
-use Rattle.doljurven.specs.Table.{Line, first, setupTable, byteTable, ioSampleTable, tickTable, outputsTable}
+use Rattle.network.specs.Calls.{allKnown, byteOf, calledBy, sampleStep}
+use Rattle.network.proofs.Calls.{of-type-below}
+use Rattle.doljurven.specs.Table.{Line, first, setupTable, byteTable, sampleTable, tickTable, outputsTable}
 use Rattle.doljurven.specs.Promises.{Passes}
-use Rattle.doljurven.specs.Calls.{unless, stepOf, byteNumber, byteRecord, byteRoom, byteWritten}
+use Rattle.doljurven.specs.Calls.{unless, stepOf, sampleRecord, byteNumber, byteRecord, byteRoom, byteWritten}
 use Rattle.doljurven.proofs.Tables.{none-applies}
 
 -- by the number that a refusing function gave
@@ -58,11 +59,22 @@ byte-passes net mark room e =
     let n = none-applies (byteTable net mark room) (omega arith, (omega arith, (omega arith, tt))) e in
     (not-false _ (n .0), ltb-false _ _ (n .1 .1 .0))
 
-pub io-sample-passes : (net : List ℕ) (place inputs : ℕ) → first (ioSampleTable net place inputs) ≡ 0
-    → (valid slots net ≡ true) × (place < length (netIn slots net .modules)) × (inputs ≤ 4095)
-io-sample-passes net place inputs e =
-    let n = none-applies (ioSampleTable net place inputs) (omega arith, (omega arith, (omega arith, tt))) e in
-    (not-false _ (n .0), ltb-true _ _ (not-false _ (n .1 .0)), ltb-false _ _ (n .1 .1 .0))
+pub sample-passes : (t : ℕ) (net : List ℕ) (place : ℕ) (far : Bool) → first (sampleTable t net place far) ≡ 0
+    → (valid slots net ≡ true) × (place < length (netIn slots net .modules)) × (far ≡ false)
+sample-passes t net place far e =
+    let n = none-applies (sampleTable t net place far) (omega arith, (omega arith, (omega arith, tt))) e in
+    (not-false _ (n .0), of-type-below (netIn slots net) place t (not-false _ (n .1 .0)), n .1 .1 .0)
+
+-- a sample's call, refused and done
+module _ (ls : List Line) (net : List ℕ) (place : ℕ) (x : AnySample) {n : ℕ} (e : n ≡ first ls) where
+  pub sample-refused : (n ≡ 0 → ⊥) → (n ≡ first ls) × (net ≡ sampleRecord ls net place x)
+  unfolding sampleRecord
+  sample-refused h = (e, refused ls net (stored slots (sampleStep place x (netIn slots net)) net) e h)
+
+  pub sample-done : n ≡ 0 → {net′ : List ℕ} → net′ ≡ stored slots (sampleStep place x (netIn slots net)) net
+      → (0 ≡ first ls) × (net′ ≡ sampleRecord ls net place x)
+  unfolding sampleRecord
+  sample-done z p = (sym z ∙ e, p ∙ done ls net (stored slots (sampleStep place x (netIn slots net)) net) e z)
 
 pub tick-passes : (net : List ℕ) → Passes (tickTable net) → valid slots net ≡ true
 tick-passes net e = let n = none-applies (tickTable net) (omega arith, tt) e in not-false _ (n .0)

@@ -17,8 +17,8 @@ use Rattle.chain.proofs.Bytes.{step-on, step-end}
 use Rattle.modules.specs.Types.{Module, kind, slots}
 use Rattle.network.specs.Record.{netIn, stored, valid}
 use Rattle.network.specs.Calls.{fresh, tickStep, sampleStep, outputsAt}
-use Rattle.doljurven.specs.Table.{Line, first, setupTable, byteTable, ioSampleTable, tickTable, outputsTable}
-use Rattle.doljurven.specs.Calls.{unless, stepOf, sampleOf, setupRecord, byteNumber, ioSampleRecord, tickRecord, outputsBytes}
+use Rattle.doljurven.specs.Table.{Line, first, setupTable, byteTable, servoSampleTable, ioSampleTable, tickTable, outputsTable}
+use Rattle.doljurven.specs.Calls.{unless, stepOf, servoSampleOf, ioSampleOf, sampleRecord, setupRecord, byteNumber, tickRecord, outputsBytes}
 use Rattle.doljurven.specs.Promises.{Refuses, Passes, Unchanged, Answers}
 use Rattle.doljurven.proofs.Refused.{refused, done, byte-refused}
 
@@ -27,14 +27,16 @@ same : {A : Type 0} (ls : List Line) (x y : A) → Refuses ls → unless ls x y 
 same ls x y h = sym (refused ls x y refl h)
 
 pub unchanged : Unchanged
-unfolding setupRecord ioSampleRecord tickRecord outputsBytes
+unfolding setupRecord sampleRecord tickRecord outputsBytes
 unchanged = record {
   setup = λ net types h. same (setupTable net types) net (fresh types) h;
   byte = λ net mark byte room h.
       let p = byte-refused net mark byte room refl h in
       record { number = sym (p .0); netKept = sym (p .1 .0); roomKept = sym (p .1 .1 .0); written = sym (p .1 .1 .1) };
+  servoSample = λ net place raw power ad h.
+      same (servoSampleTable net place power) net (stored slots (sampleStep place (servoSampleOf raw power ad) (netIn slots net)) net) h;
   ioSample = λ net place inputs ad1 ad2 ad3 counter h.
-      same (ioSampleTable net place inputs) net (stored slots (sampleStep place (sampleOf inputs ad1 ad2 ad3 counter) (netIn slots net)) net) h;
+      same (ioSampleTable net place inputs) net (stored slots (sampleStep place (ioSampleOf inputs ad1 ad2 ad3 counter) (netIn slots net)) net) h;
   tick = λ net h. same (tickTable net) net (stored slots (tickStep (netIn slots net)) net) h;
   outputs = λ net place bytes h. same (outputsTable net place) bytes (outputsAt (netIn slots net) place) h;
 }

@@ -3,16 +3,18 @@
 use Prim.Native.Nat.{ℕ, zero, suc, _+_}
 use mathlib.Core.List.{List, [], _∷_, _++_}
 use mathlib.Core.Bool.{Bool, cond}
+use mathlib.Core.Logic.{inl, inr}
 use lib.ListN.{length, getD}
 use lib.Dec.{eqb}
 use Rattle.layout.specs.Bytes.{le, pasted}
 use Rattle.chain.specs.Chain.{Step, flat, byteStep}
 use Rattle.modules.specs.Types.{Module, AnySample, kind, slots}
-use Rattle.inout.specs.declared.Sample.{Sample}
+use Rattle.inout.specs.declared.Sample as Inouts
+use Rattle.servo.specs.declared.Sample as Servos
 use Rattle.network.specs.Record.{netIn, stored}
 use Rattle.network.specs.Calls.{byteOf, fresh, tickStep, sampleStep, outputsAt}
 use Rattle.host.specs.declared.Reading.{Reading}
-use Rattle.doljurven.specs.Table.{Line, first, setupTable, byteTable, ioSampleTable, tickTable, outputsTable}
+use Rattle.doljurven.specs.Table.{Line, first, setupTable, byteTable, tickTable, outputsTable}
 
 -- what holds where no line of a table applies, and what where one does
 abbrev pub unless : {A : Type 0} → List Line → A → A → A
@@ -38,12 +40,15 @@ byteRoom net mark byte room = unless (byteTable net mark room) room (pasted 0 (f
 unfoldable pub byteWritten : List ℕ → ℕ → ℕ → List ℕ → ℕ
 byteWritten net mark byte room = unless (byteTable net mark room) 0 (length (flat (stepOf net mark byte .replies)))
 
--- an I/O sample, as C hands its fields over
-abbrev pub sampleOf : ℕ → ℕ → ℕ → ℕ → ℕ → Sample
-sampleOf inputs ad1 ad2 ad3 counter = record { inputs = inputs; ad1 = ad1; ad2 = ad2; ad3 = ad3; counter = counter }
+-- samples, as C hands their fields over
+abbrev pub servoSampleOf : ℕ → ℕ → ℕ → AnySample
+servoSampleOf raw power ad = inl (record { raw = raw; power = power; ad = ad })
 
-unfoldable pub ioSampleRecord : List ℕ → ℕ → Sample → List ℕ
-ioSampleRecord net place x = unless (ioSampleTable net place (x .inputs)) net (stored slots (sampleStep place x (netIn slots net)) net)
+abbrev pub ioSampleOf : ℕ → ℕ → ℕ → ℕ → ℕ → AnySample
+ioSampleOf inputs ad1 ad2 ad3 counter = inr (record { inputs = inputs; ad1 = ad1; ad2 = ad2; ad3 = ad3; counter = counter })
+
+unfoldable pub sampleRecord : List Line → List ℕ → ℕ → AnySample → List ℕ
+sampleRecord table net place x = unless table net (stored slots (sampleStep place x (netIn slots net)) net)
 
 -- a tick
 unfoldable pub tickRecord : List ℕ → List ℕ

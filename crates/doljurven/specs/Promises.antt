@@ -12,16 +12,20 @@ use Rattle.station.specs.Report.{itemsFor, causeBit}
 use Rattle.chain.specs.Chain.{flat, executed, replied}
 use Rattle.modules.specs.Types.{slots}
 use Rattle.inout.specs.declared.Io.{Io}
-use Rattle.inout.specs.Module.{inout, numbers, reply}
-use Rattle.inout.specs.Promises.{Fits, Lines}
+use Rattle.inout.specs.Module as Inout
+use Rattle.inout.specs.Promises as InoutPromises
+use Rattle.servo.specs.declared.Servo.{Servo}
+use Rattle.servo.specs.Answers as ServoAnswers
+use Rattle.positioner.specs.Slot.{decodeOf}
+use Rattle.positioner.specs.Promises as ServoPromises
 use Rattle.network.specs.Record.{netIn, valid}
 use Rattle.network.specs.Calls.{setUp, tickStep, sampleStep}
 use Rattle.network.specs.Promises.{There, Back}
 use Rattle.host.specs.declared.Answered.{Answered}
 use Rattle.host.specs.Reading.{statusOf}
 use Rattle.host.specs.Promises.{shown}
-use Rattle.doljurven.specs.Table.{Line, first, setupTable, byteTable, ioSampleTable, tickTable, outputsTable}
-use Rattle.doljurven.specs.Calls.{setupRecord, stepOf, byteNumber, byteRecord, byteRoom, byteWritten, sampleOf, ioSampleRecord, tickRecord, outputsBytes}
+use Rattle.doljurven.specs.Table.{Line, first, setupTable, byteTable, servoSampleTable, ioSampleTable, tickTable, outputsTable}
+use Rattle.doljurven.specs.Calls.{setupRecord, stepOf, byteNumber, byteRecord, byteRoom, byteWritten, servoSampleOf, ioSampleOf, sampleRecord, tickRecord, outputsBytes}
 
 -- n is given by a table: a line with the number n applies, and no line before it does
 pub data Given (n : ℕ) : List Line → Type 0 where
@@ -54,6 +58,7 @@ Ordered ls ns = (map (λ (l : Line). l .number) ls ≡ ns) × Numbered ls
 pub record Tables : Type 0 where
   pub setup : (net types : List ℕ) → Ordered (setupTable net types) (16 ∷ 11 ∷ 12 ∷ [])
   pub byte : (net : List ℕ) (mark : ℕ) (room : List ℕ) → Ordered (byteTable net mark room) (16 ∷ 14 ∷ 15 ∷ [])
+  pub servoSample : (net : List ℕ) (place power : ℕ) → Ordered (servoSampleTable net place power) (16 ∷ 13 ∷ 14 ∷ [])
   pub ioSample : (net : List ℕ) (place inputs : ℕ) → Ordered (ioSampleTable net place inputs) (16 ∷ 13 ∷ 14 ∷ [])
   pub tick : (net : List ℕ) → Ordered (tickTable net) (16 ∷ [])
   pub outputs : (net : List ℕ) (place : ℕ) → Ordered (outputsTable net place) (16 ∷ 13 ∷ [])
@@ -77,9 +82,12 @@ pub record Untouched (net : List ℕ) (mark byte : ℕ) (room : List ℕ) : Type
 pub record Unchanged : Type 0 where
   pub setup : (net types : List ℕ) → Refuses (setupTable net types) → setupRecord net types ≡ net
   pub byte : (net : List ℕ) (mark byte : ℕ) (room : List ℕ) → Refuses (byteTable net mark room) → Untouched net mark byte room
+  pub servoSample : (net : List ℕ) (place raw power ad : ℕ)
+      → Refuses (servoSampleTable net place power)
+      → sampleRecord (servoSampleTable net place power) net place (servoSampleOf raw power ad) ≡ net
   pub ioSample : (net : List ℕ) (place inputs ad1 ad2 ad3 counter : ℕ)
       → Refuses (ioSampleTable net place inputs)
-      → ioSampleRecord net place (sampleOf inputs ad1 ad2 ad3 counter) ≡ net
+      → sampleRecord (ioSampleTable net place inputs) net place (ioSampleOf inputs ad1 ad2 ad3 counter) ≡ net
   pub tick : (net : List ℕ) → Refuses (tickTable net) → tickRecord net ≡ net
   pub outputs : (net : List ℕ) (place : ℕ) (bytes : List ℕ) → Refuses (outputsTable net place) → outputsBytes net place bytes ≡ bytes
 
@@ -95,18 +103,25 @@ Answers = (net : List ℕ) (mark byte : ℕ) (room : List ℕ) → Answer net ma
 abbrev pub ValidRecord : List ℕ → Type 0
 ValidRecord s = (valid slots s ≡ true) × Bytes s
 
--- what C can hand over as an I/O sample, but for its inputs, which the call tests
-abbrev pub Handed : ℕ → ℕ → ℕ → ℕ → Type 0
-Handed ad1 ad2 ad3 counter = (ad1 < 256) × (ad2 < 256) × (ad3 < 256) × (counter < 4294967296)
+-- what C can hand over as a servo sample, but for its power, which the call tests; and as an I/O sample, but for its inputs
+abbrev pub ServoHanded : ℕ → ℕ → Type 0
+ServoHanded raw ad = (raw < 4294967296) × (ad < 256)
+
+abbrev pub IoHanded : ℕ → ℕ → ℕ → ℕ → Type 0
+IoHanded ad1 ad2 ad3 counter = (ad1 < 256) × (ad2 < 256) × (ad3 < 256) × (counter < 4294967296)
 
 -- Setup, unless it is refused, leaves a valid record, whatever was lent; every other call, refused or not, keeps a valid record valid.
 pub record Kept : Type 0 where
   pub setup : (net types : List ℕ) → Passes (setupTable net types) → ValidRecord (setupRecord net types)
   pub byte : (net : List ℕ) (mark byte : ℕ) (room : List ℕ) → byte < 256 → ValidRecord net → ValidRecord (byteRecord net mark byte room)
-  pub ioSample : (net : List ℕ) (place inputs ad1 ad2 ad3 counter : ℕ)
-      → Handed ad1 ad2 ad3 counter
+  pub servoSample : (net : List ℕ) (place raw power ad : ℕ)
+      → ServoHanded raw ad
       → ValidRecord net
-      → ValidRecord (ioSampleRecord net place (sampleOf inputs ad1 ad2 ad3 counter))
+      → ValidRecord (sampleRecord (servoSampleTable net place power) net place (servoSampleOf raw power ad))
+  pub ioSample : (net : List ℕ) (place inputs ad1 ad2 ad3 counter : ℕ)
+      → IoHanded ad1 ad2 ad3 counter
+      → ValidRecord net
+      → ValidRecord (sampleRecord (ioSampleTable net place inputs) net place (ioSampleOf inputs ad1 ad2 ad3 counter))
   pub tick : (net : List ℕ) → ValidRecord net → ValidRecord (tickRecord net)
 
 -- After a call that was not refused the record holds the network that the step of the definitions makes of the one that it held.
@@ -117,12 +132,18 @@ pub record Holds : Type 0 where
       → Bytes net
       → Passes (byteTable net mark room)
       → netIn slots (byteRecord net mark byte room) ≡ stepOf net mark byte .net
+  pub servoSample : (net : List ℕ) (place raw power ad : ℕ)
+      → ServoHanded raw ad
+      → Bytes net
+      → Passes (servoSampleTable net place power)
+      → netIn slots (sampleRecord (servoSampleTable net place power) net place (servoSampleOf raw power ad))
+      ≡ sampleStep place (servoSampleOf raw power ad) (netIn slots net)
   pub ioSample : (net : List ℕ) (place inputs ad1 ad2 ad3 counter : ℕ)
-      → Handed ad1 ad2 ad3 counter
+      → IoHanded ad1 ad2 ad3 counter
       → Bytes net
       → Passes (ioSampleTable net place inputs)
-      → netIn slots (ioSampleRecord net place (sampleOf inputs ad1 ad2 ad3 counter))
-      ≡ sampleStep place (sampleOf inputs ad1 ad2 ad3 counter) (netIn slots net)
+      → netIn slots (sampleRecord (ioSampleTable net place inputs) net place (ioSampleOf inputs ad1 ad2 ad3 counter))
+      ≡ sampleStep place (ioSampleOf inputs ad1 ad2 ad3 counter) (netIn slots net)
   pub tick : (net : List ℕ) → Bytes net → Passes (tickTable net) → netIn slots (tickRecord net) ≡ tickStep (netIn slots net)
 
 -- To write the network of a valid record into it changes no byte; a sound network that is written into a record comes back from it, and the
@@ -130,24 +151,42 @@ pub record Holds : Type 0 where
 abbrev pub ThereAndBack : Type 0
 ThereAndBack = There slots × Back slots
 
--- what the status reader makes of a module's reply: the status byte with the module's cause, and the numbers of the items that were asked for
-abbrev pub readFrom : Frame → Io → Answered
-readFrom f m = record {
-  number = 0;
-  reading = record { status = causeBit (m .station .cause); numbers = shown (itemsFor f (m .station)) (numbers m) };
-}
+-- what the status reader makes of a reply with this status byte, these items asked for and these numbers
+abbrev pub readOf : ℕ → ℕ → List ℕ → Answered
+readOf status items numbers = record { number = 0; reading = record { status = status; numbers = shown items numbers } }
 
--- The status reader takes apart whatever an I/O module replies: of the record after the frame, and so on the line, of the record before it.
+abbrev pub servoRead : Frame → Servo → Answered
+servoRead f m = readOf (ServoAnswers.status m) (itemsFor f (m .station)) (ServoAnswers.numbers m)
+
+abbrev pub ioRead : Frame → Io → Answered
+ioRead f m = readOf (causeBit (m .station .cause)) (itemsFor f (m .station)) (Inout.numbers m)
+
+-- The status reader takes apart whatever a module replies: of the record after the frame, and so on the line, of the record before it.
 pub record StatusRead : Type 0 where
-  pub after : (f : Frame) (m : Io)
-      → Fits m
-      → (reply f m ≡ [] → ⊥)
-      → statusOf 2 (itemsFor f (m .station)) (reply f m) ≡ readFrom f m
-  pub before : (f : Frame) (m : Io)
+  pub servoAfter : (f : Frame) (m : Servo)
+      → ServoPromises.Fits m
+      → (ServoAnswers.reply f m ≡ [] → ⊥)
+      → statusOf 0 (itemsFor f (m .station)) (ServoAnswers.reply f m) ≡ servoRead f m
+  pub servoBefore : (f : Frame) (m : Servo)
       → Bytes (f .content)
-      → Fits m
-      → (replied inout f m ≡ [] → ⊥)
-      → statusOf 2 (itemsFor f (executed inout f m .station)) (replied inout f m) ≡ readFrom f (executed inout f m)
+      → ServoPromises.Fits m
+      → (replied ServoAnswers.servo f m ≡ [] → ⊥)
+      → statusOf 0 (itemsFor f (executed ServoAnswers.servo f m .station)) (replied ServoAnswers.servo f m)
+      ≡ servoRead f (executed ServoAnswers.servo f m)
+  pub ioAfter : (f : Frame) (m : Io)
+      → InoutPromises.Fits m
+      → (Inout.reply f m ≡ [] → ⊥)
+      → statusOf 2 (itemsFor f (m .station)) (Inout.reply f m) ≡ ioRead f m
+  pub ioBefore : (f : Frame) (m : Io)
+      → Bytes (f .content)
+      → InoutPromises.Fits m
+      → (replied Inout.inout f m ≡ [] → ⊥)
+      → statusOf 2 (itemsFor f (executed Inout.inout f m .station)) (replied Inout.inout f m) ≡ ioRead f (executed Inout.inout f m)
+
+-- the lines of a slot: a servo's where its first byte is 0, an I/O module's where it is another, which must then be 2
+pub record SlotLines (s : List ℕ) : Type 0 where
+  pub servo : getD s 0 0 ≡ 0 → ServoPromises.Lines s (decodeOf s)
+  pub io : (getD s 0 0 ≡ 0 → ⊥) → InoutPromises.Lines s
 
 -- the list that a valid record satisfies, line by line
 pub record Satisfies (s : List ℕ) : Type 0 where
@@ -159,7 +198,7 @@ pub record Satisfies (s : List ℕ) : Type 0 where
   pub within : getD s 17 0 ≤ 3 + getD s 16 0 / 16
   pub mark : getD s 18 0 ≤ 1
   -- each module's slot
-  pub each : (i : ℕ) → i < getD s 19 0 → Lines (take 128 (drop (20 + 128 * i) s))
+  pub each : (i : ℕ) → i < getD s 19 0 → SlotLines (take 128 (drop (20 + 128 * i) s))
 
 -- A record of bytes is valid exactly when it satisfies the list.
 abbrev pub Listed : Type 0

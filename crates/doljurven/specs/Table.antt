@@ -6,7 +6,7 @@ use lib.ListN.{length}
 use lib.Dec.{eqb, ltb}
 use Rattle.modules.specs.Types.{slots}
 use Rattle.network.specs.Record.{recordSize, netIn, valid}
-use Rattle.network.specs.Calls.{allKnown}
+use Rattle.network.specs.Calls.{allKnown, ofType}
 
 -- a line of the table: its number, and whether it applies
 pub record Line : Type 0 where
@@ -42,9 +42,20 @@ byteTable net mark room =
     ∷ record { number = 15; applies = ltb (length room) 608 }
     ∷ []
 
--- an I/O sample: 16, 13, 14 more than twelve input bits
+-- a sample for a module of type t: 16, 13 no module of that type is at the place, 14 a field is out of range
+abbrev pub sampleTable : ℕ → List ℕ → ℕ → Bool → List Line
+sampleTable t net place far =
+    broken net
+    ∷ record { number = 13; applies = not (ofType t (netIn slots net) place) }
+    ∷ record { number = 14; applies = far }
+    ∷ []
+
+-- a servo's power is at most 2, an I/O module's inputs are twelve bits
+abbrev pub servoSampleTable : List ℕ → ℕ → ℕ → List Line
+servoSampleTable net place power = sampleTable 0 net place (ltb 2 power)
+
 abbrev pub ioSampleTable : List ℕ → ℕ → ℕ → List Line
-ioSampleTable net place inputs = broken net ∷ beyond net place ∷ record { number = 14; applies = ltb 4095 inputs } ∷ []
+ioSampleTable net place inputs = sampleTable 2 net place (ltb 4095 inputs)
 
 -- a tick: 16
 abbrev pub tickTable : List ℕ → List Line

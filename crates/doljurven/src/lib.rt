@@ -4,10 +4,10 @@ ghost use lib.ListN.{length};
 ghost use Rattle.layout.specs.Bytes.{pasted};
 ghost use Rattle.host.specs.Writing.{writtenOf, roomAfter};
 ghost use Rattle.host.specs.Reading.{statusOf};
-ghost use Rattle.doljurven.specs.Table.{first, setupTable, byteTable, ioSampleTable, tickTable, outputsTable};
-ghost use Rattle.doljurven.specs.Calls.{setupRecord, byteNumber, byteRecord, byteRoom, byteWritten, ioSampleRecord, tickRecord, outputsBytes, numbersBytes, readingBytes, sampleOf};
+ghost use Rattle.doljurven.specs.Table.{first, setupTable, byteTable, sampleTable, servoSampleTable, ioSampleTable, tickTable, outputsTable};
+ghost use Rattle.doljurven.specs.Calls.{setupRecord, byteNumber, byteRecord, byteRoom, byteWritten, servoSampleOf, ioSampleOf, sampleRecord, tickRecord, outputsBytes, numbersBytes, readingBytes};
 use host::Reading;
-use inout::Sample;
+use modules::Measured;
 
 fn setup_refusal(net: &[u8], types: &[u8]) -> u32
     ensures { λ r. ⌜ r ≡ first (setupTable (now (net .entry)) (now (types .entry))) ⌝ }
@@ -77,18 +77,38 @@ pub extern "C" fn nmc_byte(
     called.number
 }
 
-fn io_sample_refusal(net: &[u8], place: u32, inputs: u32) -> u32
-    ensures { λ r. ⌜ r ≡ first (ioSampleTable (now (net .entry)) place inputs) ⌝ }
+// A sample for a module of type t at a place; far says that a field is out of range.
+fn sample_refusal(net: &[u8], place: u32, t: u8, far: bool) -> u32
+    ensures { λ r. ⌜ r ≡ first (sampleTable t (now (net .entry)) place far) ⌝ }
 {
     if !network::is_valid(net) {
         return 16;
     }
-    if !(place < network::chain_len(net) as u32) {
+    if !network::is_of_type(net, place as usize, t) {
         return 13;
     }
-    if 4095 < inputs {
+    if far {
         return 14;
     }
+    0
+}
+
+// A sample for the servo at a place, which takes effect at the next tick: 0, or 16, 13, 14.
+#[no_mangle]
+pub extern "C" fn nmc_servo_sample(net: &mut [u8], place: u32, raw: u32, power: u32, ad: u8) -> u32
+    ensures { λ r. ⌜ r ≡ first (servoSampleTable (now (net .entry)) place power) ⌝ }
+    ensures { λ _. ⌜ now (net .exit) ≡ sampleRecord (servoSampleTable (now (net .entry)) place power) (now (net .entry)) place (servoSampleOf raw power ad) ⌝ }
+{
+    let number = sample_refusal(net, place, 0, 2 < power);
+    if number != 0 {
+        return number;
+    }
+    let x = servo::Sample {
+        raw,
+        power: power as u8,
+        ad,
+    };
+    network::put_sample(net, place as usize, Measured::Servo(x));
     0
 }
 
@@ -104,20 +124,20 @@ pub extern "C" fn nmc_io_sample(
     counter: u32,
 ) -> u32
     ensures { λ r. ⌜ r ≡ first (ioSampleTable (now (net .entry)) place inputs) ⌝ }
-    ensures { λ _. ⌜ now (net .exit) ≡ ioSampleRecord (now (net .entry)) place (sampleOf inputs ad1 ad2 ad3 counter) ⌝ }
+    ensures { λ _. ⌜ now (net .exit) ≡ sampleRecord (ioSampleTable (now (net .entry)) place inputs) (now (net .entry)) place (ioSampleOf inputs ad1 ad2 ad3 counter) ⌝ }
 {
-    let number = io_sample_refusal(net, place, inputs);
+    let number = sample_refusal(net, place, 2, 4095 < inputs);
     if number != 0 {
         return number;
     }
-    let x = Sample {
+    let x = inout::Sample {
         inputs: inputs as u16,
         ad1,
         ad2,
         ad3,
         counter,
     };
-    network::put_io_sample(net, place as usize, x);
+    network::put_sample(net, place as usize, Measured::Io(x));
     0
 }
 

@@ -1,7 +1,7 @@
 -- What the calls on a valid record give, put together. Assumes nothing.
 use mathlib.Core.Path.{_≡_, refl, sym, ap, ap₂, _∙_}
 use mathlib.Core.List.{List, [], _∷_, _++_, map}
-use mathlib.Core.Bool.{Bool, true, false}
+use mathlib.Core.Bool.{Bool, true, false, false≢true}
 use mathlib.Core.Option.{none}
 use Prim.Native.Nat.{ℕ, zero, suc, _+_, _*_, _-_, _<_, _≤_}
 use native.Mathlib.Nat.{add-zero}
@@ -78,6 +78,14 @@ none-beyond (x ∷ xs) (suc i) h = none-beyond xs i (λ l. h (omega arith))
 
 pub type-beyond : (s : List ℕ) (place t : ℕ) → (place < length (netIn slots s .modules) → ⊥) → false ≡ ofType t (netIn slots s) place
 type-beyond s place t h = sym (ap (isOf t) (none-beyond (netIn slots s .modules) place h))
+
+pub of-type-below : (n : Net Module) (place t : ℕ) → ofType t n place ≡ true → place < length (n .modules)
+of-type-below n place t e = at (n .modules) place e
+  where
+    at : (ms : List Module) (i : ℕ) → isOf t (getElem? ms i) ≡ true → i < length ms
+    at [] i e = absurd (false≢true e)
+    at (m ∷ ms) zero e = omega arith
+    at (m ∷ ms) (suc i) e = let h = at ms i e in omega arith
 
 module _ (s : List ℕ) (b : Bytes s) (v : valid slots s ≡ true) where
   -- the first byte of a slot is its module's type

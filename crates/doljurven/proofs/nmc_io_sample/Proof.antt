@@ -1,50 +1,51 @@
-use Rattle.doljurven.proofs.Refused.{refused, done, io-sample-passes}
-use Rattle.network.specs.Calls.{sampleStep}
-use Rattle.network.specs.Record.{netIn, stored}
-use Rattle.modules.specs.Types.{slots}
-use Rattle.doljurven.specs.Calls.{ioSampleRecord, sampleOf}
-use Rattle.doljurven.specs.Table.{ioSampleTable}
-use native.Mathlib.Omega.{arith}
-use mathlib.Core.Path.{sym, _∙_}
+-- `doljurven::nmc_io_sample` meets its contract. Assumes nothing.
 use borrow.Author.Needs.{needs}
+use Rattle.doljurven.proofs.Refused.{sample-passes, sample-refused, sample-done}
+use Rattle.doljurven.specs.Calls.{ioSampleOf}
+use Rattle.doljurven.specs.Table.{ioSampleTable}
+use Rattle.network.specs.Record.{netIn, valid}
+use Rattle.modules.specs.Types.{slots}
+use lib.Dec.{ltb}
+use lib.ListN.{length}
+use Prim.Native.Nat.{_<_}
+use mathlib.Core.Bool.{true, false}
+use mathlib.Core.Path.{_≡_, sym, _∙_}
+use borrow.Author.Tests.{ltb-false}
+use native.Mathlib.Omega.{arith}
 use Rattle.doljurven.proofs.nmc_io_sample.Statement.{statement}
 use Rattle.doljurven.proofs.nmc_io_sample.Tie as tie
-use Rattle.doljurven.proofs.nmc_io_sample.Reads as reads
-use Rattle.doljurven.proofs.nmc_io_sample.Lts as lts
-use Rattle.doljurven.proofs.io_sample_refusal.Reads as io-sample-refusal-reads
-use Rattle.network.proofs.put_io_sample.Reads as put-io-sample-reads
 
-io-sample-refusal-requires : tie.Need-io-sample-refusal-requires
-io-sample-refusal-requires c κs = search needs
-
-same-length : tie.Need-same-length
-same-length c = search needs
+passed : (c : tie.Else1)
+    → let a = c .before .before .before .before .args in
+    (valid slots (a .net .now) ≡ true) × (a .place < length (netIn slots (a .net .now) .modules)) × (ltb 4095 (a .inputs) ≡ false)
+passed c =
+    let a = c .before .before .before .before .args in
+    sample-passes 2 (a .net .now) (a .place) (ltb 4095 (a .inputs)) (sym (c .before .sample-refusal .ensures) ∙ c .if1 .left)
 
 returns : tie.Need-returns
-unfolding ioSampleRecord
-returns c = let a = c .before .before .before .before .args in (c .before .io-sample-refusal .ensures, refused (ioSampleTable (a .net .now) (a .place) (a .inputs)) (a .net .now) (stored slots (sampleStep (a .place) (sampleOf (a .inputs) (a .ad1) (a .ad2) (a .ad3) (a .counter)) (netIn slots (a .net .now))) (a .net .now)) (c .before .io-sample-refusal .ensures) (c .if1 .taken))
+returns c =
+    let a = c .before .before .before .before .args in
+    sample-refused (ioSampleTable (a .net .now) (a .place) (a .inputs)) (a .net .now) (a .place) (ioSampleOf (a .inputs) (a .ad1) (a .ad2) (a .ad3) (a .counter)) (c .before .sample-refusal .ensures) (c .if1 .taken)
 
 cast-t13 : tie.Need-cast-t13
-cast-t13 c = let a = c .before .before .before .before .args in let p = io-sample-passes (a .net .now) (a .place) (a .inputs) (sym (c .before .io-sample-refusal .ensures) ∙ c .if1 .left) in omega arith
+cast-t13 c = omega (arith, ltb-false 4095 (c .before .before .before .before .args .inputs) (passed c .2))
 
-put-io-sample-requires : tie.Need-put-io-sample-requires
-put-io-sample-requires c κs = let a = c .before .before .before .before .before .args in let p = io-sample-passes (a .net .now) (a .place) (a .inputs) (sym (c .before .before .io-sample-refusal .ensures) ∙ c .before .if1 .left) in (p .0, p .1)
-
-same-length-2 : tie.Need-same-length-2
-same-length-2 c = search needs
+put-sample-requires : tie.Need-put-sample-requires
+put-sample-requires c κs = let p = passed (c .before) in (p .0, p .1)
 
 returns-2 : tie.Need-returns-2
-unfolding ioSampleRecord
-returns-2 c = let a = c .before .before .before .before .before .before .before .before .args in let e = c .before .before .before .before .before .io-sample-refusal .ensures in let z = c .before .before .before .before .if1 .left in (sym z ∙ e, c .before .before .put-io-sample .ensures ∙ done (ioSampleTable (a .net .now) (a .place) (a .inputs)) (a .net .now) (stored slots (sampleStep (a .place) (sampleOf (a .inputs) (a .ad1) (a .ad2) (a .ad3) (a .counter)) (netIn slots (a .net .now))) (a .net .now)) e z)
+returns-2 c =
+    let a = c .before .before .before .before .before .before .before .before .args in
+    sample-done (ioSampleTable (a .net .now) (a .place) (a .inputs)) (a .net .now) (a .place) (ioSampleOf (a .inputs) (a .ad1) (a .ad2) (a .ad3) (a .counter)) (c .before .before .before .before .before .sample-refusal .ensures) (c .before .before .before .before .if1 .left) (c .before .before .put-sample .ensures)
 
 pub nmc-io-sample-spec : {M : Type 1} → statement M
 nmc-io-sample-spec =
     tie.close
     (tie.spec
-    io-sample-refusal-requires
-    same-length
+    (λ c κs. search needs)
+    (λ c. search needs)
     returns
     cast-t13
-    put-io-sample-requires
-    same-length-2
+    put-sample-requires
+    (λ c. search needs)
     returns-2)
