@@ -17,11 +17,12 @@ static uint8_t types[TOO_MANY];
 static size_t written;
 static int surprises;
 
-/* A sound network, and something in everything that is lent. */
+/* A sound network of I/O modules with a servo at place 1, and something in everything that is lent. */
 static void prepare(void)
 {
     memset(net, 0x5A, sizeof net);
     memset(types, NMC_TYPE_IO, sizeof types);
+    types[1] = NMC_TYPE_SERVO;
     if (nmc_setup(net, sizeof net, types, 3) != NMC_DONE)
         surprises++;
     memset(room, 0xC3, sizeof room);
@@ -91,6 +92,10 @@ static void record(void)
     refused("record with an unknown type", NMC_BAD_RECORD,
             nmc_byte(net, sizeof net, 0, 0xAA, room, sizeof room, &written));
     cleared(written == 0);
+    prepare();
+    net[20 + 128 + 100] = 1; /* motor output of the servo, which is off */
+    remember();
+    refused("record that drives a motor in off", NMC_BAD_RECORD, nmc_tick(net, sizeof net));
 }
 
 static void setup(void)
@@ -107,9 +112,16 @@ static void line_and_pins(void)
 {
     REFUSED("sample for place 3 of three modules", NMC_BAD_PLACE,
             nmc_io_sample(net, sizeof net, 3, 0, 0, 0, 0, 0));
+    REFUSED("servo sample for place 3 of three modules", NMC_BAD_PLACE,
+            nmc_servo_sample(net, sizeof net, 3, 0, 1, 0));
+    REFUSED("servo sample for an I/O module", NMC_BAD_PLACE,
+            nmc_servo_sample(net, sizeof net, 0, 0, 1, 0));
+    REFUSED("I/O sample for a servo", NMC_BAD_PLACE,
+            nmc_io_sample(net, sizeof net, 1, 0, 0, 0, 0, 0));
     REFUSED("outputs of place 3 of three modules", NMC_BAD_PLACE,
             nmc_outputs(net, sizeof net, 3, outputs));
     REFUSED("inputs 4096", NMC_BAD_FIELD, nmc_io_sample(net, sizeof net, 0, 4096, 0, 0, 0, 0));
+    REFUSED("power 3", NMC_BAD_FIELD, nmc_servo_sample(net, sizeof net, 1, 0, 3, 0));
     REFUSED("mark 2", NMC_BAD_FIELD,
             nmc_byte(net, sizeof net, 2, 0xAA, room, sizeof room, &written));
     cleared(written == 0);
@@ -159,6 +171,7 @@ static void two_reasons(void)
     cleared(written == 0);
     REFUSED("place 3 and inputs 4096", NMC_BAD_PLACE,
             nmc_io_sample(net, sizeof net, 3, 4096, 0, 0, 0, 0));
+    REFUSED("I/O module and power 3", NMC_BAD_PLACE, nmc_servo_sample(net, sizeof net, 0, 0, 3, 0));
     REFUSED("address 256 and no room", NMC_BAD_FRAME,
             nmc_write_frame(256, 14, types, 0, room, 0, &written));
     cleared(written == 0);

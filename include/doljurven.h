@@ -31,8 +31,7 @@ extern "C" {
 #define NMC_OUTPUTS_LEN 8u    /* what one module drives */
 #define NMC_READING_LEN 33u   /* a reply taken apart */
 
-/* Module types. A servo (type 0) cannot be set up yet; the status reader takes
- * its replies apart already. */
+/* Module types. */
 #define NMC_TYPE_SERVO 0u
 #define NMC_TYPE_IO 2u
 
@@ -69,20 +68,31 @@ uint32_t nmc_byte(uint8_t *net, size_t net_len, uint32_t mark, uint8_t byte, uin
                   size_t room_len, size_t *written);
 
 /*
+ * What a servo measures: the raw count of its encoder, motor power (0 low,
+ * 1 good, 2 high) and an A/D byte. It waits for the next tick; until then the
+ * servo shows the sample before it.
+ */
+uint32_t nmc_servo_sample(uint8_t *net, size_t net_len, uint32_t place, uint32_t raw,
+                          uint32_t power, uint8_t ad);
+
+/*
  * What an I/O module measures: twelve input bits (0 to 4095), three A/D bytes
- * and the counter. It waits for the next tick; until then modules show the
- * sample before it.
+ * and the counter. It waits for the next tick, too.
  */
 uint32_t nmc_io_sample(uint8_t *net, size_t net_len, uint32_t place, uint32_t inputs, uint8_t ad1,
                        uint8_t ad2, uint8_t ad3, uint32_t counter);
 
-/* One tick for all modules: waiting samples take effect. */
+/*
+ * One tick for all modules: waiting samples take effect, and servos move their
+ * setpoints and work out their motor outputs.
+ */
 uint32_t nmc_tick(uint8_t *net, size_t net_len);
 
 /*
- * What the board is to drive for a module, in NMC_OUTPUTS_LEN bytes. I/O:
- * directions of bits 1 to 8 and 9 to 12 (1 is input), output register of the
- * same, PWM 1, PWM 2, 0, 0.
+ * What the board is to drive for a module, in NMC_OUTPUTS_LEN bytes. Servo:
+ * size of the motor output (0 to 255), 1 if it is negative, enable line, then
+ * five of 0. I/O: directions of bits 1 to 8 and 9 to 12 (1 is input), output
+ * register of the same, PWM 1, PWM 2, 0, 0.
  */
 uint32_t nmc_outputs(const uint8_t *net, size_t net_len, uint32_t place, uint8_t *outputs);
 

@@ -21,6 +21,7 @@ pub trait Calls {
     fn setup(&self, net: &mut [u8], types: &[u8]) -> u32;
     fn byte(&self, net: &mut [u8], mark: u32, byte: u8, room: &mut [u8], written: &mut usize) -> u32;
     fn io_sample(&self, net: &mut [u8], place: u32, inputs: u32, ad: [u8; 3], counter: u32) -> u32;
+    fn servo_sample(&self, net: &mut [u8], place: u32, raw: u32, power: u32, ad: u8) -> u32;
     fn tick(&self, net: &mut [u8]) -> u32;
     fn outputs(&self, net: &[u8], place: u32, outputs: &mut [u8; 8]) -> u32;
     fn write_frame(&self, address: u32, code: u32, data: &[u8], room: &mut [u8], written: &mut usize) -> u32;

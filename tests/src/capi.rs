@@ -24,6 +24,7 @@ extern "C" {
         ad3: u8,
         counter: u32,
     ) -> u32;
+    fn nmc_servo_sample(net: *mut u8, net_len: usize, place: u32, raw: u32, power: u32, ad: u8) -> u32;
     fn nmc_tick(net: *mut u8, net_len: usize) -> u32;
     fn nmc_outputs(net: *const u8, net_len: usize, place: u32, outputs: *mut u8) -> u32;
     fn nmc_write_frame(
@@ -52,6 +53,10 @@ impl Calls for Library {
 
     fn io_sample(&self, net: &mut [u8], place: u32, inputs: u32, ad: [u8; 3], counter: u32) -> u32 {
         unsafe { nmc_io_sample(net.as_mut_ptr(), net.len(), place, inputs, ad[0], ad[1], ad[2], counter) }
+    }
+
+    fn servo_sample(&self, net: &mut [u8], place: u32, raw: u32, power: u32, ad: u8) -> u32 {
+        unsafe { nmc_servo_sample(net.as_mut_ptr(), net.len(), place, raw, power, ad) }
     }
 
     fn tick(&self, net: &mut [u8]) -> u32 {

@@ -6,17 +6,23 @@ use std::fmt;
 
 use crate::calls::*;
 use crate::dice::Dice;
-use crate::model::{frame_bytes, item_sizes, sum, Network, Touch, DATA_COUNTS, HEADER};
-use crate::record::{decode, slot, Model, COUNT, FILL, IO_LEN, MARK, SLOTS, TWELVE_BITS};
+use crate::model::{frame_bytes, item_sizes, sum, Mode, Module, Servo, Touch};
+use crate::record::{at, decode, slot, Model, COUNT};
 use crate::slips::Slip;
+use crate::steering::{self, any_record, damaged_record, data_byte, frame, group, individual};
 
 /// What the histories have reached, so that a test can tell that its dice still fall everywhere.
 #[derive(Debug)]
 pub struct Seen {
     /// Frames that ended, by the length of the chain.
     pub chains: [usize; MOST_MODULES + 1],
-    /// Modules touched, by code and cause.
-    pub met: [[usize; 4]; 16],
+    /// Modules touched, by code and cause: servos, then I/O modules.
+    pub met: [[[usize; 4]; 16]; 2],
+    /// Starts of servos that were executed, by the mode that they led to.
+    pub starts: [usize; 5],
+    /// Start frames that were not now for one reason alone.
+    pub not_now: [usize; steering::REASONS],
+    pub servo: ServoSeen,
     /// Answers by their number.
     pub numbers: [usize; 20],
     /// Frames by how many modules replied: none, one, more.
@@ -30,11 +36,28 @@ pub struct Seen {
     pub host_calls: usize,
 }
 
+/// What ticks have done to servos that ran.
+#[derive(Debug, Default)]
+pub struct ServoSeen {
+    pub trips: usize,
+    pub power_lost: usize,
+    pub power_high: usize,
+    pub arrived: usize,
+    pub reversed: usize,
+    pub wrapped: usize,
+    pub output_limited: usize,
+    /// Steps of a trapezoid whose speed was neither the highest nor the lowest that it could be.
+    pub between: usize,
+}
+
 impl Seen {
     fn nothing() -> Seen {
         Seen {
             chains: [0; MOST_MODULES + 1],
-            met: [[0; 4]; 16],
+            met: [[[0; 4]; 16]; 2],
+            starts: [0; 5],
+            not_now: [0; steering::REASONS],
+            servo: ServoSeen::default(),
             numbers: [0; 20],
             repliers: [0; 3],
             bytes: 0,
@@ -53,6 +76,7 @@ enum Event {
     Record,
     Byte(u32, u8, usize),
     Sample(u32, u32, [u8; 3], u32),
+    ServoSample(u32, u32, u32, u8),
     Tick,
 }
 
@@ -64,6 +88,9 @@ impl fmt::Display for Event {
             Event::Byte(mark, byte, room_len) => write!(to, "byte {byte:02X}, mark {mark}, room {room_len}"),
             Event::Sample(place, inputs, ad, counter) => {
                 write!(to, "sample at {place}: inputs {inputs:03X}, A/D {ad:02X?}, counter {counter:08X}")
+            }
+            Event::ServoSample(place, raw, power, ad) => {
+                write!(to, "servo sample at {place}: raw {raw:08X}, power {power}, A/D {ad:02X}")
             }
             Event::Tick => write!(to, "tick"),
         }
@@ -156,6 +183,9 @@ impl Pair<'_> {
         }
         if number == UNDAMAGED || number == DAMAGED {
             self.note_frame(&before, written);
+            if decode(&self.net, Slip::None).is_none() {
+                return self.disagree("a frame broke the list");
+            }
             self.outputs_everywhere()?;
         }
         Ok(number)
@@ -168,7 +198,11 @@ impl Pair<'_> {
         for (place, module) in network.modules.iter().enumerate() {
             if let Some(touch) = network.touch(place, address) {
                 let cause = usize::from(self.net[slot(place) + 5]);
-                self.seen.met[usize::from(code)][cause] += 1;
+                let is_io = matches!(module, Module::Io(_));
+                self.seen.met[usize::from(is_io)][usize::from(code)][cause] += 1;
+                if let Module::Servo(servo) = module {
+                    self.note_start(servo, place, code, cause);
+                }
                 let speaks = touch == Touch::Individually || module.station().leader;
                 repliers += usize::from(speaks && !(code == 15 && cause == 0));
             }
@@ -176,6 +210,54 @@ impl Pair<'_> {
         self.seen.chains[network.modules.len()] += 1;
         self.seen.repliers[repliers.min(2)] += 1;
         self.seen.full_rooms += usize::from(written == ROOM_LEN);
+    }
+
+    fn note_start(&mut self, before: &Servo, place: usize, code: u8, cause: usize) {
+        if code == 5 && cause == 0 {
+            self.seen.starts[usize::from(self.net[slot(place) + at::MODE])] += 1;
+        } else if code == 5 && cause == 3 {
+            if let [reason] = steering::why_not_now(before)[..] {
+                self.seen.not_now[reason] += 1;
+            }
+        }
+    }
+
+    /// What a tick has done to the servos, told from the records before and after it.
+    fn note_tick(&mut self, before: &[u8]) -> Result<(), String> {
+        let Some(before) = decode(before, Slip::None) else { return Ok(()) };
+        let Some(after) = decode(&self.net, Slip::None) else { return self.disagree("a tick broke the list") };
+        let seen = &mut self.seen.servo;
+        for pair in before.modules.iter().zip(&after.modules) {
+            let (Module::Servo(before), Module::Servo(after)) = pair else { continue };
+            if before.mode == Mode::Off {
+                continue;
+            }
+            let count = |happened: bool| usize::from(happened);
+            seen.trips += count(after.error);
+            seen.power_lost += count(after.latched.power == 0);
+            seen.power_high += count(after.latched.power == 2);
+            seen.reversed += count(before.speed.signum() * after.speed.signum() < 0);
+            seen.wrapped += count((before.setpoint - after.setpoint).abs() > 1 << 47);
+            seen.output_limited += count(after.output != 0 && after.output.abs() == i64::from(after.gains.ol));
+            if after.mode == Mode::Trapezoid {
+                seen.arrived += count(before.distance() != 0 && after.distance() == 0);
+                let a = i64::from(after.running_acceleration);
+                let (v, w) = (before.speed.abs(), after.speed.abs());
+                seen.between += count(w > (v - a).max(0) && w < (v + a).min(i64::from(after.top)));
+            }
+        }
+        Ok(())
+    }
+
+    fn servo_sample(&mut self, place: u32, raw: u32, power: u32, ad: u8) -> Result<u32, String> {
+        self.remember(Event::ServoSample(place, raw, power, ad));
+        self.seen.samples += 1;
+        let mut by_model = self.net.clone();
+        let library = self.library.servo_sample(&mut self.net, place, raw, power, ad);
+        let model = self.model.servo_sample(&mut by_model, place, raw, power, ad);
+        let number = self.same_number(library, model)?;
+        self.same_bytes("record", &self.net, &by_model)?;
+        Ok(number)
     }
 
     fn sample(&mut self, place: u32, inputs: u32, ad: [u8; 3], counter: u32) -> Result<u32, String> {
@@ -191,12 +273,15 @@ impl Pair<'_> {
 
     fn tick(&mut self) -> Result<u32, String> {
         self.remember(Event::Tick);
+        self.turn += 1;
         self.seen.ticks += 1;
-        let mut by_model = self.net.clone();
+        let before = self.net.clone();
+        let mut by_model = before.clone();
         let library = self.library.tick(&mut self.net);
         let model = self.model.tick(&mut by_model);
         let number = self.same_number(library, model)?;
         self.same_bytes("record", &self.net, &by_model)?;
+        self.note_tick(&before)?;
         self.outputs_everywhere()?;
         Ok(number)
     }
@@ -211,11 +296,12 @@ impl Pair<'_> {
         Ok(number)
     }
 
-    /// Every place, and the one beyond the chain.
+    /// Every place, and the one beyond the chain; of a long chain some places in turn.
     fn outputs_everywhere(&mut self) -> Result<(), String> {
         if self.net.len() == NET_LEN {
-            for place in 0..=u32::from(self.net[COUNT]) {
-                self.outputs(place)?;
+            let places = u32::from(self.net[COUNT]) + 1;
+            for place in 0..places.min(6) {
+                self.outputs((self.turn as u32 + place) % places)?;
             }
         }
         Ok(())
@@ -251,109 +337,6 @@ impl Pair<'_> {
     }
 }
 
-/// Individual and group bytes that meet each other often, and the header among them.
-const INDIVIDUALS: &[u8] = &[0, 1, 2, 3, 4, 0x81, 0x82, HEADER, 0xFF];
-const GROUPS: &[u8] = &[0xFF, 0x7F, 0x81, 0x01, 0x82, 0x02, HEADER, 0x2A, 0x80, 0x00];
-const CODES: &[u8] = &[0, 0, 1, 1, 2, 2, 3, 3, 4, 5, 5, 6, 6, 7, 7, 8, 9, 10, 10, 11, 12, 12, 13, 14, 15];
-const EDGES: &[u8] = &[0, 1, 2, 3, 4, 15, 16, 31, 32, 33, 127, 128, HEADER, 255];
-
-fn data_byte(dice: &mut Dice) -> u8 {
-    match dice.below(10) {
-        0 => HEADER,
-        1 => 0,
-        2 => 0xFF,
-        _ => dice.byte(),
-    }
-}
-
-fn individual(dice: &mut Dice) -> u8 {
-    if dice.percent(85) {
-        dice.pick(INDIVIDUALS)
-    } else {
-        dice.byte()
-    }
-}
-
-fn group(dice: &mut Dice) -> u8 {
-    if dice.percent(85) {
-        dice.pick(GROUPS)
-    } else {
-        dice.byte()
-    }
-}
-
-fn chain_length(dice: &mut Dice) -> usize {
-    match dice.below(8) {
-        0 => 1,
-        1 => 32,
-        2 | 3 => 1 + dice.below(MOST_MODULES),
-        _ => 2 + dice.below(4),
-    }
-}
-
-/// A frame that somebody in the network is likely to hear.
-fn frame(dice: &mut Dice, network: &Network) -> (u8, u8, Vec<u8>) {
-    let station = network.modules[dice.below(network.modules.len())].station();
-    let address = match dice.below(20) {
-        0..=8 => station.individual,
-        9..=15 => station.group,
-        16 => 0,
-        17 => 0xFF,
-        _ => dice.byte(),
-    };
-    let code = dice.pick(CODES);
-    let count = if dice.percent(85) { DATA_COUNTS[usize::from(code)] } else { dice.below(16) };
-    let mut data: Vec<u8> = (0..count).map(|_| data_byte(dice)).collect();
-    if code == 1 && count >= 2 {
-        data[0] = individual(dice);
-        data[1] = group(dice);
-    }
-    (address, code, data)
-}
-
-/// A record in which every field that the list bounds is within it, and all else is anything.
-fn any_record(dice: &mut Dice) -> Vec<u8> {
-    let mut net = dice.bytes(NET_LEN);
-    let count = chain_length(dice);
-    net[COUNT] = count as u8;
-    if dice.percent(50) {
-        net[..=MARK].fill(0);
-    } else {
-        net[FILL] = 1 + dice.below(3 + usize::from(net[16] >> 4)) as u8;
-        net[MARK] = dice.below(2) as u8;
-    }
-    for place in 0..count {
-        let module = &mut net[slot(place)..slot(place) + IO_LEN];
-        module[0] = 2;
-        module[1] = individual(dice);
-        module[2] = group(dice) | if dice.percent(90) { 0x80 } else { 0 };
-        module[3] = dice.below(2) as u8;
-        module[4] = u8::from(dice.percent(70));
-        module[5] = dice.below(4) as u8;
-        for at in TWELVE_BITS {
-            module[at + 1] &= 0x0F;
-        }
-    }
-    net
-}
-
-fn damaged_record(dice: &mut Dice, net: &[u8]) -> Vec<u8> {
-    let mut damaged = net.to_vec();
-    if dice.percent(5) {
-        damaged.resize(dice.pick(&[0, 1, 20, NET_LEN - 1, NET_LEN + 1, NET_LEN + SLOTS]), 0);
-        return damaged;
-    }
-    for _ in 0..1 + dice.below(2) {
-        let at = match dice.below(10) {
-            0..=2 => dice.below(SLOTS),
-            3..=7 => slot(dice.below(usize::from(net[COUNT]).min(MOST_MODULES))) + dice.below(IO_LEN),
-            _ => dice.below(NET_LEN),
-        };
-        damaged[at] = if dice.percent(60) { dice.pick(EDGES) } else { dice.byte() };
-    }
-    damaged
-}
-
 struct Session<'a> {
     pair: Pair<'a>,
     dice: Dice,
@@ -375,11 +358,65 @@ impl Session<'_> {
     }
 
     fn sample(&mut self) -> Result<(), String> {
-        let place = self.dice.below(usize::from(self.pair.net[COUNT])) as u32;
-        let inputs = self.dice.below(4096) as u32;
-        let ad = [self.dice.byte(), self.dice.byte(), self.dice.byte()];
-        let counter = self.dice.throw() as u32;
-        self.pair.sample(place, inputs, ad, counter)?;
+        let place = self.dice.below(usize::from(self.pair.net[COUNT]));
+        self.sample_at(place)
+    }
+
+    fn sample_at(&mut self, place: usize) -> Result<(), String> {
+        let network = decode(&self.pair.net, Slip::None).expect("a taken record");
+        let dice = &mut self.dice;
+        if let Module::Servo(servo) = &network.modules[place] {
+            let (raw, power) = steering::servo_sample(dice, servo);
+            let ad = dice.byte();
+            self.pair.servo_sample(place as u32, raw, power, ad)?;
+        } else {
+            let inputs = dice.below(4096) as u32;
+            let ad = [dice.byte(), dice.byte(), dice.byte()];
+            let counter = dice.throw() as u32;
+            self.pair.sample(place as u32, inputs, ad, counter)?;
+        }
+        Ok(())
+    }
+
+    /// Puts a servo to work: fit for a start, then loads and starts, then ticks with the motor following.
+    fn drive(&mut self) -> Result<(), String> {
+        let network = decode(&self.pair.net, Slip::None).expect("a taken record");
+        let servos: Vec<usize> =
+            (0..network.modules.len()).filter(|place| matches!(network.modules[*place], Module::Servo(_))).collect();
+        if servos.is_empty() {
+            return self.send_frame();
+        }
+        if network.receiver.fill != 0 {
+            self.send(&[0; 16], None)?;
+        }
+        let place = self.dice.pick(&servos);
+        for step in 0..2 + self.dice.below(4) {
+            let network = decode(&self.pair.net, Slip::None).expect("a taken record");
+            let Module::Servo(servo) = &network.modules[place] else { unreachable!("types stay") };
+            let address = servo.station.individual;
+            if servo.latched.power != 1 && self.dice.percent(90) {
+                let (raw, ad) = (steering::following(&mut self.dice, servo), self.dice.byte());
+                self.pair.servo_sample(place as u32, raw, 1, ad)?;
+                self.pair.tick()?;
+            }
+            if step == 0 && servo.gains.el < 1000 && self.dice.percent(80) {
+                let gains = steering::gains(&mut self.dice);
+                self.send(&frame_bytes(address, 6, &gains), None)?;
+            }
+            if servo.error && self.dice.percent(90) {
+                self.send(&frame_bytes(address, 11, &[]), None)?;
+            }
+            let (code, data) = steering::servo_command(&mut self.dice, servo);
+            self.send(&frame_bytes(address, code, &data), None)?;
+            if code == 4 && self.dice.percent(70) {
+                self.send(&frame_bytes(address, 5, &[]), None)?;
+            }
+            let ticks = self.dice.pick(&[0, 1, 1, 2, 3, 8, 30]);
+            for _ in 0..ticks {
+                self.sample_at(place)?;
+                self.pair.tick()?;
+            }
+        }
         Ok(())
     }
 
@@ -433,10 +470,12 @@ impl Session<'_> {
         let inputs = dice.pick(&[0, 4095, 4096, 0x8000, 0x10000, u32::MAX]);
         let mark = dice.pick(&[0, 1, 2, 255, 256, u32::MAX]);
         let room_len = dice.pick(&[0, 1, ROOM_LEN - 1, ROOM_LEN]);
+        let power = dice.pick(&[0, 1, 2, 3, 4, 256, u32::MAX]);
         let byte = data_byte(dice);
-        match dice.below(3) {
+        match dice.below(4) {
             0 => self.pair.byte(mark, byte, room_len)?,
             1 => self.pair.sample(place, inputs, [byte; 3], mark)?,
+            2 => self.pair.servo_sample(place, mark, power, byte)?,
             _ => self.pair.outputs(place)?,
         };
         Ok(())
@@ -451,8 +490,13 @@ impl Session<'_> {
         let mark = self.dice.pick(&[0, 0, 0, 1, 2]);
         let byte = data_byte(&mut self.dice);
         let room_len = self.dice.pick(&[ROOM_LEN, ROOM_LEN, ROOM_LEN - 1]);
-        match self.dice.below(4) {
+        match self.dice.below(5) {
             0 => self.pair.tick()?,
+            3 => {
+                let place = self.dice.below(34) as u32;
+                let power = self.dice.pick(&[0, 2, 3]);
+                self.pair.servo_sample(place, mark, power, byte)?
+            }
             1 => {
                 let place = self.dice.below(34) as u32;
                 let inputs = self.dice.pick(&[0, 4095, 4096]);
@@ -503,7 +547,8 @@ impl Session<'_> {
 
     fn turn(&mut self) -> Result<(), String> {
         match self.dice.below(100) {
-            0..=69 => self.send_frame(),
+            0..=9 => self.drive(),
+            10..=69 => self.send_frame(),
             70..=77 => self.sample(),
             78..=84 => self.pair.tick().map(drop),
             85..=87 => {
@@ -521,7 +566,8 @@ impl Session<'_> {
     /// 32 leaders of one group with every item defined: a group frame fills the room to its last byte.
     fn all_lead(&mut self) -> Result<(), String> {
         self.pair.net = self.dice.bytes(NET_LEN);
-        self.pair.setup(&[2; MOST_MODULES])?;
+        let types: [u8; MOST_MODULES] = std::array::from_fn(|_| self.dice.pick(&[0, 2]));
+        self.pair.setup(&types)?;
         for place in 0..MOST_MODULES as u8 {
             self.send(&frame_bytes(0, 1, &[place + 1, 0x7F]), None)?;
         }
@@ -535,6 +581,11 @@ impl Session<'_> {
         if self.dice.percent(30) {
             self.pair.net = any_record(&mut self.dice);
             self.pair.remember(Event::Record);
+            // at once, while it is still at the edges of the list
+            self.damaged()?;
+            if self.dice.percent(50) {
+                self.pair.tick()?;
+            }
             return Ok(());
         }
         self.pair.net = self.dice.bytes(NET_LEN);
@@ -543,12 +594,13 @@ impl Session<'_> {
             let types = self.dice.bytes(bad_chain);
             self.pair.setup(&types)?;
         }
-        let mut types = vec![2; chain_length(&mut self.dice)];
+        let mut types = steering::types(&mut self.dice);
         if self.dice.percent(10) {
             let at = self.dice.below(types.len());
-            types[at] = self.dice.pick(&[0, 1, 3, 255]);
+            let known = types[at];
+            types[at] = self.dice.pick(&[1, 3, 255]);
             self.pair.setup(&types)?;
-            types[at] = 2;
+            types[at] = known;
         }
         self.pair.setup(&types)?;
         if self.dice.percent(80) {

@@ -9,3 +9,4 @@ pub mod histories;
 pub mod model;
 pub mod record;
 pub mod slips;
+pub mod steering;

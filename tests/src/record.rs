@@ -2,7 +2,10 @@
 //! table's order, then the network read from the bytes, moved on, and put back.
 
 use crate::calls::*;
-use crate::model::{self, Device, Io, IoSample, Module, Network, Receiver, Station};
+use crate::model::{
+    self, distance, stopping_sum, Device, Gains, Io, IoSample, Load, Mode, Module, Network, Receiver, Servo,
+    ServoSample, Station, Way, SPEED_MOST,
+};
 use crate::slips::Slip;
 
 pub const FILL: usize = 17;
@@ -10,11 +13,66 @@ pub const MARK: usize = 18;
 pub const COUNT: usize = 19;
 pub const SLOTS: usize = 20;
 pub const SLOT_LEN: usize = 128;
-/// Bytes of its slot that an I/O module uses.
+/// Bytes of its slot that an I/O module uses, and a servo.
 pub const IO_LEN: usize = 43;
+pub const SERVO_LEN: usize = 106;
 
 /// Where in a slot the 12-bit numbers of an I/O module begin.
 pub const TWELVE_BITS: [usize; 6] = [8, 17, 26, 28, 32, 37];
+
+/// Where in a slot the fields of a servo begin.
+pub mod at {
+    pub const WAITING: usize = 8;
+    pub const LATCHED: usize = 14;
+    pub const OFFSET: usize = 20;
+    pub const LAST_POSITION: usize = 24;
+    pub const KP: usize = 28;
+    pub const KD: usize = 30;
+    pub const KI: usize = 32;
+    pub const IL: usize = 34;
+    pub const OL: usize = 36;
+    pub const EL: usize = 37;
+    pub const CL: usize = 39;
+    pub const SM: usize = 40;
+    pub const VELOCITY: usize = 41;
+    pub const ACCELERATION: usize = 45;
+    pub const VELOCITY_LOADED: usize = 49;
+    pub const ACCELERATION_LOADED: usize = 50;
+    pub const LOAD_WAITS: usize = 51;
+    pub const WAY: usize = 52;
+    pub const POSITION_CARRIED: usize = 53;
+    pub const LOAD_POSITION: usize = 54;
+    pub const PWM_CARRIED: usize = 58;
+    pub const LOAD_PWM: usize = 59;
+    pub const REVERSE: usize = 60;
+    pub const SETPOINT: usize = 61;
+    pub const SPEED: usize = 67;
+    pub const GOAL: usize = 71;
+    pub const GOAL_SPEED: usize = 75;
+    pub const RUNNING_ACCELERATION: usize = 79;
+    pub const TOP: usize = 83;
+    pub const INTEGRAL: usize = 87;
+    pub const PREVIOUS_ERROR: usize = 91;
+    pub const MODE: usize = 95;
+    pub const PWM: usize = 96;
+    pub const OUTPUT: usize = 100;
+    pub const ERROR: usize = 104;
+    pub const AMPLIFIER: usize = 105;
+
+    /// Bytes that are 0 or 1.
+    pub const FLAGS: [usize; 10] = [
+        3,
+        4,
+        VELOCITY_LOADED,
+        ACCELERATION_LOADED,
+        LOAD_WAITS,
+        POSITION_CARRIED,
+        PWM_CARRIED,
+        REVERSE,
+        ERROR,
+        AMPLIFIER,
+    ];
+}
 
 pub fn slot(place: usize) -> usize {
     SLOTS + place * SLOT_LEN
@@ -28,14 +86,54 @@ fn four(bytes: &[u8], at: usize) -> u32 {
     u32::from_le_bytes([bytes[at], bytes[at + 1], bytes[at + 2], bytes[at + 3]])
 }
 
+fn signed(bytes: &[u8], at: usize) -> i64 {
+    i64::from(four(bytes, at) as i32)
+}
+
+fn put(bytes: &mut [u8], at: usize, number: &[u8]) {
+    bytes[at..at + number.len()].copy_from_slice(number);
+}
+
+/// Two's complement in four bytes.
+fn put_signed(bytes: &mut [u8], at: usize, number: i64) {
+    put(bytes, at, &i32::try_from(number).expect("within 32 bits").to_le_bytes());
+}
+
 fn sample(bytes: &[u8], at: usize) -> IoSample {
     IoSample { inputs: two(bytes, at), ad: [bytes[at + 2], bytes[at + 3], bytes[at + 4]], counter: four(bytes, at + 5) }
 }
 
 fn put_sample(bytes: &mut [u8], at: usize, sample: &IoSample) {
-    bytes[at..at + 2].copy_from_slice(&sample.inputs.to_le_bytes());
-    bytes[at + 2..at + 5].copy_from_slice(&sample.ad);
-    bytes[at + 5..at + 9].copy_from_slice(&sample.counter.to_le_bytes());
+    put(bytes, at, &sample.inputs.to_le_bytes());
+    put(bytes, at + 2, &sample.ad);
+    put(bytes, at + 5, &sample.counter.to_le_bytes());
+}
+
+fn servo_sample(bytes: &[u8], at: usize) -> ServoSample {
+    ServoSample { raw: four(bytes, at), power: bytes[at + 4], ad: bytes[at + 5] }
+}
+
+fn put_servo_sample(bytes: &mut [u8], at: usize, sample: &ServoSample) {
+    put(bytes, at, &sample.raw.to_le_bytes());
+    bytes[at + 4] = sample.power;
+    bytes[at + 5] = sample.ad;
+}
+
+fn station(slot: &[u8]) -> Station {
+    Station {
+        individual: slot[1],
+        group: slot[2],
+        leader: slot[3] == 1,
+        low: slot[4] == 1,
+        cause: slot[5],
+        items: slot[6],
+        baud: slot[7],
+    }
+}
+
+fn put_station(slot: &mut [u8], station: &Station) {
+    let (leader, low) = (u8::from(station.leader), u8::from(station.low));
+    put(slot, 1, &[station.individual, station.group, leader, low, station.cause, station.items, station.baud]);
 }
 
 fn receiver(net: &[u8], slip: Slip) -> Option<Receiver> {
@@ -54,33 +152,196 @@ fn receiver(net: &[u8], slip: Slip) -> Option<Receiver> {
     })
 }
 
-fn io(slot: &[u8], slip: Slip) -> Option<Module> {
+fn io(slot: &[u8], slip: Slip) -> Option<Box<Io>> {
     let cause_known = slot[5] <= 3 || slip == Slip::RecordCauseUntested;
     let flags = slot[3] <= 1 && slot[4] <= 1;
     let bits = TWELVE_BITS.iter().all(|at| two(slot, *at) < 4096);
-    (slot[0] == Io::TYPE && cause_known && flags && bits).then(|| {
-        Module::Io(Io {
-            station: Station {
-                individual: slot[1],
-                group: slot[2],
-                leader: slot[3] == 1,
-                low: slot[4] == 1,
-                cause: slot[5],
-                items: slot[6],
-                baud: slot[7],
-            },
-            waiting: sample(slot, 8),
-            latched: sample(slot, 17),
-            direction: two(slot, 26),
-            register: two(slot, 28),
-            pwm: [slot[30], slot[31]],
-            synch_bits: two(slot, 32),
-            synch_pwm: [slot[34], slot[35]],
-            timer_mode: slot[36],
-            captured_inputs: two(slot, 37),
-            captured_counter: four(slot, 39),
-        })
-    })
+    if !(cause_known && flags && bits) {
+        return None;
+    }
+    Some(Box::new(Io {
+        station: station(slot),
+        waiting: sample(slot, 8),
+        latched: sample(slot, 17),
+        direction: two(slot, 26),
+        register: two(slot, 28),
+        pwm: [slot[30], slot[31]],
+        synch_bits: two(slot, 32),
+        synch_pwm: [slot[34], slot[35]],
+        timer_mode: slot[36],
+        captured_inputs: two(slot, 37),
+        captured_counter: four(slot, 39),
+    }))
+}
+
+fn put_io(bytes: &mut [u8], io: &Io) {
+    put_station(bytes, &io.station);
+    put_sample(bytes, 8, &io.waiting);
+    put_sample(bytes, 17, &io.latched);
+    put(bytes, 26, &io.direction.to_le_bytes());
+    put(bytes, 28, &io.register.to_le_bytes());
+    put(bytes, 30, &io.pwm);
+    put(bytes, 32, &io.synch_bits.to_le_bytes());
+    put(bytes, 34, &io.synch_pwm);
+    bytes[36] = io.timer_mode;
+    put(bytes, 37, &io.captured_inputs.to_le_bytes());
+    put(bytes, 39, &io.captured_counter.to_le_bytes());
+}
+
+/// Ranges and flags of a servo's slot: what can be told field by field.
+fn servo_in_range(slot: &[u8], slip: Slip) -> bool {
+    let cause = slot[5] <= 3 || slip == Slip::RecordCauseUntested;
+    let flags = at::FLAGS.iter().all(|at| slot[*at] <= 1);
+    let powers = slot[at::WAITING + 4] <= 2 && slot[at::LATCHED + 4] <= 2;
+    let gains = [at::KP, at::KD, at::KI, at::IL].iter().all(|at| two(slot, *at) <= 32_767);
+    let limit = two(slot, at::EL) <= 16_383;
+    let loads = four(slot, at::VELOCITY) <= SPEED_MOST
+        && four(slot, at::ACCELERATION) <= SPEED_MOST
+        && (slot[at::ACCELERATION_LOADED] == 0 || four(slot, at::ACCELERATION) >= 1);
+    let within = |at: usize, most: i64| signed(slot, at).abs() <= most;
+    let most = i64::from(SPEED_MOST);
+    let speeds = within(at::SPEED, most) && within(at::GOAL_SPEED, most);
+    let profile = four(slot, at::RUNNING_ACCELERATION) <= SPEED_MOST && four(slot, at::TOP) <= SPEED_MOST;
+    let memory = within(at::INTEGRAL, 32_767) && within(at::PREVIOUS_ERROR, 16_383);
+    let driven = within(at::PWM, 255) && within(at::OUTPUT, 255);
+    let enums = slot[at::WAY] <= 2 && slot[at::MODE] <= 4;
+    cause && flags && powers && gains && limit && loads && speeds && profile && memory && driven && enums
+}
+
+/// What the mode asks of the other fields.
+fn servo_in_order(servo: &Servo, slip: Slip) -> bool {
+    let memory_clear = servo.integral == 0 && servo.previous_error == 0;
+    let own = match servo.mode {
+        Mode::Off => servo.speed == 0 && memory_clear && (servo.output == 0 || slip == Slip::RecordOutputUntested),
+        Mode::Pwm => servo.speed == 0 && memory_clear,
+        Mode::Holding => servo.speed == 0,
+        Mode::Velocity => true,
+        Mode::Trapezoid => {
+            let (a, d) = (i64::from(servo.running_acceleration), distance(servo.goal, servo.setpoint));
+            let straight = servo.speed == 0 || d == 0 || (servo.speed < 0) == (d < 0);
+            let size = servo.speed.abs();
+            let stops = a >= 1 && (stopping_sum(size - a, a) <= d.abs() || slip == Slip::RecordStopUntested);
+            size <= i64::from(servo.top) && straight && stops
+        }
+    };
+    let pwm = servo.mode == Mode::Pwm || servo.pwm == 0;
+    let fit = (!servo.error || slip == Slip::RecordRunningUntested) && servo.latched.power != 0;
+    let runs = servo.mode == Mode::Off || fit;
+    let driven = servo.latched.power == 1 || servo.output == 0;
+    own && pwm && runs && driven
+}
+
+fn servo(slot: &[u8], slip: Slip) -> Option<Box<Servo>> {
+    if !servo_in_range(slot, slip) {
+        return None;
+    }
+    let flag = |at: usize| slot[at] == 1;
+    let servo = Servo {
+        station: station(slot),
+        waiting: servo_sample(slot, at::WAITING),
+        latched: servo_sample(slot, at::LATCHED),
+        offset: four(slot, at::OFFSET),
+        last_position: four(slot, at::LAST_POSITION),
+        gains: Gains {
+            kp: two(slot, at::KP),
+            kd: two(slot, at::KD),
+            ki: two(slot, at::KI),
+            il: two(slot, at::IL),
+            ol: slot[at::OL],
+            el: two(slot, at::EL),
+            cl: slot[at::CL],
+            sm: slot[at::SM],
+        },
+        velocity: four(slot, at::VELOCITY),
+        acceleration: four(slot, at::ACCELERATION),
+        velocity_loaded: flag(at::VELOCITY_LOADED),
+        acceleration_loaded: flag(at::ACCELERATION_LOADED),
+        load: Load {
+            waits: flag(at::LOAD_WAITS),
+            way: [Way::Pwm, Way::Velocity, Way::Trapezoid][usize::from(slot[at::WAY])],
+            position_carried: flag(at::POSITION_CARRIED),
+            position: four(slot, at::LOAD_POSITION),
+            pwm_carried: flag(at::PWM_CARRIED),
+            pwm: slot[at::LOAD_PWM],
+            reverse: flag(at::REVERSE),
+        },
+        setpoint: i64::from(four(slot, at::SETPOINT)) | i64::from(two(slot, at::SETPOINT + 4)) << 32,
+        speed: signed(slot, at::SPEED),
+        goal: four(slot, at::GOAL),
+        goal_speed: signed(slot, at::GOAL_SPEED),
+        running_acceleration: four(slot, at::RUNNING_ACCELERATION),
+        top: four(slot, at::TOP),
+        integral: signed(slot, at::INTEGRAL),
+        previous_error: signed(slot, at::PREVIOUS_ERROR),
+        mode: [Mode::Off, Mode::Pwm, Mode::Holding, Mode::Velocity, Mode::Trapezoid][usize::from(slot[at::MODE])],
+        pwm: signed(slot, at::PWM),
+        output: signed(slot, at::OUTPUT),
+        error: flag(at::ERROR),
+        amplifier: flag(at::AMPLIFIER),
+    };
+    servo_in_order(&servo, slip).then(|| Box::new(servo))
+}
+
+fn put_servo(bytes: &mut [u8], servo: &Servo) {
+    put_station(bytes, &servo.station);
+    put_servo_sample(bytes, at::WAITING, &servo.waiting);
+    put_servo_sample(bytes, at::LATCHED, &servo.latched);
+    put(bytes, at::OFFSET, &servo.offset.to_le_bytes());
+    put(bytes, at::LAST_POSITION, &servo.last_position.to_le_bytes());
+    let gains = &servo.gains;
+    for (at, gain) in
+        [(at::KP, gains.kp), (at::KD, gains.kd), (at::KI, gains.ki), (at::IL, gains.il), (at::EL, gains.el)]
+    {
+        put(bytes, at, &gain.to_le_bytes());
+    }
+    (bytes[at::OL], bytes[at::CL], bytes[at::SM]) = (gains.ol, gains.cl, gains.sm);
+    put(bytes, at::VELOCITY, &servo.velocity.to_le_bytes());
+    put(bytes, at::ACCELERATION, &servo.acceleration.to_le_bytes());
+    bytes[at::VELOCITY_LOADED] = u8::from(servo.velocity_loaded);
+    bytes[at::ACCELERATION_LOADED] = u8::from(servo.acceleration_loaded);
+    let load = &servo.load;
+    bytes[at::LOAD_WAITS] = u8::from(load.waits);
+    bytes[at::WAY] = load.way as u8;
+    bytes[at::POSITION_CARRIED] = u8::from(load.position_carried);
+    put(bytes, at::LOAD_POSITION, &load.position.to_le_bytes());
+    bytes[at::PWM_CARRIED] = u8::from(load.pwm_carried);
+    bytes[at::LOAD_PWM] = load.pwm;
+    bytes[at::REVERSE] = u8::from(load.reverse);
+    put(bytes, at::SETPOINT, &servo.setpoint.to_le_bytes()[..6]);
+    put_signed(bytes, at::SPEED, servo.speed);
+    put(bytes, at::GOAL, &servo.goal.to_le_bytes());
+    put_signed(bytes, at::GOAL_SPEED, servo.goal_speed);
+    put(bytes, at::RUNNING_ACCELERATION, &servo.running_acceleration.to_le_bytes());
+    put(bytes, at::TOP, &servo.top.to_le_bytes());
+    put_signed(bytes, at::INTEGRAL, servo.integral);
+    put_signed(bytes, at::PREVIOUS_ERROR, servo.previous_error);
+    bytes[at::MODE] = servo.mode as u8;
+    put_signed(bytes, at::PWM, servo.pwm);
+    put_signed(bytes, at::OUTPUT, servo.output);
+    bytes[at::ERROR] = u8::from(servo.error);
+    bytes[at::AMPLIFIER] = u8::from(servo.amplifier);
+}
+
+/// Puts a module into its slot; what its type does not use stays as it was.
+pub fn put_module(slot: &mut [u8], module: &Module) {
+    match module {
+        Module::Servo(servo) => {
+            slot[0] = Servo::TYPE;
+            put_servo(slot, servo);
+        }
+        Module::Io(io) => {
+            slot[0] = Io::TYPE;
+            put_io(slot, io);
+        }
+    }
+}
+
+fn module(slot: &[u8], slip: Slip) -> Option<Module> {
+    match slot[0] {
+        Servo::TYPE => servo(slot, slip).map(Module::Servo),
+        Io::TYPE => io(slot, slip).map(Module::Io),
+        _ => None,
+    }
 }
 
 /// The network that a record tells of, or nothing where it breaks the list.
@@ -91,10 +352,10 @@ pub fn decode(net: &[u8], slip: Slip) -> Option<Network> {
     let looked_at = if slip == Slip::RecordBeyondChainTested { MOST_MODULES } else { usize::from(net[COUNT]) };
     let mut modules = Vec::with_capacity(MOST_MODULES);
     for place in 0..looked_at {
-        let bytes = &net[slot(place)..slot(place) + IO_LEN];
+        let bytes = &net[slot(place)..slot(place + 1)];
         if place < usize::from(net[COUNT]) {
-            modules.push(io(bytes, slip)?);
-        } else if bytes.iter().any(|byte| *byte != 0) {
+            modules.push(module(bytes, slip)?);
+        } else if bytes[..SERVO_LEN].iter().any(|byte| *byte != 0) {
             return None;
         }
     }
@@ -111,27 +372,7 @@ pub fn encode(network: &Network, net: &mut [u8]) {
     net[MARK] = u8::from(receiver.marked);
     net[COUNT] = network.modules.len() as u8;
     for (place, module) in network.modules.iter().enumerate() {
-        let Module::Io(io) = module;
-        let bytes = &mut net[slot(place)..slot(place + 1)];
-        let station = &io.station;
-        bytes[0] = Io::TYPE;
-        bytes[1] = station.individual;
-        bytes[2] = station.group;
-        bytes[3] = u8::from(station.leader);
-        bytes[4] = u8::from(station.low);
-        bytes[5] = station.cause;
-        bytes[6] = station.items;
-        bytes[7] = station.baud;
-        put_sample(bytes, 8, &io.waiting);
-        put_sample(bytes, 17, &io.latched);
-        bytes[26..28].copy_from_slice(&io.direction.to_le_bytes());
-        bytes[28..30].copy_from_slice(&io.register.to_le_bytes());
-        bytes[30..32].copy_from_slice(&io.pwm);
-        bytes[32..34].copy_from_slice(&io.synch_bits.to_le_bytes());
-        bytes[34..36].copy_from_slice(&io.synch_pwm);
-        bytes[36] = io.timer_mode;
-        bytes[37..39].copy_from_slice(&io.captured_inputs.to_le_bytes());
-        bytes[39..43].copy_from_slice(&io.captured_counter.to_le_bytes());
+        put_module(&mut net[slot(place)..slot(place + 1)], module);
     }
 }
 
@@ -192,6 +433,15 @@ impl Calls for Model {
         DONE
     }
 
+    fn servo_sample(&self, net: &mut [u8], place: u32, raw: u32, power: u32, ad: u8) -> u32 {
+        let Some(mut network) = decode(net, self.slip) else { return BAD_RECORD };
+        if let Err(refusal) = network.servo_sample(place, raw, power, ad) {
+            return refusal;
+        }
+        encode(&network, net);
+        DONE
+    }
+
     fn tick(&self, net: &mut [u8]) -> u32 {
         let Some(mut network) = decode(net, self.slip) else { return BAD_RECORD };
         network.tick();
@@ -202,7 +452,7 @@ impl Calls for Model {
     fn outputs(&self, net: &[u8], place: u32, outputs: &mut [u8; 8]) -> u32 {
         let Some(network) = decode(net, self.slip) else { return BAD_RECORD };
         let Some(module) = network.modules.get(place as usize) else { return BAD_PLACE };
-        *outputs = module.outputs();
+        *outputs = module.outputs(self.slip);
         DONE
     }
 

@@ -1,5 +1,5 @@
-//! Answers worked out by hand, byte for byte: the bench sheet as far as it needs no servo, the manuals' frames, and what
-//! no reply shows but the board drives.
+//! Answers worked out by hand, byte for byte: the bench sheet's frames, the manuals' frames, and what no reply shows but
+//! the board drives. What a servo drives is in outputs.rs.
 
 use doljurven_tests::calls::*;
 use doljurven_tests::capi::Library;
@@ -57,6 +57,78 @@ fn setup_writes_power_up_into_every_slot() {
         assert_eq!(net[slot(place)..slot(place + 1)], expected, "place {place}");
     }
     assert_eq!(net[..SLOTS], [0, 0, 0, 0, 0, 0, 0, 0, 0, 0, 0, 0, 0, 0, 0, 0, 0, 0, 0, 3]);
+}
+
+#[test]
+fn setup_of_both_types() {
+    let mut net = vec![0x99; NET_LEN];
+    assert_eq!(Library.setup(&mut net, &[0, 2, 0]), DONE);
+    let mut servo = [0; 128];
+    // group, SM, error bit
+    (servo[2], servo[40], servo[104]) = (0xFF, 1, 1);
+    assert_eq!(net[slot(0)..slot(1)], servo);
+    assert_eq!(net[slot(1)..slot(2)], network(1)[slot(0)..slot(1)]);
+    assert_eq!(net[slot(2)..slot(3)], servo);
+    assert!(net[slot(3)..].iter().all(|byte| *byte == 0));
+}
+
+#[test]
+fn servo_fields_stand_where_the_record_says() {
+    let mut net = vec![0x99; NET_LEN];
+    assert_eq!(Library.setup(&mut net, &[0]), DONE);
+    assert_eq!(Library.servo_sample(&mut net, 0, 0x0A0B_0C0D, 1, 0x5A), DONE);
+    assert_eq!(Library.tick(&mut net), DONE);
+    assert_eq!(Library.servo_sample(&mut net, 0, 0x0A0B_0C10, 2, 0xA5), DONE);
+    let mut expect = |frame: &[u8], changes: &[(usize, &[u8])], expected: &mut [u8; 128]| {
+        send(&mut net, frame);
+        for (at, bytes) in changes {
+            expected[*at..at + bytes.len()].copy_from_slice(bytes);
+        }
+        assert_eq!(net[slot(0)..slot(1)], *expected, "after {frame:02X?}");
+    };
+    let mut all = [0; 128];
+    let power_up: [(usize, &[u8]); 5] = [
+        (2, &[0xFF]),
+        (8, &[0x10, 0x0C, 0x0B, 0x0A, 2, 0xA5]),
+        (14, &[0x0D, 0x0C, 0x0B, 0x0A, 1, 0x5A]),
+        (40, &[1]),
+        (104, &[1]),
+    ];
+    expect(&[], &power_up, &mut all);
+    expect(&written(0, 11, &[]), &[(104, &[0])], &mut all);
+    // last position, setpoint and goal shift with the offset, though nothing runs
+    let shifted = &[0xF3, 0xF3, 0xF4, 0xF5][..];
+    let reset_position = [(20, &[0x0D, 0x0C, 0x0B, 0x0A][..]), (24, shifted), (63, shifted), (71, shifted)];
+    expect(&written(0, 0, &[]), &reset_position, &mut all);
+
+    let gains = [1, 2, 3, 4, 5, 6, 7, 8, 9, 10, 11, 12, 1, 0, 13];
+    expect(&written(0, 6, &gains), &[(28, &[1, 2, 3, 4, 5, 6, 7, 8, 9, 11, 12, 10, 13])], &mut all);
+    let load = [0x5F, 0x78, 0x56, 0x34, 0x12, 0x11, 0x22, 0x33, 0x01, 0x44, 0x55, 0x66, 0x02, 0x77];
+    let loaded: [(usize, &[u8]); 2] = [
+        (41, &[0x11, 0x22, 0x33, 0x01, 0x44, 0x55, 0x66, 0x02, 1, 1]),
+        (51, &[1, 2, 1, 0x78, 0x56, 0x34, 0x12, 1, 0x77, 1]),
+    ];
+    expect(&written(0, 4, &load), &loaded, &mut all);
+    let started: [(usize, &[u8]); 5] = [
+        (51, &[0; 10]),
+        (61, &[0; 6]),
+        (71, &[0x78, 0x56, 0x34, 0x12]),
+        (79, &[0x44, 0x55, 0x66, 0x02, 0x11, 0x22, 0x33, 0x01]),
+        (95, &[4]),
+    ];
+    expect(&written(0, 5, &[]), &started, &mut all);
+    // velocity mode keeps goal and top, PWM all of them
+    let reversed = [(75, &[0xEF, 0xDD, 0xCC, 0xFE][..]), (95, &[3])];
+    expect(&written(0, 4, &[0xF0]), &reversed, &mut all);
+    expect(&written(0, 4, &[0xC8, 3]), &[(95, &[1, 0xFD, 0xFF, 0xFF, 0xFF])], &mut all);
+    expect(&written(0, 7, &[0x11, 1, 2, 3, 4]), &[(63, &[1, 2, 3, 4]), (95, &[2, 0, 0, 0, 0]), (105, &[1])], &mut all);
+    expect(&written(0, 7, &[0x08]), &[(75, &[0; 4]), (95, &[3]), (105, &[0])], &mut all);
+    expect(&written(0, 7, &[0x02]), &[(95, &[0])], &mut all);
+    // samples and offset stay
+    let mut reset = [0; 128];
+    reset[8..24].copy_from_slice(&all[8..24]);
+    (reset[2], reset[40], reset[104]) = (0xFF, 1, 1);
+    expect(&written(0, 15, &[]), &[(0, &reset)], &mut all);
 }
 
 #[test]

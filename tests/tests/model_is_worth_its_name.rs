@@ -6,7 +6,7 @@ use doljurven_tests::histories;
 use doljurven_tests::slips::{Slip, ALL};
 
 const SEED: u64 = 0x0511_0000;
-const SESSIONS: usize = 600;
+const SESSIONS: usize = 800;
 
 #[test]
 fn without_a_slip_the_short_run_passes() {
@@ -15,7 +15,7 @@ fn without_a_slip_the_short_run_passes() {
 
 #[test]
 fn every_slip_is_noticed() {
-    assert!(ALL.len() >= 12);
+    assert!(ALL.len() >= 100);
     let mut missed = Vec::new();
     for (slip, words) in ALL {
         match histories::run(&Library, *slip, SEED, SESSIONS) {
@@ -42,6 +42,8 @@ enum Spoil {
     RefusedRoom,
     RefusedRecord,
     RefusedSampleStored,
+    RefusedServoSampleStored,
+    OutputsSign,
     SetupLeavesUnusedBytes,
     OutputsOfPlaceZero,
     OutputsWhenRefused,
@@ -49,7 +51,7 @@ enum Spoil {
     WriterBehindFrame,
 }
 
-const SPOILS: [Spoil; 15] = [
+const SPOILS: [Spoil; 17] = [
     Spoil::RoomBehindReplies,
     Spoil::OneByteMoreReported,
     Spoil::LastReplyByte,
@@ -60,6 +62,8 @@ const SPOILS: [Spoil; 15] = [
     Spoil::RefusedRoom,
     Spoil::RefusedRecord,
     Spoil::RefusedSampleStored,
+    Spoil::RefusedServoSampleStored,
+    Spoil::OutputsSign,
     Spoil::SetupLeavesUnusedBytes,
     Spoil::OutputsOfPlaceZero,
     Spoil::OutputsWhenRefused,
@@ -67,8 +71,8 @@ const SPOILS: [Spoil; 15] = [
     Spoil::WriterBehindFrame,
 ];
 
-/// Beyond what an I/O module uses of slot 0.
-const UNUSED: usize = 20 + 100;
+/// Beyond what a module of any type uses of slot 0.
+const UNUSED: usize = 20 + 120;
 const LAST: usize = NET_LEN - 1;
 
 impl Calls for Spoiled {
@@ -107,6 +111,14 @@ impl Calls for Spoiled {
         number
     }
 
+    fn servo_sample(&self, net: &mut [u8], place: u32, raw: u32, power: u32, ad: u8) -> u32 {
+        let number = Library.servo_sample(net, place, raw, power, ad);
+        if number == BAD_FIELD && self.0 == Spoil::RefusedServoSampleStored {
+            net[20 + 8] ^= 1;
+        }
+        number
+    }
+
     fn tick(&self, net: &mut [u8]) -> u32 {
         Library.tick(net)
     }
@@ -115,6 +127,11 @@ impl Calls for Spoiled {
         let number = Library.outputs(net, place, outputs);
         match self.0 {
             Spoil::OutputsOfPlaceZero if number == DONE => Library.outputs(net, 0, outputs),
+            // only a servo's second byte is a sign
+            Spoil::OutputsSign if number == DONE && net[20 + 128 * place as usize] == 0 => {
+                outputs[1] = 0;
+                number
+            }
             Spoil::OutputsWhenRefused if number != DONE => {
                 *outputs = [0; 8];
                 number

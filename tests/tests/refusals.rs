@@ -4,16 +4,24 @@
 use doljurven_tests::calls::*;
 use doljurven_tests::capi::Library;
 use doljurven_tests::model::frame_bytes;
-use doljurven_tests::record::{slot, COUNT, FILL, MARK, TWELVE_BITS};
+use doljurven_tests::record::{at, slot, COUNT, FILL, MARK, SLOT_LEN, TWELVE_BITS};
 
 const JUNK: u8 = 0xE7;
 
-/// A network of so many modules in the middle of a frame, with something in every slot.
+/// A network of so many I/O modules in the middle of a frame, with something in every slot.
 fn network(modules: usize) -> Vec<u8> {
+    chain(&vec![2; modules])
+}
+
+fn chain(types: &[u8]) -> Vec<u8> {
     let mut net = vec![JUNK; NET_LEN];
-    assert_eq!(Library.setup(&mut net, &vec![2; modules]), DONE);
-    for place in 0..modules {
-        assert_eq!(Library.io_sample(&mut net, place as u32, 0xA5C, [1, 2, 3], 0x1234_5678), DONE);
+    assert_eq!(Library.setup(&mut net, types), DONE);
+    for (place, module_type) in (0..).zip(types) {
+        let number = match module_type {
+            0 => Library.servo_sample(&mut net, place, 0x1234_5678, 1, 0x5A),
+            _ => Library.io_sample(&mut net, place, 0xA5C, [1, 2, 3], 0x1234_5678),
+        };
+        assert_eq!(number, DONE);
     }
     assert_eq!(Library.tick(&mut net), DONE);
     for byte in &frame_bytes(0, 1, &[1, 0xFF])[..4] {
@@ -39,6 +47,13 @@ fn byte_call(net: &mut [u8], mark: u32, byte: u8, room_len: usize) -> u32 {
 fn sample_call(net: &mut [u8], place: u32, inputs: u32) -> u32 {
     let before = net.to_vec();
     let number = Library.io_sample(net, place, inputs, [9, 8, 7], 0x0BAD_CAFE);
+    assert_eq!(number != DONE, net == before, "number {number}");
+    number
+}
+
+fn servo_sample_call(net: &mut [u8], place: u32, power: u32) -> u32 {
+    let before = net.to_vec();
+    let number = Library.servo_sample(net, place, 0x0BAD_CAFE, power, 0x77);
     assert_eq!(number != DONE, net == before, "number {number}");
     number
 }
@@ -96,7 +111,11 @@ fn read_call(module_type: u32, items: u8, reply: &[u8]) -> u32 {
 /// Every call that looks at the record, with arguments that are refused for nothing else.
 fn every_call_says(net: &[u8], number: u32) {
     assert_eq!(byte_call(&mut net.to_vec(), 0, 0, ROOM_LEN), number);
-    assert_eq!(sample_call(&mut net.to_vec(), 0, 0), number);
+    if net.get(slot(0)) == Some(&0) {
+        assert_eq!(servo_sample_call(&mut net.to_vec(), 0, 0), number);
+    } else {
+        assert_eq!(sample_call(&mut net.to_vec(), 0, 0), number);
+    }
     assert_eq!(tick_call(&mut net.to_vec()), number);
     assert_eq!(outputs_call(net, 0), number);
 }
@@ -197,7 +216,7 @@ fn in_every_slot(at: usize, good: &[u8], bad: &[u8]) {
 
 #[test]
 fn record_with_a_slot_of_unknown_type() {
-    in_every_slot(0, &[2], &[0, 1, 3, 255]);
+    in_every_slot(0, &[2], &[1, 3, 4, 128, 255]);
 }
 
 #[test]
@@ -233,6 +252,205 @@ fn record_bytes_that_may_be_anything() {
     }
 }
 
+// ---------------------------------------------------------------- 16 by a servo's slot
+
+const MOST: i32 = 83_886_080;
+const OFF: u8 = 0;
+const PWM: u8 = 1;
+const HOLDING: u8 = 2;
+const VELOCITY: u8 = 3;
+const TRAPEZOID: u8 = 4;
+const RUNNING: [u8; 4] = [PWM, HOLDING, VELOCITY, TRAPEZOID];
+
+/// A servo of its own in a network, at rest in some mode at power 1.
+#[derive(Clone)]
+struct Slot([u8; SLOT_LEN]);
+
+impl Slot {
+    fn new(mode: u8) -> Slot {
+        let mut slot = Slot([0; SLOT_LEN]);
+        slot.0[2] = 0xFF;
+        slot.0[at::LATCHED + 4] = 1;
+        slot.0[at::MODE] = mode;
+        slot.four(at::ACCELERATION, 1).four(at::RUNNING_ACCELERATION, 2).four(at::TOP, 10)
+    }
+
+    fn one(mut self, at: usize, value: u8) -> Slot {
+        self.0[at] = value;
+        self
+    }
+
+    fn two(mut self, at: usize, value: u16) -> Slot {
+        self.0[at..at + 2].copy_from_slice(&value.to_le_bytes());
+        self
+    }
+
+    fn four(mut self, at: usize, value: i32) -> Slot {
+        self.0[at..at + 4].copy_from_slice(&value.to_le_bytes());
+        self
+    }
+
+    /// So many 65,536ths from the goal, fewer than a count.
+    fn left(mut self, d: i32) -> Slot {
+        let setpoint = 0x1234_5678_0000u64.wrapping_sub_signed(i64::from(d));
+        self.0[at::SETPOINT..at::SETPOINT + 6].copy_from_slice(&setpoint.to_le_bytes()[..6]);
+        self.four(at::GOAL, 0x1234_5678)
+    }
+
+    fn judged(&self, number: u32, words: &str) {
+        let net = chain(&[0, 2, 0]);
+        for place in [0, 2] {
+            let mut net = net.clone();
+            net[slot(place)..slot(place + 1)].copy_from_slice(&self.0);
+            let told = tick_call(&mut net.clone());
+            assert_eq!(told, number, "{words}, mode {}", self.0[at::MODE]);
+            every_call_says(&net, number);
+        }
+        let mut beyond = net;
+        beyond[slot(3)..slot(4)].copy_from_slice(&self.0);
+        every_call_says(&beyond, DONE);
+    }
+
+    fn passes(&self, words: &str) {
+        self.judged(DONE, words);
+    }
+
+    fn breaks(&self, words: &str) {
+        self.judged(BAD_RECORD, words);
+    }
+}
+
+#[test]
+fn servo_record_with_bytes_out_of_range() {
+    let off = Slot::new(OFF);
+    for at in at::FLAGS {
+        for (value, number) in [(0, DONE), (1, DONE), (2, BAD_RECORD), (128, BAD_RECORD), (255, BAD_RECORD)] {
+            off.clone().one(at, value).judged(number, &format!("flag at {at} is {value}"));
+        }
+    }
+    for (at, most) in [(5, 3), (at::WAITING + 4, 2), (at::LATCHED + 4, 2), (at::WAY, 2), (at::MODE, 4)] {
+        for value in 0..=most {
+            off.clone().one(at, value).passes(&format!("byte at {at} is {value}"));
+        }
+        for value in [most + 1, 128, 255] {
+            off.clone().one(at, value).breaks(&format!("byte at {at} is {value}"));
+        }
+    }
+}
+
+#[test]
+fn servo_record_with_numbers_out_of_range() {
+    let off = Slot::new(OFF);
+    for (at, most) in [(at::KP, 32_767), (at::KD, 32_767), (at::KI, 32_767), (at::IL, 32_767), (at::EL, 16_383)] {
+        off.clone().two(at, most).passes(&format!("gain at {at}"));
+        for value in [most + 1, 65_535] {
+            off.clone().two(at, value).breaks(&format!("gain at {at} is {value}"));
+        }
+    }
+    for at in [at::VELOCITY, at::ACCELERATION, at::RUNNING_ACCELERATION, at::TOP] {
+        off.clone().four(at, MOST).passes(&format!("number at {at}"));
+        off.clone().four(at, 0).passes(&format!("number at {at} is 0"));
+        for value in [MOST + 1, -1, i32::MIN, i32::MAX] {
+            off.clone().four(at, value).breaks(&format!("number at {at} is {value}"));
+        }
+    }
+    off.clone().one(at::ACCELERATION_LOADED, 1).passes("acceleration 1 loaded");
+    off.clone().one(at::ACCELERATION_LOADED, 1).four(at::ACCELERATION, 0).breaks("acceleration 0 loaded");
+    off.clone().one(at::VELOCITY_LOADED, 1).passes("velocity 0 loaded");
+
+    let holding = Slot::new(HOLDING);
+    let velocity = Slot::new(VELOCITY);
+    let signed = [
+        (&velocity, at::SPEED, MOST),
+        (&velocity, at::GOAL_SPEED, MOST),
+        (&off, at::GOAL_SPEED, MOST),
+        (&holding, at::INTEGRAL, 32_767),
+        (&holding, at::PREVIOUS_ERROR, 16_383),
+        (&holding, at::OUTPUT, 255),
+        (&Slot::new(PWM), at::PWM, 255),
+        (&Slot::new(PWM), at::OUTPUT, 255),
+    ];
+    for (slot, at, most) in signed {
+        for value in [-most, -1, 0, 1, most] {
+            slot.clone().four(at, value).passes(&format!("number at {at} is {value}"));
+        }
+        for value in [-most - 1, most + 1, i32::MIN, i32::MAX] {
+            slot.clone().four(at, value).breaks(&format!("number at {at} is {value}"));
+        }
+    }
+}
+
+#[test]
+fn servo_record_against_its_mode() {
+    // what each mode has to have 0
+    let zero: [(u8, &[usize]); 5] = [
+        (OFF, &[at::SPEED, at::OUTPUT, at::INTEGRAL, at::PREVIOUS_ERROR, at::PWM]),
+        (PWM, &[at::SPEED, at::INTEGRAL, at::PREVIOUS_ERROR]),
+        (HOLDING, &[at::SPEED, at::PWM]),
+        (VELOCITY, &[at::PWM]),
+        (TRAPEZOID, &[at::PWM]),
+    ];
+    let signed = [at::SPEED, at::OUTPUT, at::INTEGRAL, at::PREVIOUS_ERROR, at::PWM];
+    for (mode, zero) in zero {
+        for at in signed {
+            for value in [-1, 1] {
+                let number = if zero.contains(&at) { BAD_RECORD } else { DONE };
+                Slot::new(mode).four(at, value).judged(number, &format!("number at {at} is {value}"));
+            }
+        }
+    }
+    for mode in RUNNING {
+        let slot = Slot::new(mode);
+        slot.passes("at rest");
+        slot.clone().one(at::ERROR, 1).breaks("runs with the error bit set");
+        slot.clone().one(at::LATCHED + 4, 0).breaks("runs at power 0");
+        let high = slot.clone().one(at::LATCHED + 4, 2);
+        high.passes("runs at power 2");
+        slot.clone().four(at::OUTPUT, 1).passes("drives at power 1");
+        high.clone().four(at::OUTPUT, 1).breaks("drives at power 2");
+        high.clone().four(at::OUTPUT, -1).breaks("drives at power 2");
+        slot.clone().one(at::AMPLIFIER, 1).passes("amplifier bit");
+    }
+    for power in [0, 2] {
+        Slot::new(OFF).one(at::LATCHED + 4, power).one(at::ERROR, 1).one(at::AMPLIFIER, 1).passes("off");
+        Slot::new(OFF).one(at::LATCHED + 4, power).four(at::OUTPUT, 1).breaks("off, but drives");
+    }
+}
+
+#[test]
+fn servo_record_with_a_trapezoid_that_cannot_stop() {
+    let slot = Slot::new(TRAPEZOID);
+    slot.clone().four(at::RUNNING_ACCELERATION, 0).breaks("no acceleration");
+    slot.clone().four(at::RUNNING_ACCELERATION, 1).passes("the least acceleration");
+    slot.clone().four(at::TOP, 0).passes("at rest below any top speed");
+    for sign in [1, -1] {
+        let moving = slot.clone().left(sign * 6).four(at::SPEED, sign * 6);
+        // 4 + 2 left to go after slowing down by 2
+        moving.passes("stops within 6");
+        moving.clone().left(sign * 5).breaks("cannot stop within 5");
+        moving.clone().four(at::SPEED, sign * 7).breaks("too fast for 6: 5 + 3 + 1");
+        moving.clone().four(at::SPEED, -sign * 6).breaks("backward");
+        moving.clone().four(at::SPEED, -sign).breaks("backward by 1");
+        moving.clone().four(at::TOP, 6).passes("at its top speed");
+        moving.clone().four(at::TOP, 5).breaks("above its top speed");
+        moving.clone().four(at::RUNNING_ACCELERATION, 1).breaks("5 + 4 + 3 + 2 + 1 are more than 6");
+        moving.clone().left(sign * 15).four(at::RUNNING_ACCELERATION, 1).passes("5 + 4 + 3 + 2 + 1");
+        let there = slot.clone().left(0).four(at::SPEED, sign * 2);
+        there.passes("there, with a tick to slow down");
+        there.clone().four(at::SPEED, sign * 3).breaks("there, but too fast");
+    }
+}
+
+#[test]
+fn servo_record_bytes_that_may_be_anything() {
+    let bytes = [1, 2, 6, 7, at::OL, at::CL, at::SM, at::LOAD_PWM, at::WAITING + 5, at::LATCHED + 5];
+    let fours = [at::WAITING, at::LATCHED, at::OFFSET, at::LAST_POSITION, at::LOAD_POSITION, at::GOAL, at::SETPOINT];
+    let all = fours.into_iter().flat_map(|at| at..at + 4).chain(bytes).chain([at::SETPOINT + 4, at::SETPOINT + 5]);
+    for at in all.chain(at::AMPLIFIER + 1..SLOT_LEN) {
+        Slot::new(OFF).one(at, 0xFF).passes(&format!("byte at {at}"));
+    }
+}
+
 #[test]
 fn setup_does_not_mind_what_the_record_holds() {
     let mut clean = vec![0; NET_LEN];
@@ -259,12 +477,15 @@ fn chain_of_none_or_too_many() {
 
 #[test]
 fn unknown_types() {
-    // the servo's type is among them until there is a servo
-    for unknown in [0, 1, 3, 4, 128, 130, 255] {
-        for (at, length) in [(0, 1), (0, 32), (15, 32), (31, 32)] {
-            let mut types = vec![2; length];
-            types[at] = unknown;
-            assert_eq!(setup_call(&mut network(3), &types), BAD_TYPE, "type {unknown} at {at}");
+    for (at, length) in [(0, 1), (0, 32), (15, 32), (31, 32)] {
+        for known in [0, 2] {
+            let mut types = vec![known; length];
+            types[at] = 2 - known;
+            assert_eq!(setup_call(&mut network(3), &types), DONE, "type {} among {known}", 2 - known);
+            for unknown in [1, 3, 4, 128, 130, 255] {
+                types[at] = unknown;
+                assert_eq!(setup_call(&mut network(3), &types), BAD_TYPE, "type {unknown} at {at}");
+            }
         }
     }
 }
@@ -282,6 +503,32 @@ fn place_beyond_the_chain() {
             assert_eq!(sample_call(&mut net, place, 0), BAD_PLACE, "place {place}");
             assert_eq!(outputs_call(&net, place), BAD_PLACE, "place {place}");
         }
+    }
+}
+
+#[test]
+fn sample_for_the_other_type() {
+    let mut net = chain(&[0, 2, 0]);
+    for place in [0, 2] {
+        assert_eq!(sample_call(&mut net, place, 0), BAD_PLACE, "an I/O sample for the servo at {place}");
+        assert_eq!(servo_sample_call(&mut net, place, 2), DONE);
+    }
+    assert_eq!(servo_sample_call(&mut net, 1, 1), BAD_PLACE, "a servo sample for the I/O module");
+    assert_eq!(sample_call(&mut net, 1, 0), DONE);
+    for place in [3, 4, 33, 256, u32::MAX] {
+        assert_eq!(servo_sample_call(&mut net, place, 1), BAD_PLACE, "place {place}");
+        assert_eq!(outputs_call(&net, place), BAD_PLACE, "place {place}");
+    }
+}
+
+#[test]
+fn power_other_than_low_good_or_high() {
+    let mut net = chain(&[2, 0]);
+    for power in [3, 4, 255, 256, 257, 1 << 16, u32::MAX] {
+        assert_eq!(servo_sample_call(&mut net, 1, power), BAD_FIELD, "power {power}");
+    }
+    for power in [0, 1, 2] {
+        assert_eq!(servo_sample_call(&mut net, 1, power), DONE, "power {power}");
     }
 }
 
@@ -416,6 +663,20 @@ fn sample_and_outputs_refusals_in_order() {
     assert_eq!(outputs_call(&bad, 2), BAD_RECORD);
     assert_eq!(sample_call(&mut good, 2, 4096), BAD_PLACE);
     assert_eq!(sample_call(&mut good, 0, 4096), BAD_FIELD);
+}
+
+#[test]
+fn servo_sample_refusals_in_order() {
+    let mut good = chain(&[0, 2]);
+    let mut bad = good.clone();
+    bad[slot(1) + 5] = 4;
+    for (place, power) in [(2, 3), (2, 1), (1, 3), (0, 3), (0, 1)] {
+        assert_eq!(servo_sample_call(&mut bad, place, power), BAD_RECORD);
+    }
+    assert_eq!(servo_sample_call(&mut good, 2, 3), BAD_PLACE);
+    assert_eq!(servo_sample_call(&mut good, 1, 3), BAD_PLACE);
+    assert_eq!(sample_call(&mut good, 0, 4096), BAD_PLACE);
+    assert_eq!(servo_sample_call(&mut good, 0, 3), BAD_FIELD);
 }
 
 #[test]

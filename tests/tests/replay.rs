@@ -65,6 +65,15 @@ fn captures_are_what_their_texts_say() {
 }
 
 #[test]
+fn readme_names_every_capture() {
+    let readme = fs::read_to_string(captures::folder().join("README.md")).expect("a readable README");
+    for path in captures::with_extension("txt") {
+        let name = path.file_stem().expect("a name").to_string_lossy();
+        assert!(readme.contains(&format!("`{name}`")), "{name} is not in captures/README.md");
+    }
+}
+
+#[test]
 fn model_prints_what_the_captures_expect() {
     for (path, capture) in all_captures() {
         assert_eq!(model::replay(&capture.bytes), capture.printed, "{}", path.display());
@@ -88,12 +97,42 @@ fn program_reads_standard_input_too() {
     assert_eq!(replay_of_standard_input(&[]), "");
 }
 
+/// A command that a module of this type knows, with data that it can often take.
+fn command(dice: &mut Dice, module_type: u8) -> (u8, Vec<u8>) {
+    if module_type == 2 {
+        let (code, count) = dice.pick(&[(0, 2), (2, 1), (3, 1), (5, 0), (6, 2), (7, 4), (12, 0), (14, 0)]);
+        return (code, dice.bytes(count));
+    }
+    let low = |dice: &mut Dice| u32::from(dice.byte()).to_le_bytes();
+    let code = dice.pick(&[0, 2, 3, 4, 4, 4, 5, 5, 6, 7, 11, 11, 14]);
+    let data = match code {
+        2 | 3 => dice.bytes(1),
+        4 => {
+            let control = dice.pick(&[0x17, 0x97, 0x36, 0xB6, 0xF6, 0x11, 0x91]);
+            let mut data = vec![control];
+            for bit in 0..3 {
+                if control >> bit & 1 == 1 {
+                    // the third byte of a speed counts whole counts
+                    let number = low(dice);
+                    data.extend(if bit == 0 { number } else { [number[1], 1, number[0] & 7, 0] });
+                }
+            }
+            data
+        }
+        6 => vec![0, 1, 0, 1, 0, 0, 0, 0, 255, 0, 0xFF, 0x3F, 1, 0, 1],
+        7 => vec![dice.pick(&[1, 2, 5, 9, 6])],
+        _ => Vec::new(),
+    };
+    (code, data)
+}
+
 /// A long capture: a chain addressed, then frames, samples and ticks.
 fn long_capture(dice: &mut Dice, records: usize) -> Vec<u8> {
-    let modules = 1 + dice.below(6);
+    let types: Vec<u8> = (0..1 + dice.below(6)).map(|_| dice.pick(&[0, 2])).collect();
+    let modules = types.len();
     let mut file = Vec::new();
-    for _ in 0..modules {
-        file.extend([0, 2]);
+    for module_type in &types {
+        file.extend([0, *module_type]);
     }
     let line = |file: &mut Vec<u8>, bytes: &[u8]| {
         for byte in bytes {
@@ -107,13 +146,20 @@ fn long_capture(dice: &mut Dice, records: usize) -> Vec<u8> {
         match dice.below(8) {
             0 => file.push(4),
             1 => {
-                file.extend([3, dice.below(modules) as u8, dice.byte(), dice.byte() & 15]);
-                file.extend(dice.bytes(7));
+                let place = dice.below(modules);
+                if types[place] == 0 {
+                    // a motor that hardly moves, mostly with power
+                    file.extend([2, place as u8, dice.pick(&[0, 1, 1, 1, 1, 2]), dice.byte(), dice.byte(), 0, 0, 0]);
+                } else {
+                    file.extend([3, place as u8, dice.byte(), dice.byte() & 15]);
+                    file.extend(dice.bytes(7));
+                }
             }
             _ => {
-                let address = if dice.percent(30) { 0xFF } else { 1 + dice.below(modules) as u8 };
-                let (code, count) = dice.pick(&[(0, 2), (2, 1), (3, 1), (5, 0), (6, 2), (7, 4), (12, 0), (14, 0)]);
-                let mut bytes = frame_bytes(address, code, &dice.bytes(count));
+                let place = dice.below(modules);
+                let address = if dice.percent(30) { 0xFF } else { 1 + place as u8 };
+                let (code, data) = command(dice, types[place]);
+                let mut bytes = frame_bytes(address, code, &data);
                 let last = bytes.len() - 1;
                 bytes[last] ^= u8::from(dice.percent(10));
                 line(&mut file, &bytes);

@@ -63,9 +63,10 @@ module _ {m : Servo} (g : Good m) where
   unfolding unpowered off idled
   unpowered-good = latch-good _ _ _ (off-sane (m .waiting .power) (m .profile) (withAmplifier false (m .drive)) (g .sane .profile))
 
-  tripped-good : Good (tripped (latch m))
+  tripped-good : Good (tripped (advanced (latch m)) (latch m))
   unfolding tripped off idled
-  tripped-good = latch-good _ _ _ (off-sane (m .waiting .power) (m .profile) (withError true (m .drive)) (g .sane .profile))
+  tripped-good =
+      latch-good _ _ _ (off-sane (m .waiting .power) (advanced (latch m)) (withError true (m .drive)) (advanced-ranged (latch m) (g .sane .profile)))
 
   -- the mode's own conditions are asked for at any memory and output
   module _ (k : (y : Memory) (u : ℤ) → InMode (m .drive .mode) (m .waiting .power) (advanced (latch m)) y (putting u (m .drive))) where

@@ -76,7 +76,7 @@ tick-rests m h r =
       off = λ q. (r, refl);
       pwm = λ q. (r, refl);
       output = λ s y u. (subst (λ (p : Profile). Rests p (m .drive .mode) (m .drive .pulse)) (sym e) r, ap (λ (p : Profile). p .setpoint) e);
-      trip = λ q. (off-rests _ refl, refl);
+      trip = λ q. (off-rests _ refl, ap (λ (p : Profile). p .setpoint) e);
     })
 
 pub stays-resting : StaysResting

@@ -26,7 +26,7 @@ pub record Ends (P : Servo → Type 0) (n : Servo) : Type 0 where
   pub off : n .drive .mode ≡ Off → P n
   pub pwm : n .drive .mode ≡ Pwm → P (pulsed n)
   pub output : servoOff (n .drive .mode) ≡ false → (y : Memory) (u : ℤ) → P (filteredTo (Filters.Output y u) (advanced n) n)
-  pub trip : answer n ≡ Filters.Off → P (tripped n)
+  pub trip : answer n ≡ Filters.Off → P (tripped (advanced n) n)
 
 pub ends : (P : Servo → Type 0) (m : Servo) → Ends P (latch m) → P (ticked m)
 unfolding ticked servoed

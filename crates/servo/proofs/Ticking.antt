@@ -43,7 +43,7 @@ module _ (m : Servo) where
   unfolding unpowered idled off
   unpowered-released = (record { mode = refl; speed = refl; output = refl; pulse = refl; memory = refl }, refl)
 
-  tripped-released : Released (tripped (latch m)) × (tripped (latch m) .drive .error ≡ true)
+  tripped-released : Released (tripped (advanced (latch m)) (latch m)) × (tripped (advanced (latch m)) (latch m) .drive .error ≡ true)
   unfolding tripped idled off
   tripped-released = (record { mode = refl; speed = refl; output = refl; pulse = refl; memory = refl }, refl)
 
@@ -105,7 +105,7 @@ ticks m =
             λ p. ap (λ (k : Servo). k .drive .output) e ∙ ap (λ (t : Bool). cond t (held (m .tuning .gains .ol) (m .drive .pulse)) (pos 0)) (eq-eqb _ _ p),
           );
       trip = λ n k h.
-          let e : ticked m ≡ tripped (latch m) = on-filter m n k ∙ ap (λ (r : Filtered). filteredTo r (advanced (latch m)) (latch m)) (trips m h) in
+          let e : ticked m ≡ tripped (advanced (latch m)) (latch m) = on-filter m n k ∙ ap (λ (r : Filtered). filteredTo r (advanced (latch m)) (latch m)) (trips m h) in
           subst (λ (k : Servo). Released k × (k .drive .error ≡ true)) (sym e) (tripped-released m);
       runs = λ n k h.
           let e = on-filter m n k ∙ ap (λ (r : Filtered). filteredTo r (advanced (latch m)) (latch m)) (runs m h) in (

@@ -90,6 +90,9 @@ dropped m = withLoad (m .rates) noLoad m
 abbrev pub running : Profile → Memory → Drive → Servo → Servo
 running p y d m = record { station = m .station; waiting = m .waiting; latched = m .latched; counts = m .counts; tuning = m .tuning; rates = m .rates; load = m .load; profile = p; memory = y; drive = d }
 
+abbrev pub withProfile : Profile → Servo → Servo
+withProfile p m = running p (m .memory) (m .drive) m
+
 abbrev pub withDrive : Drive → Servo → Servo
 withDrive d m = running (m .profile) (m .memory) d m
 

@@ -14,7 +14,7 @@ use Rattle.filter.specs.Filter.{Kept, held, filtered}
 use Rattle.servo.specs.declared.Mode.{Mode}
 use Rattle.servo.specs.declared.Mode.the-variants.{Off, Pwm, Hold, Velocity, Trapezoid}
 use Rattle.servo.specs.declared.Servo.{Servo}
-use Rattle.servo.specs.Servo.{position, powered, withDrive, running, putting, withError, withAmplifier, off}
+use Rattle.servo.specs.Servo.{position, powered, withProfile, withDrive, running, putting, withError, withAmplifier, off}
 
 -- 01 Tick: the samples are latched, and the position before the tick is kept
 abbrev pub latch : Servo → Servo
@@ -39,13 +39,13 @@ advanced m = advancedBy (m .drive .mode) (m .profile)
 unfoldable pub putOut : ℤ → Servo → ℤ
 putOut u m = cond (powered m) u (pos 0)
 
--- 01 Filter: an error above EL sets the error bit and ends in off
-unfoldable pub tripped : Servo → Servo
-tripped m = withDrive (withError true (off m .drive)) (off m)
+-- 01 Filter: an error above EL, after the profile's step to p, sets the error bit and ends in off
+unfoldable pub tripped : Profile → Servo → Servo
+tripped p m = withDrive (withError true (off (withProfile p m) .drive)) (off (withProfile p m))
 
 abbrev pub filteredTo : Filtered → Profile → Servo → Servo
 filteredTo (Filters.Output y u) p m = running p y (putting (putOut u m) (m .drive)) m
-filteredTo Filters.Off p m = tripped m
+filteredTo Filters.Off p m = tripped p m
 
 -- 01 Filter: at the new setpoint and the new position
 unfoldable pub servoed : Servo → Servo

@@ -8,7 +8,7 @@ ghost use Rattle.layout.specs.Bytes.{pasted};
 ghost use Rattle.station.specs.Touch.{frameOf};
 ghost use Rattle.filter.specs.Filter.{blank};
 ghost use Rattle.motion.specs.Profile.{Ranged};
-ghost use Rattle.servo.specs.Servo.{position, setpointAt, powered, ready, servoOff, noLoad, fresh, started, withStation, withTuning, dropped, running, withDrive, sampled, resting, driving, putting, withError, withAmplifier, idled, off};
+ghost use Rattle.servo.specs.Servo.{position, setpointAt, powered, ready, servoOff, noLoad, fresh, started, withStation, withTuning, dropped, running, withProfile, withDrive, sampled, resting, driving, putting, withError, withAmplifier, idled, off};
 ghost use Rattle.servo.specs.Loads.{wayOf, loadOf, ratesOf, loaded, beginning, atRest, movable, complete, startable, signedBy, servoing, aimed, sent, toSpeed, toPlace, startedBy, start};
 ghost use Rattle.servo.specs.Orders.{resetPosition, holding, smooth, halted, stopped, canHalt, can, perform, withCause, execute};
 ghost use Rattle.servo.specs.Tick.{unpowered, advanced, putOut, tripped, servoed, pulsed, drivenBy, ticked, Steady};
@@ -361,6 +361,13 @@ impl Servo {
         self
     }
 
+    fn with_profile(mut self, p: Profile) -> Self
+        ensures { λ r. ⌜ r ≡ withProfile p self ⌝ }
+    {
+        self.profile = p;
+        self
+    }
+
     fn with_drive(mut self, d: Drive) -> Self
         ensures { λ r. ⌜ r ≡ withDrive d self ⌝ }
     {
@@ -700,10 +707,11 @@ impl Servo {
         if self.latched.power == 1 { u } else { 0 }
     }
 
-    fn tripped(self) -> Self
-        ensures { λ r. ⌜ r ≡ tripped self ⌝ }
+    // After the profile's step to p.
+    fn tripped(self, p: Profile) -> Self
+        ensures { λ r. ⌜ r ≡ tripped p self ⌝ }
     {
-        let after = self.off();
+        let after = self.with_profile(p).off();
         let d = after.drive;
         after.with_drive(d.with_error(true))
     }
@@ -721,7 +729,7 @@ impl Servo {
             self.position(),
         );
         let Filtered::Output(memory, u) = answer else {
-            return self.tripped();
+            return self.tripped(p);
         };
         let d = self.drive;
         self.running(p, memory, d.putting(self.put_out(u)))

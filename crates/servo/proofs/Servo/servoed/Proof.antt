@@ -36,7 +36,7 @@ whole-requires c κs = rw (c .before .advanced .ensures) (advanced-ranged (c .be
 
 returns : tie.Need-returns
 unfolding servoed
-returns c = c .tripped .ensures ∙ sym (ap (λ (q : Filtered). filteredTo q (advanced (c .before .before .before .before .before .before .before .before .args .self)) (c .before .before .before .before .before .before .before .before .args .self)) (sym (answer-is (c .before .before .before)) ∙ c .before .enum-told .given .1))
+returns c = (rw (c .before .before .before .before .before .before .before .advanced .ensures) at (c .tripped .ensures)) ∙ sym (ap (λ (q : Filtered). filteredTo q (advanced (c .before .before .before .before .before .before .before .before .args .self)) (c .before .before .before .before .before .before .before .before .args .self)) (sym (answer-is (c .before .before .before)) ∙ c .before .enum-told .given .1))
 
 returns-2 : tie.Need-returns-2
 unfolding servoed

@@ -1,0 +1,48 @@
+//! The host's side: the frame writer and the status reader.
+
+use super::line::{sum, HEADER};
+use crate::calls::{BAD_LENGTH, BAD_SUM, BAD_TYPE};
+
+/// The writer's bytes; the caller has looked at the ranges.
+pub fn frame_bytes(address: u8, code: u8, data: &[u8]) -> Vec<u8> {
+    let mut bytes = vec![HEADER, address, (data.len() as u8) << 4 | code];
+    bytes.extend(data);
+    bytes.push(sum(&bytes[1..]));
+    bytes
+}
+
+/// How many bytes each status item has.
+pub fn item_sizes(module_type: u32) -> Option<[usize; 8]> {
+    match module_type {
+        0 => Some([4, 1, 2, 1, 4, 2, 2, 1]),
+        2 => Some([2, 1, 1, 1, 4, 2, 2, 4]),
+        _ => None,
+    }
+}
+
+#[derive(Clone, Debug, PartialEq, Eq)]
+pub struct Reading {
+    pub status: u8,
+    pub numbers: [u32; 8],
+}
+
+pub fn read_status(module_type: u32, items: u8, reply: &[u8]) -> Result<Reading, u32> {
+    let sizes = item_sizes(module_type).ok_or(BAD_TYPE)?;
+    let chosen = |bit: &usize| items >> bit & 1 == 1;
+    let length = 2 + (0..8).filter(chosen).map(|bit| sizes[bit]).sum::<usize>();
+    if reply.len() != length {
+        return Err(BAD_LENGTH);
+    }
+    let (told, summed) = reply.split_last().expect("two bytes at least");
+    if *told != sum(summed) {
+        return Err(BAD_SUM);
+    }
+    let mut numbers = [0; 8];
+    let mut rest = &summed[1..];
+    for bit in (0..8).filter(chosen) {
+        let (item, after) = rest.split_at(sizes[bit]);
+        numbers[bit] = item.iter().rev().fold(0, |number, byte| number << 8 | u32::from(*byte));
+        rest = after;
+    }
+    Ok(Reading { status: reply[0], numbers })
+}

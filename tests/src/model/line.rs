@@ -1,0 +1,67 @@
+//! The line: the receiver and its frames.
+
+use crate::slips::Slip;
+
+pub const HEADER: u8 = 0xAA;
+
+/// 8-bit wrapping sum, of frames and of replies.
+pub fn sum(bytes: &[u8]) -> u8 {
+    bytes.iter().fold(0, |total: u8, byte| total.wrapping_add(*byte))
+}
+
+#[derive(Clone, Debug, PartialEq, Eq)]
+pub struct Frame {
+    pub address: u8,
+    pub code: u8,
+    pub data: Vec<u8>,
+    pub damaged: bool,
+}
+
+/// The one receiver that the modules of a network share. Idle, all of it is 0.
+#[derive(Clone, Debug, Default, PartialEq, Eq)]
+pub struct Receiver {
+    pub data: [u8; 15],
+    pub address: u8,
+    pub command: u8,
+    /// Bytes of the frame that are in, its header among them.
+    pub fill: u8,
+    pub marked: bool,
+}
+
+impl Receiver {
+    pub fn take(&mut self, marked: bool, byte: u8, slip: Slip) -> Option<Frame> {
+        if self.fill == 0 {
+            if byte == HEADER && (!marked || slip == Slip::MarkedHeaderOpens) {
+                self.fill = 1;
+            }
+            return None;
+        }
+        if byte == HEADER && slip == Slip::HeaderRestarts {
+            *self = Receiver { fill: 1, ..Receiver::default() };
+            return None;
+        }
+        if marked && slip != Slip::MarkIgnored {
+            self.marked = true;
+        }
+        let count = self.command >> 4;
+        match self.fill {
+            1 => self.address = byte,
+            2 => self.command = byte,
+            fill if fill - 3 < count => self.data[usize::from(fill - 3)] = byte,
+            _ => return Some(self.end(byte, slip)),
+        }
+        self.fill += 1;
+        None
+    }
+
+    fn end(&mut self, checksum: u8, slip: Slip) -> Frame {
+        let done = std::mem::take(self);
+        let data = done.data[..usize::from(done.command >> 4)].to_vec();
+        let mut right = done.command.wrapping_add(sum(&data));
+        if slip != Slip::SumLeavesOutAddress {
+            right = right.wrapping_add(done.address);
+        }
+        let wrong_sum = checksum != right && slip != Slip::SumIgnored;
+        Frame { address: done.address, code: done.command & 15, data, damaged: done.marked || wrong_sum }
+    }
+}

@@ -1,0 +1,159 @@
+//! What every module type has, and what makes a type.
+
+use super::line::{sum, Frame};
+use crate::slips::Slip;
+
+pub const EXECUTED: u8 = 0;
+pub const DAMAGED: u8 = 1;
+pub const MALFORMED: u8 = 2;
+pub const NOT_NOW: u8 = 3;
+
+#[derive(Clone, Debug, PartialEq, Eq)]
+pub struct Station {
+    pub individual: u8,
+    pub group: u8,
+    pub leader: bool,
+    /// ADDR_OUT is low: the next place hears the line.
+    pub low: bool,
+    pub cause: u8,
+    pub items: u8,
+    pub baud: u8,
+}
+
+impl Station {
+    pub fn power_up() -> Station {
+        Station { individual: 0, group: 255, leader: false, low: false, cause: EXECUTED, items: 0, baud: 0 }
+    }
+
+    fn set_address(&mut self, individual: u8, group: u8, slip: Slip) {
+        self.individual = individual;
+        self.group = if slip == Slip::GroupAsSent { group } else { group | 0x80 };
+        self.leader = (group < 0x80) != (slip == Slip::LeaderFrom128);
+        self.low |= slip != Slip::SetAddressLeavesAddrOut;
+    }
+
+    pub fn touch(&self, address: u8, slip: Slip) -> Option<Touch> {
+        if slip == Slip::GroupFirst && self.group == address {
+            Some(Touch::ByGroup)
+        } else if self.individual == address {
+            Some(Touch::Individually)
+        } else if self.group == address {
+            Some(Touch::ByGroup)
+        } else {
+            None
+        }
+    }
+}
+
+#[derive(Clone, Copy, Debug, PartialEq, Eq)]
+pub enum Touch {
+    Individually,
+    ByGroup,
+}
+
+/// A frame that is not executed leaves its cause and nothing else, but for these slips.
+fn keeps_a_part(code: u8, cause: u8, slip: Slip) -> bool {
+    match slip {
+        Slip::ShortLoadKeepsVelocity => code == 4 && cause == MALFORMED,
+        Slip::RefusedStartKeepsLoad => code == 4 && cause == NOT_NOW,
+        Slip::GainStoredWhileTested => code == 6 && cause == MALFORMED,
+        _ => false,
+    }
+}
+
+/// A module type: what sets it apart from the others.
+pub trait Device: Clone {
+    const TYPE: u8;
+    const VERSION: u8;
+
+    fn power_up() -> Self;
+    fn station(&self) -> &Station;
+    fn station_mut(&mut self) -> &mut Station;
+    /// Data bytes that a code takes, 0 for one that is not known. Frames are steered by it; the model itself goes by
+    /// the shape of the data that each command takes.
+    fn count(code: u8, data: &[u8]) -> usize;
+    /// A code that is not common to all types; `Err` has the cause.
+    fn command(&mut self, code: u8, data: &[u8], slip: Slip) -> Result<(), u8>;
+    /// Back to power-up, but for what the board measures.
+    fn hard_reset(&mut self, slip: Slip);
+    fn item(&self, bit: usize, slip: Slip) -> Vec<u8>;
+    /// Status bits of this type's own.
+    fn status_bits(&self, slip: Slip) -> u8;
+    fn tick(&mut self, slip: Slip);
+    /// What the board is to drive, in the eight bytes of the C call.
+    fn outputs(&self, slip: Slip) -> [u8; 8];
+
+    fn perform(&mut self, frame: &Frame, touch: Touch, slip: Slip) -> Result<(), u8> {
+        let mut data = &frame.data[..];
+        if slip == Slip::LongDataTaken {
+            data = &data[..data.len().min(Self::count(frame.code, data))];
+        }
+        match (frame.code, data) {
+            (1, [individual, group]) => self.station_mut().set_address(*individual, *group, slip),
+            (2, [items]) => self.station_mut().items = *items,
+            (3, [items]) => {
+                if slip == Slip::ReadStatusKept {
+                    self.station_mut().items = *items;
+                }
+            }
+            (10, [rate]) if touch == Touch::ByGroup || slip == Slip::BaudIndividually => {
+                if slip != Slip::BaudNotStored {
+                    self.station_mut().baud = *rate;
+                }
+            }
+            (14, []) => {}
+            (15, []) => self.hard_reset(slip),
+            (1 | 2 | 3 | 10 | 14 | 15, _) => return Err(MALFORMED),
+            (code, data) => return self.command(code, data, slip),
+        }
+        Ok(())
+    }
+
+    /// The frame met; whatever its cause is, only an executed one leaves more than the cause behind.
+    fn meet(&mut self, frame: &Frame, touch: Touch, slip: Slip) {
+        let mut after = self.clone();
+        let mut cause = match after.perform(frame, touch, slip) {
+            Ok(()) => EXECUTED,
+            Err(cause) => cause,
+        };
+        if cause == EXECUTED && (!frame.damaged || slip == Slip::DamagedIsExecuted) {
+            if slip == Slip::CauseStays && self.station().cause != EXECUTED && frame.code != 15 {
+                cause = self.station().cause;
+            }
+            *self = after;
+        } else if !frame.damaged && keeps_a_part(frame.code, cause, slip) {
+            *self = after;
+        }
+        if frame.damaged {
+            cause = DAMAGED;
+        }
+        self.station_mut().cause = cause;
+    }
+
+    fn reply(&self, frame: &Frame, slip: Slip) -> Vec<u8> {
+        let station = self.station();
+        let fault = station.cause != EXECUTED;
+        // only an executed Read Status chooses items for its own reply
+        let items = match (fault, frame.code, frame.data.first()) {
+            (false, 3, Some(items)) => *items,
+            _ => station.items,
+        };
+        let mut reply = vec![self.status_bits(slip) | u8::from(fault) << 1];
+        for bit in 0..8 {
+            if items >> bit & 1 == 1 {
+                if bit == 5 {
+                    let mut pair = [Self::TYPE, Self::VERSION];
+                    if slip == Slip::VersionBeforeType {
+                        pair.reverse();
+                    }
+                    reply.extend(pair);
+                } else {
+                    reply.extend(self.item(bit, slip));
+                }
+            }
+        }
+        let summed = usize::from(slip == Slip::ReplySumLeavesOutStatus);
+        reply.push(sum(&reply[summed..]));
+        reply
+    }
+}

@@ -1,0 +1,498 @@
+//! Where the dice are led: frames that somebody hears and can execute, records that pass the list at its edges,
+//! samples of a motor that follows.
+
+use crate::calls::*;
+use crate::dice::Dice;
+use crate::model::{
+    distance, stopping_sum, Device, Gains, Load, Mode, Module, Network, Servo, ServoSample, Station, Way, HEADER,
+    SPEED_MOST,
+};
+use crate::record::{at, put_module, slot, COUNT, FILL, IO_LEN, MARK, SERVO_LEN, SLOTS, TWELVE_BITS};
+
+/// Individual and group bytes that meet each other often, and the header among them.
+const INDIVIDUALS: &[u8] = &[0, 1, 2, 3, 4, 0x81, 0x82, HEADER, 0xFF];
+const GROUPS: &[u8] = &[0xFF, 0x7F, 0x81, 0x01, 0x82, 0x02, HEADER, 0x2A, 0x80, 0x00];
+const IO_CODES: &[u8] = &[0, 0, 1, 1, 2, 2, 3, 3, 4, 5, 5, 6, 6, 7, 7, 8, 9, 10, 10, 11, 12, 12, 13, 14, 15];
+const SERVO_CODES: &[u8] =
+    &[0, 0, 1, 2, 2, 3, 3, 3, 4, 4, 4, 4, 4, 5, 5, 5, 6, 6, 7, 7, 7, 8, 9, 10, 11, 11, 12, 13, 14, 15];
+const EDGES: &[u8] = &[0, 1, 2, 3, 4, 5, 15, 16, 31, 32, 33, 63, 64, 127, 128, HEADER, 255];
+
+pub fn data_byte(dice: &mut Dice) -> u8 {
+    match dice.below(10) {
+        0 => HEADER,
+        1 => 0,
+        2 => 0xFF,
+        _ => dice.byte(),
+    }
+}
+
+pub fn individual(dice: &mut Dice) -> u8 {
+    if dice.percent(85) {
+        dice.pick(INDIVIDUALS)
+    } else {
+        dice.byte()
+    }
+}
+
+pub fn group(dice: &mut Dice) -> u8 {
+    if dice.percent(85) {
+        dice.pick(GROUPS)
+    } else {
+        dice.byte()
+    }
+}
+
+fn chain_length(dice: &mut Dice) -> usize {
+    match dice.below(8) {
+        0 => 1,
+        1 => 32,
+        2 | 3 => 1 + dice.below(MOST_MODULES),
+        _ => 2 + dice.below(4),
+    }
+}
+
+/// A chain of one type, or of both.
+pub fn types(dice: &mut Dice) -> Vec<u8> {
+    let length = chain_length(dice);
+    let servos = dice.pick(&[0, 50, 50, 70, 100]);
+    (0..length).map(|_| if dice.percent(servos) { 0 } else { 2 }).collect()
+}
+
+/// A frame that somebody in the network is likely to hear.
+pub fn frame(dice: &mut Dice, network: &Network) -> (u8, u8, Vec<u8>) {
+    let module = &network.modules[dice.below(network.modules.len())];
+    let station = module.station();
+    let address = match dice.below(20) {
+        0..=8 => station.individual,
+        9..=15 => station.group,
+        16 => 0,
+        17 => 0xFF,
+        _ => dice.byte(),
+    };
+    let (code, mut data) = match module {
+        Module::Servo(servo) => servo_command(dice, servo),
+        Module::Io(_) => {
+            let code = dice.pick(IO_CODES);
+            let data = (0..module.count(code, &[])).map(|_| data_byte(dice)).collect();
+            (code, data)
+        }
+    };
+    if dice.percent(15) {
+        let count = dice.below(16);
+        data.resize_with(count, || data_byte(dice));
+    }
+    if code == 1 && data.len() >= 2 {
+        data[0] = individual(dice);
+        data[1] = group(dice);
+    }
+    (address, code, data)
+}
+
+// ---------------------------------------------------------------- the servo
+
+/// A velocity or an acceleration: mostly one that a move of some ticks shows, and the edges of its range.
+fn rate(dice: &mut Dice) -> u32 {
+    match dice.below(24) {
+        0 => 0,
+        1 => 1,
+        2 => SPEED_MOST,
+        3..=8 => dice.below(300) as u32,
+        9..=14 => dice.below(4 << 16) as u32,
+        _ => (1 + dice.below(24) as u32) << 14,
+    }
+}
+
+fn rate_or_bad(dice: &mut Dice) -> u32 {
+    match dice.below(20) {
+        0 => SPEED_MOST + 1,
+        1 => dice.throw() as u32,
+        _ => rate(dice),
+    }
+}
+
+/// Counts that are near, and counts at the far end of the circle.
+fn counts(dice: &mut Dice) -> u32 {
+    match dice.below(12) {
+        0 => 0,
+        1 => 1,
+        2 => 1 << 31,
+        3 => dice.pick(&[(1 << 31) - 1, (1 << 31) + 1]),
+        4 => dice.throw() as u32,
+        5..=8 => dice.below(60) as u32,
+        _ => (dice.below(60) as u32).wrapping_neg(),
+    }
+}
+
+fn where_it_is(servo: &Servo) -> u32 {
+    if servo.servo_off() {
+        servo.position()
+    } else {
+        (servo.setpoint >> 16) as u32
+    }
+}
+
+fn load(dice: &mut Dice, servo: &Servo) -> Vec<u8> {
+    let mut control = match dice.below(12) {
+        0..=3 => 0x17,
+        4..=6 => 0x36,
+        7 => 0x11,
+        8 => 0x32,
+        9 | 10 => 0x08,
+        _ => dice.byte(),
+    };
+    control ^= dice.pick(&[0, 0x40, 0x80, 0xC0]);
+    if dice.percent(15) {
+        control ^= 1 << dice.below(8);
+    }
+    let mut data = vec![control];
+    if control & 1 != 0 {
+        data.extend(where_it_is(servo).wrapping_add(counts(dice)).to_le_bytes());
+    }
+    for bit in [1, 2] {
+        if control >> bit & 1 == 1 {
+            data.extend(rate_or_bad(dice).to_le_bytes());
+        }
+    }
+    if control & 8 != 0 {
+        data.push(data_byte(dice));
+    }
+    data
+}
+
+fn gain(dice: &mut Dice) -> u16 {
+    match dice.below(8) {
+        0 => 0,
+        1 | 2 => 32_767,
+        3 => dice.below(0x8000) as u16,
+        _ => dice.below(800) as u16,
+    }
+}
+
+/// Good gains, mostly with room for an error.
+pub fn gains(dice: &mut Dice) -> Vec<u8> {
+    let mut data = Vec::new();
+    for _ in 0..4 {
+        data.extend(gain(dice).to_le_bytes());
+    }
+    data.push(dice.pick(&[0, 1, 50, 127, 200, 254, 255]));
+    data.push(dice.byte());
+    let limit = match dice.below(8) {
+        0 => dice.below(4) as u16,
+        1 | 2 => 16_383,
+        _ => dice.below(16_384) as u16,
+    };
+    data.extend(limit.to_le_bytes());
+    data.extend([1, 0, dice.byte()]);
+    data
+}
+
+/// A command of the servo's, mostly one that it can execute as it stands.
+pub fn servo_command(dice: &mut Dice, servo: &Servo) -> (u8, Vec<u8>) {
+    let code = dice.pick(SERVO_CODES);
+    let data = match code {
+        4 => load(dice, servo),
+        6 => {
+            let mut gains = gains(dice);
+            if dice.percent(25) {
+                let at = dice.pick(&[1, 3, 5, 7, 11, 12, 13]);
+                gains[at] = dice.pick(&[0, 1, 2, 0x3F, 0x40, 0x7F, 0x80, 0xFF]);
+            }
+            gains
+        }
+        7 => {
+            let control = if dice.percent(85) {
+                dice.pick(&[0, 1, 2, 3, 4, 5, 5, 8, 9, 9, 0x10, 0x11, 0x11])
+            } else {
+                dice.byte()
+            };
+            let mut data = vec![control];
+            if control & 0x10 != 0 {
+                data.extend(servo.position().wrapping_add(counts(dice)).to_le_bytes());
+            }
+            data
+        }
+        _ => (0..Servo::count(code, &[])).map(|_| data_byte(dice)).collect(),
+    };
+    (code, data)
+}
+
+/// A raw count for a motor that follows its setpoint more or less, with errors at the limit among them.
+pub fn following(dice: &mut Dice, servo: &Servo) -> u32 {
+    let limit = u32::from(servo.gains.el);
+    let mut error = match dice.below(24) {
+        0 => limit,
+        1 => limit + 1,
+        2 => 1 << 31,
+        3 => dice.throw() as u32,
+        4..=6 => dice.below(1 + servo.gains.el as usize) as u32,
+        _ => dice.below(1 + servo.gains.el.min(9) as usize) as u32,
+    };
+    if dice.percent(50) {
+        error = error.wrapping_neg();
+    }
+    // where the setpoint will be if the profile goes on as it does
+    let ahead = ((servo.setpoint + servo.speed) >> 16) as u32;
+    let base = if servo.servo_off() { servo.position() } else { ahead };
+    base.wrapping_add(error).wrapping_add(servo.offset)
+}
+
+pub fn servo_sample(dice: &mut Dice, servo: &Servo) -> (u32, u32) {
+    let power = match dice.below(40) {
+        0 | 1 => 0,
+        2..=4 => 2,
+        _ => 1,
+    };
+    (following(dice, servo), power)
+}
+
+/// Why a Start of the waiting load would be not now, by number.
+pub const REASONS: usize = 9;
+
+pub fn why_not_now(servo: &Servo) -> Vec<usize> {
+    let load = &servo.load;
+    let profile = load.way != Way::Pwm;
+    let trapezoid = load.way == Way::Trapezoid;
+    let away = load.position.wrapping_sub(where_it_is(servo));
+    let reasons = [
+        !load.waits,
+        servo.latched.power != 1,
+        servo.error,
+        load.waits && load.way == Way::Pwm && !load.pwm_carried,
+        load.waits && profile && !(servo.velocity_loaded && servo.acceleration_loaded),
+        trapezoid && !load.position_carried,
+        trapezoid && servo.velocity_loaded && servo.velocity == 0,
+        trapezoid && servo.speed != 0,
+        trapezoid && load.position_carried && away == 1 << 31,
+    ];
+    (0..REASONS).filter(|reason| reasons[*reason]).collect()
+}
+
+// ---------------------------------------------------------------- records
+
+fn within(dice: &mut Dice, most: i64) -> i64 {
+    match dice.below(6) {
+        0 => most,
+        1 => -most,
+        2 | 3 => dice.below(40.min(most as usize + 1)) as i64 - 20.min(most / 2),
+        _ => dice.below(2 * most as usize + 1) as i64 - most,
+    }
+}
+
+fn flag(dice: &mut Dice) -> bool {
+    dice.percent(50)
+}
+
+/// A servo that the list takes, in any mode and often at an edge of it.
+fn any_servo(dice: &mut Dice, station: Station) -> Servo {
+    let mut servo = Servo::power_up();
+    servo.station = station;
+    servo.gains = Gains {
+        kp: gain(dice),
+        kd: gain(dice),
+        ki: gain(dice),
+        il: gain(dice),
+        ol: data_byte(dice),
+        cl: dice.byte(),
+        el: if dice.percent(70) { 16_383 - dice.below(4000) as u16 } else { dice.below(16_384) as u16 },
+        sm: dice.byte(),
+    };
+    servo.velocity = rate(dice);
+    servo.acceleration = rate(dice);
+    servo.velocity_loaded = dice.percent(70);
+    servo.acceleration_loaded = servo.acceleration > 0 && dice.percent(70);
+    // without a waiting load the list asks nothing of the load's other bytes
+    if dice.percent(60) {
+        servo.load = Load {
+            waits: dice.percent(90),
+            way: dice.pick(&[Way::Pwm, Way::Velocity, Way::Trapezoid, Way::Trapezoid]),
+            position_carried: dice.percent(80),
+            position: dice.throw() as u32,
+            pwm_carried: dice.percent(80),
+            pwm: dice.byte(),
+            reverse: flag(dice),
+        };
+    }
+    servo.goal = dice.throw() as u32;
+    servo.goal_speed = within(dice, i64::from(SPEED_MOST));
+    servo.running_acceleration = rate(dice);
+    servo.top = rate(dice);
+    servo.setpoint = (dice.throw() >> 16) as i64;
+    servo.latched.power = dice.pick(&[0, 1, 1, 1, 1, 1, 2]);
+    servo.mode = dice.pick(&[Mode::Off, Mode::Pwm, Mode::Holding, Mode::Velocity, Mode::Velocity, Mode::Trapezoid]);
+    if servo.latched.power == 0 {
+        servo.mode = Mode::Off;
+    }
+    match servo.mode {
+        Mode::Off | Mode::Holding => {}
+        Mode::Pwm => servo.pwm = within(dice, 255),
+        Mode::Velocity => servo.speed = within(dice, i64::from(SPEED_MOST)),
+        Mode::Trapezoid => any_trapezoid(dice, &mut servo),
+    }
+    if !servo.servo_off() {
+        servo.integral = within(dice, 32_767);
+        servo.previous_error = within(dice, 16_383);
+    }
+    if servo.mode != Mode::Off && servo.latched.power == 1 {
+        servo.output = within(dice, 255);
+    }
+    servo.error = servo.mode == Mode::Off && flag(dice);
+    servo.amplifier = flag(dice);
+
+    servo.offset = dice.throw() as u32;
+    servo.latched.raw = following(dice, &servo);
+    servo.latched.ad = dice.byte();
+    servo.last_position = dice.throw() as u32;
+    let (raw, power) = servo_sample(dice, &servo);
+    servo.waiting = ServoSample { raw, power: power as u8, ad: dice.byte() };
+    if servo.mode == Mode::Holding && dice.percent(30) {
+        full_swing(dice, &mut servo);
+    }
+    if dice.percent(60) {
+        servo.load.position = where_it_is(&servo).wrapping_add(counts(dice)) * u32::from(servo.load.waits);
+    }
+    servo
+}
+
+/// From the one end of the error's range to the other at the highest gains: u is then as large as it can be.
+fn full_swing(dice: &mut Dice, servo: &mut Servo) {
+    let sign = dice.pick(&[1, -1]);
+    servo.gains = Gains { kp: 32_767, kd: 32_767, ki: 32_767, il: 32_767, el: 16_383, ..servo.gains.clone() };
+    servo.integral = sign * (32_767 - dice.below(3) as i64);
+    servo.previous_error = -sign * (16_383 - dice.below(3) as i64);
+    let error = sign * (16_383 - dice.below(3) as i64);
+    let position = (servo.setpoint >> 16) - error;
+    servo.waiting = ServoSample { raw: servo.offset.wrapping_add(position as u32), power: 1, ad: 0 };
+}
+
+/// A move under way that can stop within its distance, often by nothing to spare. Speeds stay below some thousand
+/// accelerations: the library adds the stopping sum term by term.
+fn any_trapezoid(dice: &mut Dice, servo: &mut Servo) {
+    servo.running_acceleration = rate(dice).max(1);
+    let a = i64::from(servo.running_acceleration);
+    let size = (a * dice.below(2000) as i64 + dice.below(a as usize) as i64).min(i64::from(SPEED_MOST));
+    let size = if dice.percent(30) { size.min(2 * a) } else { size };
+    servo.top = (size as u32 + dice.below(3) as u32 * rate(dice)).min(SPEED_MOST);
+    let spare = match dice.below(5) {
+        0 | 1 => 0,
+        2 => 1,
+        3 => dice.below(2 * a as usize) as i64,
+        _ => dice.below(1 << 40) as i64,
+    };
+    let left = stopping_sum(size - a, a) + spare;
+    let backward = flag(dice);
+    let d = if backward { -left } else { left };
+    servo.speed = if backward { -size } else { size };
+    // the setpoint's fraction is what is missing to whole counts
+    let fraction = (-d).rem_euclid(65_536);
+    servo.setpoint = (servo.setpoint & !0xFFFF) | fraction;
+    servo.goal = ((servo.setpoint >> 16) as u32).wrapping_add(((d + fraction) >> 16) as u32);
+    debug_assert_eq!(distance(servo.goal, servo.setpoint), d);
+}
+
+/// A record in which every field that the list bounds is within it, and all else is anything.
+pub fn any_record(dice: &mut Dice) -> Vec<u8> {
+    let mut net = dice.bytes(NET_LEN);
+    let types = types(dice);
+    net[COUNT] = types.len() as u8;
+    if dice.percent(50) {
+        net[..=MARK].fill(0);
+    } else {
+        net[FILL] = 1 + dice.below(3 + usize::from(net[16] >> 4)) as u8;
+        net[MARK] = dice.below(2) as u8;
+    }
+    for (place, module_type) in types.into_iter().enumerate() {
+        let station = Station {
+            individual: individual(dice),
+            group: group(dice) | if dice.percent(90) { 0x80 } else { 0 },
+            leader: flag(dice),
+            low: dice.percent(70),
+            cause: dice.below(4) as u8,
+            items: dice.byte(),
+            baud: dice.byte(),
+        };
+        let module = &mut net[slot(place)..slot(place + 1)];
+        if module_type == Servo::TYPE {
+            put_module(module, &Module::Servo(Box::new(any_servo(dice, station))));
+            continue;
+        }
+        module[0] = 2;
+        module[1..6].copy_from_slice(&[
+            station.individual,
+            station.group,
+            station.leader.into(),
+            station.low.into(),
+            station.cause,
+        ]);
+        for at in TWELVE_BITS {
+            module[at + 1] &= 0x0F;
+        }
+    }
+    net
+}
+
+/// Signed and unsigned fields of a servo's slot, four bytes each.
+const NUMBERS: &[usize] = &[
+    at::VELOCITY,
+    at::ACCELERATION,
+    at::SETPOINT,
+    at::SPEED,
+    at::GOAL,
+    at::GOAL_SPEED,
+    at::RUNNING_ACCELERATION,
+    at::TOP,
+    at::INTEGRAL,
+    at::PREVIOUS_ERROR,
+    at::PWM,
+    at::OUTPUT,
+];
+const NUMBER_EDGES: &[i32] =
+    &[0, 1, 255, 256, 16_383, 16_384, 32_767, 32_768, SPEED_MOST as i32, SPEED_MOST as i32 + 1];
+
+/// What a trapezoid's way to stop hangs on.
+const STOPPING: &[usize] = &[at::SETPOINT, at::SPEED, at::GOAL, at::RUNNING_ACCELERATION];
+
+fn damage_number(dice: &mut Dice, slot: &mut [u8]) {
+    let trapezoid = slot[at::MODE] == Mode::Trapezoid as u8 && dice.percent(60);
+    let at = dice.pick(if trapezoid { STOPPING } else { NUMBERS });
+    let old = i32::from_le_bytes(slot[at..at + 4].try_into().expect("four bytes"));
+    let new = match dice.below(5) {
+        0 => dice.pick(NUMBER_EDGES),
+        1 => -dice.pick(NUMBER_EDGES),
+        2 => old.wrapping_neg(),
+        3 => old.wrapping_add(1),
+        _ => old.wrapping_sub(1),
+    };
+    slot[at..at + 4].copy_from_slice(&new.to_le_bytes());
+}
+
+pub fn damaged_record(dice: &mut Dice, net: &[u8]) -> Vec<u8> {
+    let mut damaged = net.to_vec();
+    if dice.percent(5) {
+        damaged.resize(dice.pick(&[0, 1, 20, NET_LEN - 1, NET_LEN + 1, NET_LEN + SLOTS]), 0);
+        return damaged;
+    }
+    for _ in 0..1 + dice.below(2) {
+        let place = dice.below(usize::from(net[COUNT]).min(MOST_MODULES));
+        let is_servo = net[slot(place)] == Servo::TYPE;
+        match dice.below(10) {
+            0..=3 if is_servo => {
+                damage_number(dice, &mut damaged[slot(place)..slot(place + 1)]);
+                continue;
+            }
+            4 if is_servo => {
+                let at = dice.pick(&[at::ERROR, at::MODE, at::LATCHED + 4, at::WAY, at::LOAD_WAITS]);
+                damaged[slot(place) + at] = dice.below(6) as u8;
+                continue;
+            }
+            _ => {}
+        }
+        let used = if is_servo { SERVO_LEN } else { IO_LEN };
+        let at = match dice.below(10) {
+            0..=2 => dice.below(SLOTS),
+            3..=7 => slot(place) + dice.below(used),
+            _ => dice.below(NET_LEN),
+        };
+        damaged[at] = if dice.percent(60) { dice.pick(EDGES) } else { dice.byte() };
+    }
+    damaged
+}

@@ -1,0 +1,96 @@
+//! The model of the servo by itself: its shorter sums against the paper's words, and the bench sheet.
+
+use doljurven_tests::model::{distance, greatest_speed, stopping_sum, Device, Servo, SPEED_MOST};
+
+/// w + (w - a) + (w - 2a) + ..., positive terms, one after another.
+fn sum_in_words(w: i64, a: i64) -> i64 {
+    let mut term = w;
+    let mut sum = 0;
+    while term > 0 {
+        sum += term;
+        term -= a;
+    }
+    sum
+}
+
+#[test]
+fn stopping_sum_is_the_sum_of_its_terms() {
+    for a in 1..=40 {
+        for w in -3..=200 {
+            assert_eq!(stopping_sum(w, a), sum_in_words(w, a), "w {w}, a {a}");
+        }
+    }
+    let most = i64::from(SPEED_MOST);
+    assert_eq!(stopping_sum(most, 1), most * (most + 1) / 2);
+    assert_eq!(stopping_sum(most, most), most);
+    assert_eq!(stopping_sum(most, most - 1), most + 1);
+}
+
+#[test]
+fn greatest_speed_is_the_greatest() {
+    for a in 1..=5 {
+        for top in 0..=11 {
+            for v in 0..=top {
+                for d in sum_in_words(v - a, a)..=40 {
+                    let speeds = (v - a).max(0)..=(v + a).min(top);
+                    let greatest = speeds.filter(|w| sum_in_words(*w, a) <= d).max();
+                    assert_eq!(Some(greatest_speed(v, a, top, d)), greatest, "v {v}, a {a}, top {top}, d {d}");
+                }
+            }
+        }
+    }
+}
+
+/// Speeds from rest until at rest again.
+fn walk(a: i64, top: i64, mut d: i64) -> Vec<i64> {
+    let mut speeds = Vec::new();
+    let mut v = 0;
+    while d > 0 || v > 0 {
+        v = greatest_speed(v, a, top, d);
+        d -= v;
+        speeds.push(v);
+    }
+    assert_eq!(d, 0);
+    speeds
+}
+
+#[test]
+fn bench_sheet_trapezoids() {
+    assert_eq!(walk(2, 5, 12), [2, 4, 4, 2, 0]);
+    assert_eq!(walk(2, 5, 11), [2, 4, 3, 2, 0]);
+}
+
+#[test]
+fn every_short_move_ends_at_its_goal() {
+    for a in 1..=6 {
+        for top in 1..=9 {
+            for d in 1..=120 {
+                let speeds = walk(a, top, d);
+                assert!(speeds.iter().all(|speed| (0..=top).contains(speed)));
+                assert!(speeds.windows(2).all(|pair| (pair[0] - pair[1]).abs() <= a));
+                assert_eq!(speeds.last(), Some(&0));
+            }
+        }
+    }
+}
+
+#[test]
+fn distance_goes_the_shorter_way_less_the_fraction() {
+    assert_eq!(distance(5, 2 << 16), 3 << 16);
+    assert_eq!(distance(2, 5 << 16), -(3 << 16));
+    assert_eq!(distance(5, (4 << 16) + 1), 65_535);
+    assert_eq!(distance(5, (5 << 16) + 1), -1, "back by the fraction");
+    assert_eq!(distance(1, 0xFFFF_FFFF << 16), 2 << 16, "over the end");
+    assert_eq!(distance(0xFFFF_FFFF, 1 << 16), -(2 << 16));
+    assert_eq!(distance(0x7FFF_FFFF, 0), 0x7FFF_FFFF << 16);
+    assert_eq!(distance(0x8000_0001, 0), -(0x7FFF_FFFF << 16));
+}
+
+#[test]
+fn load_counts() {
+    assert_eq!(Servo::load_count(0x97), 13, "bench sheet");
+    for (control, count) in [(0x00, 1), (0xF0, 1), (0x01, 5), (0x06, 9), (0x08, 2), (0x0F, 14), (0x8E, 10), (0xF2, 5)] {
+        assert_eq!(Servo::load_count(control), count, "control {control:02X}");
+        assert_eq!(Servo::count(4, &[control]), count);
+    }
+}

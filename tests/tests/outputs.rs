@@ -1,0 +1,633 @@
+//! What a servo drives, tick by tick, through the C calls: no reply shows it. The numbers are worked out by hand from
+//! the scope paper.
+
+use doljurven_tests::calls::*;
+use doljurven_tests::capi::Library;
+use doljurven_tests::model::frame_bytes;
+use doljurven_tests::record::{at, slot, SLOT_LEN};
+
+const ONE: i32 = 65_536;
+
+/// A servo alone, at address 0.
+struct Servo {
+    net: Vec<u8>,
+}
+
+#[derive(Clone, Copy)]
+struct Gains {
+    kp: u16,
+    kd: u16,
+    ki: u16,
+    il: u16,
+    ol: u8,
+    el: u16,
+}
+
+/// Nothing drives, nothing trips.
+const NO_GAINS: Gains = Gains { kp: 0, kd: 0, ki: 0, il: 0, ol: 255, el: 16_383 };
+
+impl Servo {
+    fn at_power_up() -> Servo {
+        let mut net = vec![0x99; NET_LEN];
+        assert_eq!(Library.setup(&mut net, &[0]), DONE);
+        Servo { net }
+    }
+
+    /// Power good, the motor at 0, error bit clear.
+    fn ready(gains: Gains) -> Servo {
+        let mut servo = Servo::at_power_up();
+        servo.measures(0, 1);
+        servo.tick();
+        servo.gains(gains);
+        servo.does(11, &[]);
+        servo
+    }
+
+    fn measures(&mut self, raw: i32, power: u32) {
+        assert_eq!(Library.servo_sample(&mut self.net, 0, raw as u32, power, 0), DONE);
+    }
+
+    fn tick(&mut self) {
+        assert_eq!(Library.tick(&mut self.net), DONE);
+    }
+
+    /// Sends a frame; gives the status byte.
+    fn sends(&mut self, code: u8, data: &[u8]) -> u8 {
+        let (mut room, mut written) = ([0; ROOM_LEN], 0);
+        let bytes = frame_bytes(0, code, data);
+        for (at, byte) in bytes.iter().enumerate() {
+            let number = Library.byte(&mut self.net, 0, *byte, &mut room, &mut written);
+            assert_eq!(number, if at + 1 == bytes.len() { UNDAMAGED } else { DONE });
+        }
+        assert_eq!((written, room[0]), (2, room[1]), "a status byte and its sum");
+        room[0]
+    }
+
+    fn does(&mut self, code: u8, data: &[u8]) {
+        let status = self.sends(code, data);
+        assert_eq!(status & 2, 0, "code {code}, data {data:X?}: status {status:02X}");
+    }
+
+    fn refuses(&mut self, code: u8, data: &[u8]) {
+        let before = self.net.clone();
+        let status = self.sends(code, data);
+        assert_eq!(status & 2, 2, "code {code}, data {data:X?}: status {status:02X}");
+        self.net[slot(0) + 5] = before[slot(0) + 5];
+        assert_eq!(self.net, before, "a frame that is not executed leaves its cause and nothing else");
+    }
+
+    fn gains(&mut self, gains: Gains) {
+        let mut data = Vec::new();
+        for gain in [gains.kp, gains.kd, gains.ki, gains.il] {
+            data.extend(gain.to_le_bytes());
+        }
+        data.extend([gains.ol, 0]);
+        data.extend(gains.el.to_le_bytes());
+        data.extend([1, 0, 1]);
+        self.does(6, &data);
+    }
+
+    fn stop_here(&mut self, position: i32) {
+        let mut data = vec![0x11];
+        data.extend(position.to_le_bytes());
+        self.does(7, &data);
+    }
+
+    fn loads(&mut self, control: u8, numbers: &[i32]) {
+        let mut data = vec![control];
+        for number in numbers {
+            data.extend(number.to_le_bytes());
+        }
+        self.does(4, &data);
+    }
+
+    fn pwm(&mut self, value: i32) {
+        let reverse = if value < 0 { 0x40 } else { 0 };
+        self.does(4, &[0x88 | reverse, value.unsigned_abs() as u8]);
+    }
+
+    /// The output with its sign, and the enable line.
+    fn drives(&self) -> (i32, bool) {
+        let mut outputs = [0xEE; 8];
+        assert_eq!(Library.outputs(&self.net, 0, &mut outputs), DONE);
+        let [size, negative, enabled, rest @ ..] = outputs;
+        assert!(negative <= 1 && enabled <= 1 && rest == [0; 5], "{outputs:X?}");
+        assert!(size > 0 || negative == 0, "no sign without a size");
+        (if negative == 1 { -i32::from(size) } else { i32::from(size) }, enabled == 1)
+    }
+
+    fn output(&self) -> i32 {
+        self.drives().0
+    }
+
+    fn enabled(&self) -> bool {
+        self.drives().1
+    }
+
+    /// The motor is found so many counts short of its setpoint 0, at power 1; gives the output.
+    fn error(&mut self, error: i32) -> i32 {
+        self.measures(-error, 1);
+        self.tick();
+        self.output()
+    }
+
+    fn number(&self, at: usize) -> i32 {
+        let at = slot(0) + at;
+        i32::from_le_bytes(self.net[at..at + 4].try_into().unwrap())
+    }
+
+    /// The speeds of so many ticks, the motor standing still.
+    fn speeds(&mut self, ticks: usize) -> Vec<i32> {
+        let mut speeds = Vec::new();
+        for _ in 0..ticks {
+            self.tick();
+            speeds.push(self.number(at::SPEED));
+        }
+        speeds
+    }
+}
+
+// ---------------------------------------------------------------- power-up
+
+#[test]
+fn power_up_drives_nothing() {
+    let servo = Servo::at_power_up();
+    assert_eq!(servo.drives(), (0, false));
+    let mut expected = [0; SLOT_LEN];
+    (expected[2], expected[at::SM], expected[at::ERROR]) = (0xFF, 1, 1);
+    assert_eq!(servo.net[slot(0)..slot(1)], expected);
+}
+
+// ---------------------------------------------------------------- the filter
+
+#[test]
+fn division_is_toward_zero() {
+    let mut servo = Servo::ready(Gains { kp: 1, ..NO_GAINS });
+    servo.stop_here(0);
+    let expected = [(-255, 0), (-256, -1), (-257, -1), (-511, -1), (-512, -2), (255, 0), (256, 1), (511, 1), (512, 2)];
+    for (u, output) in expected {
+        assert_eq!(servo.error(u), output, "u = {u}");
+    }
+    servo.gains(Gains { kp: 100, ..NO_GAINS });
+    assert_eq!((servo.error(10), servo.error(-10)), (3, -3));
+}
+
+#[test]
+fn derivative_adds_to_the_drive() {
+    let mut servo = Servo::ready(Gains { kd: 256, ..NO_GAINS });
+    servo.stop_here(0);
+    let errors = [10, 10, 6, -6, -6, 0, 0];
+    let outputs = errors.map(|error| servo.error(error));
+    assert_eq!(outputs, [10, 0, -4, -12, 0, 6, 0]);
+    servo.error(20);
+    servo.stop_here(0);
+    assert_eq!(servo.error(20), 20, "a hold forgets the previous error");
+}
+
+#[test]
+fn integral_is_held_to_its_limit() {
+    let mut servo = Servo::ready(Gains { ki: 256, il: 25, ..NO_GAINS });
+    servo.stop_here(0);
+    let outputs = [10, 10, 10, 10, -10, -10, -10, -10, -10, -10].map(|error| servo.error(error));
+    assert_eq!(outputs, [10, 20, 25, 25, 15, 5, -5, -15, -25, -25]);
+    servo.gains(Gains { ki: 256, il: 8, ..NO_GAINS });
+    assert_eq!((servo.output(), servo.number(at::INTEGRAL)), (-25, -25), "a smaller limit waits for the tick");
+    assert_eq!(servo.error(0), -8);
+    servo.stop_here(0);
+    assert_eq!((servo.output(), servo.number(at::INTEGRAL)), (-8, 0), "a hold forgets the integral");
+    assert_eq!(servo.error(0), 0);
+}
+
+#[test]
+fn all_three_gains_together() {
+    let mut servo = Servo::ready(Gains { kp: 300, kd: 1000, ki: 70, il: 200, ..NO_GAINS });
+    servo.stop_here(0);
+    // u = 300 e + 1000 (e - previous) + 70 integral
+    let steps = [
+        (7, 2100 + 7000 + 490),
+        (5, 1500 - 2000 + 840),
+        (-4, -1200 - 9000 + 560),
+        (-4, -1200 + 280),
+        (9, 2700 + 13_000 + 910),
+    ];
+    for (error, u) in steps {
+        assert_eq!(servo.error(error), u / 256, "error {error}");
+    }
+}
+
+#[test]
+fn output_is_held_to_its_limit() {
+    let mut servo = Servo::ready(Gains { kp: 256, ol: 100, ..NO_GAINS });
+    servo.stop_here(0);
+    let outputs = [99, 100, 101, 16_383, -99, -100, -101, -16_383].map(|error| servo.error(error));
+    assert_eq!(outputs, [99, 100, 100, 100, -99, -100, -100, -100]);
+    servo.gains(Gains { kp: 256, ol: 30, ..NO_GAINS });
+    assert_eq!(servo.output(), -100, "a smaller limit waits for the tick");
+    assert_eq!(servo.error(-16_383), -30);
+    servo.gains(Gains { kp: 256, ol: 0, ..NO_GAINS });
+    assert_eq!(servo.error(16_383), 0);
+    servo.gains(Gains { kp: 32_767, ol: 255, ..NO_GAINS });
+    assert_eq!((servo.error(16_383), servo.error(-16_383)), (255, -255));
+}
+
+#[test]
+fn u_is_larger_than_32_bits() {
+    for sign in [1, -1] {
+        let full = Gains { kp: 32_767, kd: 32_767, ki: 32_767, il: 32_767, ol: 255, el: 16_383 };
+        let mut servo = Servo::ready(full);
+        servo.stop_here(0);
+        for _ in 0..3 {
+            servo.error(sign * 16_383);
+        }
+        assert_eq!(servo.number(at::INTEGRAL), sign * 32_767);
+        // 32,767 (-16,383 - 32,766 + 16,384) = -1,073,938,425
+        assert_eq!(servo.error(-sign * 16_383), -sign * 255);
+        // 32,767 (16,383 + 32,766 + 32,767) = 2,684,141,572: in 32 bits it would have the other sign
+        assert_eq!(servo.error(sign * 16_383), sign * 255);
+    }
+}
+
+#[test]
+fn filter_sees_the_new_setpoint_and_the_new_position() {
+    let mut servo = Servo::ready(Gains { kp: 256, ..NO_GAINS });
+    servo.loads(0xB6, &[5 * ONE, 2 * ONE]);
+    assert_eq!(servo.output(), 0);
+    servo.tick();
+    assert_eq!(servo.output(), 2, "the first tick moves");
+    servo.measures(10, 1);
+    assert_eq!(servo.output(), 2, "a sample waits");
+    servo.tick();
+    assert_eq!(servo.output(), -4, "setpoint 6, position 10");
+}
+
+#[test]
+fn set_gain_takes_all_or_nothing() {
+    let mut servo = Servo::ready(NO_GAINS);
+    let good = [0xFF, 0x7F, 0xFF, 0x7F, 0xFF, 0x7F, 0xFF, 0x7F, 255, 255, 0xFF, 0x3F, 1, 0, 255];
+    for (at, bad) in [(1, 0x80), (3, 0x80), (5, 0xFF), (7, 0x80), (11, 0x40), (11, 0x80), (12, 0), (12, 2), (13, 1)] {
+        let mut data = good;
+        data[at] = bad;
+        servo.refuses(6, &data);
+    }
+    servo.refuses(6, &good[..14]);
+    servo.does(6, &good);
+    servo.stop_here(1);
+    servo.tick();
+    assert_eq!(servo.output(), 255, "32,767 (1 + 1 + 1) / 256 is 383");
+}
+
+// ---------------------------------------------------------------- trips
+
+#[test]
+fn error_above_its_limit_turns_off() {
+    let gains = Gains { kp: 256, ki: 256, il: 100, el: 20, ..NO_GAINS };
+    for sign in [1, -1] {
+        let mut servo = Servo::ready(gains);
+        servo.stop_here(0);
+        assert_eq!(servo.error(sign * 20), sign * 40, "EL itself is no trip");
+        servo.does(7, &[0x01]);
+        assert!(servo.enabled());
+        assert_eq!(servo.error(sign * 21), 0);
+        assert_eq!(servo.sends(14, &[]), 0x19);
+        assert!(servo.enabled(), "a trip leaves the amplifier");
+        assert_eq!([at::INTEGRAL, at::PREVIOUS_ERROR, at::SPEED].map(|at| servo.number(at)), [0; 3]);
+        servo.refuses(7, &[0x05]);
+        servo.refuses(7, &[0x11, 0, 0, 0, 0]);
+        servo.does(11, &[]);
+        assert_eq!(servo.error(sign * 5), 0, "Clear Bits alone drives nothing");
+    }
+    // as far away as can be: 2^31 has no positive 32-bit number
+    let mut servo = Servo::ready(gains);
+    servo.stop_here(i32::MIN);
+    servo.tick();
+    assert_eq!((servo.output(), servo.sends(14, &[])), (0, 0x19));
+}
+
+// ---------------------------------------------------------------- PWM
+
+#[test]
+fn pwm_is_put_out_from_the_tick_on_and_held_to_its_limit() {
+    let mut servo = Servo::ready(Gains { ol: 100, el: 0, ..NO_GAINS });
+    for (value, output) in [(40, 40), (-40, -40), (100, 100), (101, 100), (255, 100), (-255, -100), (0, 0), (-1, -1)] {
+        servo.pwm(value);
+        assert_eq!(servo.output(), 0, "PWM {value}: 0 until the tick");
+        servo.measures(12_345, 1);
+        servo.tick();
+        assert_eq!(servo.output(), output, "PWM {value}");
+    }
+    servo.pwm(200);
+    servo.tick();
+    servo.gains(Gains { ol: 255, ..NO_GAINS });
+    assert_eq!(servo.output(), 100);
+    servo.tick();
+    assert_eq!(servo.output(), 200, "the limit of the tick counts");
+    servo.does(4, &[0x08, 7]);
+    servo.tick();
+    assert_eq!(servo.output(), 200, "a load that waits changes nothing");
+    servo.does(5, &[]);
+    assert_eq!(servo.output(), 0);
+    servo.tick();
+    assert_eq!(servo.output(), 7);
+    servo.refuses(5, &[]);
+}
+
+#[test]
+fn pwm_and_servo_follow_each_other() {
+    let mut servo = Servo::ready(Gains { kp: 256, ..NO_GAINS });
+    servo.stop_here(9);
+    servo.tick();
+    assert_eq!((servo.output(), servo.number(at::PREVIOUS_ERROR)), (9, 9));
+    servo.pwm(50);
+    assert_eq!((servo.output(), servo.number(at::PREVIOUS_ERROR)), (0, 0), "a PWM start is 0 at once");
+    servo.tick();
+    assert_eq!(servo.output(), 50);
+    servo.does(7, &[0x05]);
+    assert_eq!(servo.output(), 50, "a hold leaves the output until the tick");
+    servo.tick();
+    assert_eq!(servo.output(), 0);
+    servo.pwm(-60);
+    servo.tick();
+    servo.loads(0xB6, &[3 * ONE, 3 * ONE]);
+    assert_eq!(servo.output(), -60, "so does a start of a profile");
+    servo.tick();
+    assert_eq!(servo.output(), 3);
+    servo.pwm(-60);
+    servo.tick();
+    servo.stop_here(-8);
+    assert_eq!(servo.output(), -60);
+    servo.tick();
+    assert_eq!(servo.output(), -8);
+}
+
+// ---------------------------------------------------------------- going off
+
+#[test]
+fn going_off_is_seen_at_once() {
+    for off in [0x02, 0x03] {
+        let mut servo = Servo::ready(Gains { kp: 256, ..NO_GAINS });
+        servo.stop_here(9);
+        servo.tick();
+        assert_eq!(servo.drives(), (9, true));
+        servo.does(7, &[off]);
+        assert_eq!(servo.drives(), (0, off == 0x03));
+        servo.tick();
+        assert_eq!(servo.output(), 0);
+    }
+    let mut servo = Servo::ready(NO_GAINS);
+    servo.pwm(50);
+    servo.tick();
+    servo.does(7, &[0x01]);
+    assert_eq!(servo.drives(), (50, true), "the amplifier bit alone stops nothing");
+    servo.does(7, &[0x09]);
+    assert_eq!(servo.drives(), (0, true), "a smooth stop of PWM is off");
+    servo.tick();
+    assert_eq!(servo.output(), 0);
+}
+
+#[test]
+fn smooth_stop_keeps_driving() {
+    let mut servo = Servo::ready(Gains { kp: 256, ..NO_GAINS });
+    servo.loads(0xB6, &[4 * ONE, 2 * ONE]);
+    servo.tick();
+    servo.tick();
+    assert_eq!(servo.output(), 6);
+    servo.loads(0x34, &[ONE]);
+    servo.does(7, &[0x09]);
+    assert_eq!(servo.output(), 6);
+    servo.tick();
+    assert_eq!(servo.output(), 8, "slows down by 2, not by the 1 of the later load");
+    servo.tick();
+    assert_eq!(servo.output(), 8);
+    servo.refuses(5, &[]);
+}
+
+#[test]
+fn hard_reset_drives_nothing() {
+    let mut servo = Servo::ready(NO_GAINS);
+    servo.pwm(50);
+    servo.does(7, &[0x01]);
+    servo.tick();
+    assert_eq!(servo.drives(), (50, true));
+    let (mut room, mut written) = ([0; ROOM_LEN], 9);
+    for byte in frame_bytes(0, 15, &[]) {
+        Library.byte(&mut servo.net, 0, byte, &mut room, &mut written);
+    }
+    assert_eq!((servo.drives(), written), ((0, false), 0));
+    servo.tick();
+    assert_eq!(servo.drives(), (0, false));
+}
+
+// ---------------------------------------------------------------- power
+
+#[test]
+fn high_power_drives_nothing_and_all_else_runs() {
+    let mut servo = Servo::ready(Gains { kp: 256, ki: 256, il: 1000, ..NO_GAINS });
+    servo.stop_here(0);
+    assert_eq!(servo.error(10), 20);
+    for integral in [20, 30, 40] {
+        servo.measures(-10, 2);
+        servo.tick();
+        assert_eq!((servo.output(), servo.number(at::INTEGRAL)), (0, integral));
+        assert_eq!(servo.number(at::PREVIOUS_ERROR), 10);
+    }
+    assert_eq!(servo.error(10), 60, "the integral has run on");
+    servo.pwm(33);
+    servo.measures(0, 2);
+    servo.tick();
+    assert_eq!(servo.output(), 0);
+    servo.measures(0, 1);
+    servo.tick();
+    assert_eq!(servo.output(), 33, "PWM comes back");
+    // and the profile with its trip
+    servo.gains(Gains { el: 5, ..NO_GAINS });
+    servo.loads(0xB6, &[3 * ONE, 3 * ONE]);
+    servo.measures(0, 2);
+    servo.tick();
+    assert_eq!((servo.number(at::SPEED), servo.sends(14, &[])), (3 * ONE, 0x01));
+    servo.tick();
+    assert_eq!((servo.number(at::SPEED), servo.sends(14, &[])), (0, 0x11), "6 is above 5");
+}
+
+#[test]
+fn low_power_turns_off_and_drops_the_amplifier() {
+    let mut servo = Servo::ready(Gains { kp: 256, ..NO_GAINS });
+    servo.does(7, &[0x01]);
+    servo.pwm(50);
+    servo.tick();
+    assert_eq!(servo.drives(), (50, true));
+    servo.measures(0, 0);
+    assert_eq!(servo.drives(), (50, true), "a sample waits");
+    servo.tick();
+    assert_eq!(servo.drives(), (0, false));
+    servo.measures(0, 1);
+    servo.tick();
+    assert_eq!(servo.drives(), (0, false), "neither comes back with power");
+    assert_eq!(servo.sends(14, &[]), 0x09, "and no error bit");
+}
+
+#[test]
+fn enable_line_is_amplifier_bit_and_good_power() {
+    let mut servo = Servo::at_power_up();
+    servo.does(7, &[0x01]);
+    assert!(!servo.enabled(), "the bit may be set without power");
+    servo.measures(0, 2);
+    servo.tick();
+    assert!(!servo.enabled(), "power too high");
+    servo.measures(0, 1);
+    servo.tick();
+    assert!(servo.enabled(), "the bit has stayed");
+    servo.does(7, &[0x00]);
+    assert!(!servo.enabled(), "Stop without bit 0 clears it");
+    servo.does(7, &[0x03]);
+    assert!(servo.enabled(), "every Stop sets or clears it");
+    servo.refuses(7, &[0x04]);
+    assert!(servo.enabled(), "but not one that is not executed");
+    servo.measures(0, 0);
+    servo.tick();
+    servo.does(7, &[0x01]);
+    servo.tick();
+    servo.measures(0, 1);
+    servo.tick();
+    assert!(!servo.enabled(), "each tick at power 0 clears the bit");
+}
+
+// ---------------------------------------------------------------- profiles
+
+/// At rest so many 65,536ths short of whole counts, by frames alone.
+fn short_of_one_count(short: i32) -> Servo {
+    let mut servo = Servo::ready(NO_GAINS);
+    servo.loads(0xB6, &[ONE - short, ONE - short]);
+    servo.tick();
+    servo.does(7, &[0x09]);
+    servo.tick();
+    assert_eq!((servo.number(at::SETPOINT), servo.number(at::SPEED)), (ONE - short, 0));
+    servo
+}
+
+#[test]
+fn bench_sheet_trapezoids() {
+    for (d, speeds) in [(12, [2, 4, 4, 2, 0]), (11, [2, 4, 3, 2, 0])] {
+        let mut servo = short_of_one_count(d);
+        servo.loads(0x97, &[1, 5, 2]);
+        assert_eq!(servo.speeds(5), speeds);
+        assert_eq!((servo.number(at::SETPOINT), servo.sends(14, &[])), (ONE, 0x09));
+
+        // mirrored: back to 0 from d above it
+        let mut servo = short_of_one_count(ONE - d);
+        servo.loads(0x97, &[0, 5, 2]);
+        assert_eq!(servo.speeds(5), speeds.map(|speed: i32| -speed));
+        assert_eq!((servo.number(at::SETPOINT), servo.sends(14, &[])), (0, 0x09));
+    }
+}
+
+#[test]
+fn trapezoid_is_done_when_there_and_at_rest() {
+    let mut servo = short_of_one_count(12);
+    servo.loads(0x97, &[1, 5, 2]);
+    for (speed, done) in [(2, false), (4, false), (4, false), (2, false), (0, true), (0, true)] {
+        assert_eq!(servo.speeds(1), [speed]);
+        assert_eq!(servo.sends(14, &[]) & 1 == 1, done, "at speed {speed}");
+    }
+}
+
+#[test]
+fn bench_sheet_velocity() {
+    let mut servo = Servo::ready(NO_GAINS);
+    servo.loads(0xB6, &[5, 2]);
+    assert_eq!(servo.speeds(4), [2, 4, 5, 5]);
+    servo.does(4, &[0xF0]);
+    assert_eq!(servo.speeds(6), [3, 1, -1, -3, -5, -5]);
+    servo.does(7, &[0x09]);
+    assert_eq!(servo.speeds(4), [-3, -1, 0, 0]);
+}
+
+#[test]
+fn bench_sheet_load_count() {
+    let mut servo = Servo::ready(NO_GAINS);
+    let data = [0x97, 4, 0, 0, 0, 5, 0, 0, 0, 2, 0, 0, 0];
+    servo.refuses(4, &data[..9]);
+    servo.refuses(5, &[]);
+    servo.does(4, &data);
+    assert_eq!(servo.speeds(2), [2, 4]);
+}
+
+#[test]
+fn highest_speeds() {
+    const MOST: i32 = 83_886_080;
+    // 1,280 counts in one tick, then at rest; and half of that in two
+    let mut servo = Servo::ready(NO_GAINS);
+    servo.loads(0x97, &[1280, MOST, MOST]);
+    assert_eq!(servo.speeds(2), [MOST, 0]);
+    servo.loads(0x95, &[0, MOST / 2]);
+    assert_eq!(servo.speeds(3), [-MOST / 2, -MOST / 2, 0]);
+    servo.loads(0xB6, &[MOST, MOST]);
+    assert_eq!(servo.speeds(2), [MOST, MOST]);
+    servo.does(4, &[0xF0]);
+    assert_eq!(servo.speeds(3), [0, -MOST, -MOST]);
+}
+
+#[test]
+fn running_profile_keeps_its_numbers() {
+    let mut servo = short_of_one_count(30);
+    servo.loads(0x97, &[1, 4, 2]);
+    assert_eq!(servo.speeds(2), [2, 4]);
+    servo.loads(0x16, &[9, 7]);
+    // 24 left: five times 4, then 3 for 3 + 1 are the 4 that are left
+    assert_eq!(servo.speeds(8), [4, 4, 4, 4, 4, 3, 1, 0]);
+    assert_eq!(servo.number(at::SETPOINT), ONE);
+    servo.refuses(5, &[]);
+}
+
+#[test]
+fn reset_position_shifts_what_the_filter_sees() {
+    let mut servo = Servo::ready(Gains { kp: 256, ..NO_GAINS });
+    servo.measures(1000, 1);
+    servo.tick();
+    servo.stop_here(1007);
+    servo.tick();
+    assert_eq!(servo.output(), 7);
+    servo.does(0, &[]);
+    assert_eq!(servo.output(), 7);
+    servo.tick();
+    assert_eq!(servo.output(), 7, "nothing jumps");
+    servo.loads(0x97, &[9, ONE, ONE]);
+    assert_eq!(servo.speeds(3), [ONE, ONE, 0]);
+    assert_eq!(servo.output(), 9);
+}
+
+#[test]
+fn abrupt_stop_holds_the_position() {
+    let mut servo = Servo::ready(Gains { kp: 256, ..NO_GAINS });
+    servo.loads(0xB6, &[20 * ONE, 20 * ONE]);
+    servo.measures(12, 1);
+    servo.tick();
+    assert_eq!(servo.output(), 8, "setpoint 20, position 12");
+    servo.does(7, &[0x05]);
+    assert_eq!(servo.output(), 8);
+    servo.tick();
+    assert_eq!(servo.output(), 0, "at 12, where the motor is");
+}
+
+#[test]
+fn setpoint_goes_round_at_both_ends() {
+    for (raw, sign) in [(i32::MAX - 1, 1), (i32::MIN + 1, -1)] {
+        let mut servo = Servo::ready(Gains { kp: 256, ..NO_GAINS });
+        servo.measures(raw, 1);
+        servo.tick();
+        let goal = raw.wrapping_add(sign * 6);
+        servo.loads(0x97, &[goal, 2 * ONE, 2 * ONE]);
+        assert_eq!(servo.speeds(4), [2 * sign * ONE, 2 * sign * ONE, 2 * sign * ONE, 0]);
+        assert_eq!(servo.output(), sign * 6, "the motor has stayed behind");
+        assert_eq!(servo.sends(14, &[]), 0x09);
+    }
+    // the setpoint's own end, which is 2^32 counts: -1 to 1
+    let mut servo = Servo::ready(Gains { kp: 256, ..NO_GAINS });
+    servo.measures(-1, 1);
+    servo.tick();
+    servo.loads(0x97, &[1, ONE, ONE]);
+    let outputs = [1, 2, 3].map(|_| {
+        servo.tick();
+        servo.output()
+    });
+    assert_eq!(outputs, [1, 2, 2]);
+}
