@@ -7,10 +7,13 @@ use Rattle.chain.specs.Chain.{byteStep}
 use Rattle.inout.specs.Commands.{own, request}
 use Rattle.inout.specs.Module.{execute, reply}
 use Rattle.inout.specs.Pins.{blend}
+use Rattle.orders.specs.Orders as Orders
+use Rattle.servo.specs.Orders as Servo
+use Rattle.servo.specs.Answers as Answers
 use Rattle.capture.specs.Text.{decimal, line, badLine}
 use Rattle.capture.specs.Records.{bodyLength, lineByte, netRecord, recordStep, replayed}
 use Rattle.capture.specs.Promises.{Examples}
 
 pub examples : Examples
-unfolding taken asked report replyOf byteStep own request execute reply blend decimal line badLine bodyLength lineByte netRecord recordStep replayed
-examples = (refl, refl, refl)
+unfolding taken asked report replyOf byteStep own request execute reply blend Orders.request Servo.execute Answers.done Answers.status Answers.numbers Answers.reply decimal line badLine bodyLength lineByte netRecord recordStep replayed
+examples = (refl, refl, refl, refl)

@@ -2,29 +2,31 @@
 use mathlib.Core.Path.{_≡_, refl, sym, ap, _∙_}
 use mathlib.Core.List.{List, [], _∷_, _++_, map}
 use mathlib.Core.Bool.{Bool, true, false, cond, _&&_}
+use mathlib.Core.Logic.{inl, inr}
 use mathlib.Core.Option.{some, none}
 use Prim.Native.Nat.{ℕ, _^_, _<_, _≤_}
 use native.Mathlib.Omega.{arith}
 use lib.ListN.{length, getD, take, length-append, length-map}
 use lib.Seq.{length-take-le}
 use lib.Dec.{eqb, leb, ltb}
-use borrow.Author.Tests.{ltb-true, eqb-true, eqb-false}
+use borrow.Author.Tests.{ltb-true, ltb-false, eqb-true, eqb-false}
 use Rattle.layout.specs.Bytes.{pasted, Bytes, readAt}
 use Rattle.layout.proofs.Laws.{ofLe-lt, bytes-read}
 use Rattle.layout.proofs.Pasted.{length-pasted, read-pasted}
 use Rattle.chain.specs.Chain.{Net, byteStep}
-use Rattle.chain.specs.Slots.{Preserves}
-use Rattle.inout.proofs.Within as Inout
-use Rattle.modules.specs.Types.{Module, kind, slots, known, powered, Good}
+use Rattle.modules.specs.Types.{Module, AnySample, kind, slots, known, powered, Good}
 use Rattle.modules.proofs.Laws.{lawful}
+use Rattle.modules.proofs.Kept.{preserves, powered-fits}
 use Rattle.network.specs.Record.{recordSize, netIn}
-use Rattle.network.specs.Calls.{setUp, allKnown, fresh, tickStep, sampleStep, byteOf}
+use Rattle.network.specs.Calls.{setUp, allKnown, fresh, tickStep, sampleStep, byteOf, ofType}
 use Rattle.network.specs.Promises.{Each, SoundNet}
 use Rattle.network.proofs.Stored.{holds, back}
+use Rattle.network.proofs.Calls.{type-beyond}
 use Rattle.network.proofs.Kept.{kept-by-byte, kept-by-sample, kept-by-tick}
 use Rattle.network.proofs.Powered as Powered
+use Rattle.network.proofs.Tests.{and-true}
 use Rattle.capture.specs.declared.Place.{Place}
-use Rattle.capture.specs.Records.{gathering, running, Effect, goes, bad, moduleRecord, lineByte, sampleIn, ioSample, netRecord, netOf, recordStep}
+use Rattle.capture.specs.Records.{gathering, running, Effect, goes, bad, moduleRecord, lineByte, servoSampleIn, ioSampleIn, sampleRecord, servoSample, ioSample, netRecord, netOf, recordStep}
 use Rattle.capture.specs.Turns.{start, stageIn, Held, placeAfter, turned, typesAfter, netAfter, textAfter}
 use Rattle.capture.proofs.Text.{bad-length, offset-short}
 use Rattle.capture.proofs.Spoken.{spoken-short}
@@ -38,32 +40,31 @@ by-cond {A} P b x y f g = go b refl
     go true e = f e
     go false e = g e
 
-pub and-left : (u v : Bool) → (u && v) ≡ true → u ≡ true
-and-left true v h = refl
-and-left false v h = never h
+each-powered : (ts : List ℕ) → allKnown ts ≡ true → Each (slots .fits) (map powered ts)
+each-powered [] a = tt
+each-powered (t ∷ ts) a = let p = and-true (known t) (allKnown ts) a in (powered-fits t (p .0), each-powered ts (p .1))
 
-and-right : (u v : Bool) → (u && v) ≡ true → v ≡ true
-and-right true v h = h
-and-right false v h = never h
+-- a sample whose power is 0 to 2, and one whose inputs are twelve bits
+servo-good : (body : List ℕ) → Bytes body → servoSampleIn body .power < 3 → Good (inl (servoSampleIn body))
+unfolding servoSampleIn
+servo-good body b h =
+    let r = ofLe-lt (readAt 4 3 body) (bytes-read 4 3 body b) in
+    (omega arith, ((omega arith, omega arith), b 2))
 
-preserves : Preserves kind slots Good
-preserves = record {
-  execute = λ f individual m b t. Inout.kept .frame f individual m b t;
-  sample = λ x m g t. Inout.kept .sampling x m g t;
-  tick = λ m t. Inout.kept .tick m t;
-}
-
-each-powered : (ts : List ℕ) → Each (slots .fits) (map powered ts)
-each-powered [] = tt
-each-powered (t ∷ ts) = (Inout.kept .power, each-powered ts)
-
--- a sample whose inputs are twelve bits
-sample-good : (body : List ℕ) → Bytes body → sampleIn body .inputs < 4096 → Good (sampleIn body)
-unfolding sampleIn
-sample-good body b h =
+io-good : (body : List ℕ) → Bytes body → ioSampleIn body .inputs < 4096 → Good (inr (ioSampleIn body))
+unfolding ioSampleIn
+io-good body b h =
     let i = ofLe-lt (readAt 2 1 body) (bytes-read 2 1 body b) in
     let k = ofLe-lt (readAt 4 6 body) (bytes-read 4 6 body b) in
     ((omega arith, omega arith), (b 3, (b 4, (b 5, omega arith))))
+
+-- a place that has a module of some type is below the chain length
+pub place-below : (s : List ℕ) (place t : ℕ) → ofType t (netIn slots s) place ≡ true → place < length (netIn slots s .modules)
+place-below s place t h = go (ltb place (length (netIn slots s .modules))) refl
+  where
+    go : (u : Bool) → ltb place (length (netIn slots s .modules)) ≡ u → place < length (netIn slots s .modules)
+    go true e = ltb-true place (length (netIn slots s .modules)) e
+    go false e = let n = ltb-false place (length (netIn slots s .modules)) e in never (type-beyond s place t (λ l. omega arith) ∙ h)
 
 -- the stage after a record is the record's
 abbrev pub Leads : Place → List ℕ → List ℕ → ℕ → Effect → Type 0
@@ -106,7 +107,7 @@ module _ (at : Place) (types net : List ℕ) (h : Held at types net) (size : ℕ
   fine-gathering ts p l a =
       let z = h .size in
       let n = length-map ts powered in
-      let w = Powered.powered lawful (map powered ts) (omega arith) (omega arith) (each-powered ts) in
+      let w = Powered.powered lawful (map powered ts) (omega arith) (omega arith) (each-powered ts a) in
       let r : take (length ts) (pasted 0 ts types) ≡ ts = read-pasted 0 ts types (omega arith) in
       record {
         held = record {
@@ -135,8 +136,8 @@ module _ (at : Place) (types net : List ℕ) (h : Held at types net) (size : ℕ
           let n : length ts ≡ at .count = length-take-le (at .count) types (omega arith) in
           let m = length-append ts (t ∷ []) in
           by-cond (Fine at types net size) (ltb (length ts) 32 && known t) (goes (gathering (ts ++ t ∷ [])) []) bad
-          (λ q. fine-gathering (ts ++ t ∷ []) (omega arith) (omega (arith, ltb-true (length ts) 32 (and-left (ltb (length ts) 32) (known t) q)))
-          (known-more ts t (h .known) (and-right (ltb (length ts) 32) (known t) q)))
+          (λ q. fine-gathering (ts ++ t ∷ []) (omega arith) (omega (arith, ltb-true (length ts) 32 (and-true (ltb (length ts) 32) (known t) q .0)))
+          (known-more ts t (h .known) (and-true (ltb (length ts) 32) (known t) q .1)))
           (λ q. fine-bad)
 
   -- a record for the network
@@ -153,25 +154,34 @@ module _ (at : Place) (types net : List ℕ) (h : Held at types net) (size : ℕ
         (spoken-short (netIn slots net) (byteOf value (eqb mark 1)) (now-sound .most)))
         (λ q. fine-bad)
 
-    fine-sample : Fine at types net size (ioSample (netIn slots net) body)
-    unfolding ioSample
-    fine-sample =
-        let place : ℕ = getD body 0 0 in
-        let u : Bool = ltb place (length (netIn slots net .modules)) in
-        let w : Bool = ltb (sampleIn body .inputs) 4096 in
-        by-cond (Fine at types net size) (u && w) _ bad
-        (λ q. fine-running (sampleStep place (sampleIn body) (netIn slots net)) [] c
-        (kept-by-sample kind slots Good preserves (netIn slots net) (sampleIn body) place now-sound
-        (sample-good body b (ltb-true (sampleIn body .inputs) 4096 (and-right u w q))))
+    fine-sample : (t : ℕ) (fine : Bool) (x : AnySample) (place : ℕ) → (fine ≡ true → Good x) → Fine at types net size (sampleRecord t fine x place (netIn slots net))
+    unfolding sampleRecord
+    fine-sample t fine x place good =
+        let u : Bool = ofType t (netIn slots net) place in
+        by-cond (Fine at types net size) (u && fine) _ bad
+        (λ q. fine-running (sampleStep place x (netIn slots net)) [] c
+        (kept-by-sample kind slots Good preserves (netIn slots net) x place now-sound (good (and-true u fine q .1)))
         (omega arith))
         (λ q. fine-bad)
+
+    fine-servo : Fine at types net size (servoSample (netIn slots net) body)
+    unfolding servoSample
+    fine-servo =
+        let x = servoSampleIn body in
+        fine-sample 0 (ltb (x .power) 3) (inl x) (getD body 0 0) (λ q. servo-good body b (ltb-true (x .power) 3 q))
+
+    fine-io : Fine at types net size (ioSample (netIn slots net) body)
+    unfolding ioSample
+    fine-io =
+        let x = ioSampleIn body in
+        fine-sample 2 (ltb (x .inputs) 4096) (inr x) (getD body 0 0) (λ q. io-good body b (ltb-true (x .inputs) 4096 q))
 
     fine-other : (k : ℕ) → Fine at types net size (netRecord k (netIn slots net) body)
     unfolding netRecord
     fine-other k =
         by-cond (Fine at types net size) (eqb k 1) _ _ (λ q. fine-byte (getD body 0 0) (getD body 1 0) (b 1))
-        (λ q. by-cond (Fine at types net size) (eqb k 2) _ _ (λ q. fine-bad)
-        (λ q. by-cond (Fine at types net size) (eqb k 3) _ _ (λ q. fine-sample)
+        (λ q. by-cond (Fine at types net size) (eqb k 2) _ _ (λ q. fine-servo)
+        (λ q. by-cond (Fine at types net size) (eqb k 3) _ _ (λ q. fine-io)
         (λ q. by-cond (Fine at types net size) (eqb k 4) _ bad
         (λ q. fine-running (tickStep (netIn slots net)) [] c (kept-by-tick kind slots Good preserves (netIn slots net) now-sound) (omega arith))
         (λ q. fine-bad))))
@@ -213,13 +223,17 @@ stage-some at types net h c = go (at .running) refl
         gathered-some (take (at .count) types) (omega arith) ∙ ap some (sym (h .newly e c))
 
 -- a record on the network leaves the types as they were
+sample-types : (t : ℕ) (fine : Bool) (x : AnySample) (place : ℕ) (n : Net Module) (types : List ℕ) → typesAfter (sampleRecord t fine x place n) types ≡ types
+unfolding sampleRecord typesAfter
+sample-types t fine x place n types = by-cond (λ e. typesAfter e types ≡ types) (ofType t n place && fine) _ bad (λ q. refl) (λ q. refl)
+
 pub types-kept : (k : ℕ) (n : Net Module) (body types : List ℕ) → typesAfter (netRecord k n body) types ≡ types
-unfolding netRecord lineByte ioSample typesAfter
+unfolding netRecord lineByte servoSample ioSample typesAfter
 types-kept k n body types =
     let P : Effect → Type 0 = λ e. typesAfter e types ≡ types in
     by-cond P (eqb k 1) _ _ (λ q. by-cond P (leb (getD body 0 0) 1) _ bad (λ q. refl) (λ q. refl))
-    (λ q. by-cond P (eqb k 2) _ _ (λ q. refl)
-    (λ q. by-cond P (eqb k 3) _ _ (λ q. by-cond P (ltb (getD body 0 0) (length (n .modules)) && ltb (sampleIn body .inputs) 4096) _ bad (λ q. refl) (λ q. refl))
+    (λ q. by-cond P (eqb k 2) _ _ (λ q. sample-types _ _ _ _ n types)
+    (λ q. by-cond P (eqb k 3) _ _ (λ q. sample-types _ _ _ _ n types)
     (λ q. by-cond P (eqb k 4) _ bad (λ q. refl) (λ q. refl))))
 
 -- any record

@@ -53,9 +53,10 @@ HeadOnly =
     → headSize input ≤ length input
     → turnStep s (input ++ more) end ≡ turnStep s input last
 
--- 01 Replay file: its own examples for type 2, and the empty file.
+-- 01 Replay file: its own examples, for type 2, for type 0 and for type 2 with last byte 0F, and the empty file.
 abbrev pub Examples : Type 0
 Examples =
     (replayed (0 ∷ 2 ∷ 1 ∷ 0 ∷ 0xAA ∷ 1 ∷ 0 ∷ 0 ∷ 1 ∷ 0 ∷ 0x0E ∷ 1 ∷ 0 ∷ 0x0E ∷ []) ≡ 48 ∷ 32 ∷ 48 ∷ 48 ∷ 32 ∷ 48 ∷ 48 ∷ 10 ∷ [])
+    × (replayed (0 ∷ 0 ∷ 1 ∷ 0 ∷ 0xAA ∷ 1 ∷ 0 ∷ 0 ∷ 1 ∷ 0 ∷ 0x0E ∷ 1 ∷ 0 ∷ 0x0E ∷ []) ≡ 48 ∷ 32 ∷ 49 ∷ 49 ∷ 32 ∷ 49 ∷ 49 ∷ 10 ∷ [])
     × (replayed (0 ∷ 2 ∷ 1 ∷ 0 ∷ 0xAA ∷ 1 ∷ 0 ∷ 0 ∷ 1 ∷ 0 ∷ 0x0E ∷ 1 ∷ 0 ∷ 0x0F ∷ []) ≡ 48 ∷ 32 ∷ 48 ∷ 50 ∷ 32 ∷ 48 ∷ 50 ∷ 10 ∷ [])
     × (replayed [] ≡ [])

@@ -1,15 +1,17 @@
 -- What the records of a replay file do, one after another, and what is printed.
 use Prim.Native.Nat.{ℕ, zero, suc, _+_}
 use mathlib.Core.List.{List, [], _∷_, _++_}
-use mathlib.Core.Bool.{cond, _&&_}
+use mathlib.Core.Bool.{Bool, cond, _&&_}
+use mathlib.Core.Logic.{inl, inr}
 use mathlib.Core.Option.{Option, some, none}
 use lib.ListN.{length, getD, take, drop}
 use lib.Dec.{eqb, leb, ltb}
 use Rattle.layout.specs.Bytes.{ofLe, readAt}
-use Rattle.inout.specs.declared.Sample.{Sample}
+use Rattle.inout.specs.declared.Sample as Inouts
+use Rattle.servo.specs.declared.Sample as Servos
 use Rattle.chain.specs.Chain.{Net, Step, byteStep}
-use Rattle.modules.specs.Types.{Module, kind, known}
-use Rattle.network.specs.Calls.{setUp, tickStep, sampleStep, byteOf}
+use Rattle.modules.specs.Types.{Module, AnySample, kind, known}
+use Rattle.network.specs.Calls.{setUp, tickStep, sampleStep, byteOf, ofType}
 use Rattle.capture.specs.Text.{lines, badLine}
 
 -- 01 Replay file: how many bytes follow the kind byte: module 1, line byte 2, servo sample 7, I/O sample 10, tick none; an unknown kind is bad
@@ -43,9 +45,13 @@ lineByte n mark value =
     let s : Step Module = byteStep kind n (byteOf value (eqb mark 1)) in
     cond (leb mark 1) (goes (running (s .net)) (lines (s .replies))) bad
 
+-- 01 Replay file: the body of a servo sample: place, power, A/D, raw 4.
+unfoldable pub servoSampleIn : List ℕ → Servos.Sample
+servoSampleIn body = record { raw = ofLe (readAt 4 3 body); power = getD body 1 0; ad = getD body 2 0 }
+
 -- 01 Replay file: the body of an I/O sample: place, inputs 2, A/D 3, counter 4.
-unfoldable pub sampleIn : List ℕ → Sample
-sampleIn body = record {
+unfoldable pub ioSampleIn : List ℕ → Inouts.Sample
+ioSampleIn body = record {
   inputs = ofLe (readAt 2 1 body);
   ad1 = getD body 3 0;
   ad2 = getD body 4 0;
@@ -53,15 +59,17 @@ sampleIn body = record {
   counter = ofLe (readAt 4 6 body);
 }
 
--- 01 Numbers given back, 13 and 14: the place is below the chain length, and the inputs are twelve bits.
-unfoldable pub ioSample : Net Module → List ℕ → Effect
-ioSample n body =
-    cond (ltb (getD body 0 0) (length (n .modules)) && ltb (sampleIn body .inputs) 4096)
-    (goes (running (sampleStep (getD body 0 0) (sampleIn body) n)) []) bad
+-- 01 Numbers given back, 13 and 14: the place has a module of type t, and the sample's fields are in range, as fine says.
+unfoldable pub sampleRecord : ℕ → Bool → AnySample → ℕ → Net Module → Effect
+sampleRecord t fine x place n = cond (ofType t n place && fine) (goes (running (sampleStep place x n)) []) bad
 
--- 01 Numbers given back, 13: a servo sample; no chain has a servo yet.
-abbrev pub servoSample : Net Module → List ℕ → Effect
-servoSample n body = bad
+-- 01 Servo: power is 0 to 2.
+unfoldable pub servoSample : Net Module → List ℕ → Effect
+servoSample n body = sampleRecord 0 (ltb (servoSampleIn body .power) 3) (inl (servoSampleIn body)) (getD body 0 0) n
+
+-- 01 I/O module: the inputs are twelve bits.
+unfoldable pub ioSample : Net Module → List ℕ → Effect
+ioSample n body = sampleRecord 2 (ltb (ioSampleIn body .inputs) 4096) (inr (ioSampleIn body)) (getD body 0 0) n
 
 -- 01 Replay file: a record of each kind that needs a network; any kind but these is unknown.
 unfoldable pub netRecord : ℕ → Net Module → List ℕ → Effect

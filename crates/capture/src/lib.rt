@@ -6,13 +6,13 @@ ghost use mathlib.Core.List.{_∷_, []};
 ghost use Prim.Native.Nat.{ℕ, _+_, _*_, _^_, _≤_, _<_};
 ghost use lib.ListN.{length, getD};
 ghost use Rattle.layout.specs.Bytes.{pasted};
-ghost use Rattle.modules.specs.Types.{slots};
+ghost use Rattle.modules.specs.Types.{slots, measured};
 ghost use Rattle.network.specs.Record.{netIn, stored, valid};
 ghost use Rattle.network.specs.Calls.{tickStep};
 ghost use Rattle.capture.specs.Text.{space, hexDigit, hexPair, hexes, decimal, line, badLine};
-ghost use Rattle.capture.specs.Records.{bad, goes, running, bodyLength, moduleRecord, lineByte, sampleIn, ioSample, netRecord, recordStep};
+ghost use Rattle.capture.specs.Records.{bad, goes, running, bodyLength, moduleRecord, lineByte, servoSampleIn, ioSampleIn, sampleRecord, servoSample, ioSample, netRecord, recordStep};
 ghost use Rattle.capture.specs.Turns.{start, stageIn, Held, Within, over, wants, judged, turnStep, turned, typesAfter, netAfter, textAfter, turnedBy, typesBy, netBy, textBy, replyText, printed};
-use inout::Sample;
+use modules::Measured;
 
 // Where a replay is: the offset of the next record, how many modules there are, and whether another kind has come.
 pub struct Place {
@@ -260,17 +260,66 @@ fn take_byte(at: Place, body: &[u8], net: &mut [u8], out: &mut [u8]) -> Turned
     at.went(3, wrote)
 }
 
-fn sample_in(body: &[u8]) -> Sample
-    requires { ⌜ length (now body) ≡ 10 ⌝ }
-    ensures { λ r. ⌜ r ≡ sampleIn (now (body .entry)) ⌝ }
+fn servo_sample_in(body: &[u8]) -> servo::Sample
+    requires { ⌜ length (now body) ≡ 7 ⌝ }
+    ensures { λ r. ⌜ r ≡ servoSampleIn (now (body .entry)) ⌝ }
 {
-    Sample {
+    servo::Sample {
+        raw: layout::get4(body, 3),
+        power: body[1],
+        ad: body[2],
+    }
+}
+
+fn io_sample_in(body: &[u8]) -> inout::Sample
+    requires { ⌜ length (now body) ≡ 10 ⌝ }
+    ensures { λ r. ⌜ r ≡ ioSampleIn (now (body .entry)) ⌝ }
+{
+    inout::Sample {
         inputs: layout::get2(body, 1),
         ad1: body[3],
         ad2: body[4],
         ad3: body[5],
         counter: layout::get4(body, 6),
     }
+}
+
+// A sample for a module of type t; fine says that its fields are in range.
+fn take_sample(
+    at: Place,
+    size: u8,
+    place: u8,
+    t: u8,
+    fine: bool,
+    x: Measured,
+    net: &mut [u8],
+    out: &mut [u8],
+) -> Turned
+    requires { ⌜ valid slots (now net) ≡ true ⌝ }
+    requires { ⌜ (at .offset + size < 2 ^ 64) × (1920 ≤ length (now out)) ⌝ }
+    ensures { λ r. ⌜ r ≡ turned size (sampleRecord t fine (measured x) place (netIn slots (now (net .entry)))) at ⌝ }
+    ensures { λ _. ⌜ now (net .exit) ≡ netAfter (sampleRecord t fine (measured x) place (netIn slots (now (net .entry)))) (now (net .entry)) ⌝ }
+    ensures { λ _. ⌜ now (out .exit) ≡ pasted 0 (textAfter (sampleRecord t fine (measured x) place (netIn slots (now (net .entry)))) (at .offset)) (now (out .entry)) ⌝ }
+{
+    let i = place as usize;
+    if network::is_of_type(net, i, t) & fine {
+        network::put_sample(net, i, x);
+        return at.went(size, 0);
+    }
+    at.bad(out)
+}
+
+// A sample for a servo.
+fn take_servo_sample(at: Place, body: &[u8], net: &mut [u8], out: &mut [u8]) -> Turned
+    requires { ⌜ (valid slots (now net) ≡ true) × (length (now body) ≡ 7) ⌝ }
+    requires { ⌜ (at .offset + 11 < 2 ^ 64) × (1920 ≤ length (now out)) ⌝ }
+    ensures { λ r. ⌜ r ≡ turned 8 (servoSample (netIn slots (now (net .entry))) (now (body .entry))) at ⌝ }
+    ensures { λ _. ⌜ now (net .exit) ≡ netAfter (servoSample (netIn slots (now (net .entry))) (now (body .entry))) (now (net .entry)) ⌝ }
+    ensures { λ _. ⌜ now (out .exit) ≡ pasted 0 (textAfter (servoSample (netIn slots (now (net .entry))) (now (body .entry))) (at .offset)) (now (out .entry)) ⌝ }
+{
+    let x = servo_sample_in(body);
+    let fine = x.power < 3;
+    take_sample(at, 8, body[0], 0, fine, Measured::Servo(x), net, out)
 }
 
 // A sample for an I/O module.
@@ -281,13 +330,9 @@ fn take_io_sample(at: Place, body: &[u8], net: &mut [u8], out: &mut [u8]) -> Tur
     ensures { λ _. ⌜ now (net .exit) ≡ netAfter (ioSample (netIn slots (now (net .entry))) (now (body .entry))) (now (net .entry)) ⌝ }
     ensures { λ _. ⌜ now (out .exit) ≡ pasted 0 (textAfter (ioSample (netIn slots (now (net .entry))) (now (body .entry))) (at .offset)) (now (out .entry)) ⌝ }
 {
-    let place = body[0];
-    let x = sample_in(body);
-    if (place < network::chain_len(net)) & (x.inputs < 4096) {
-        network::put_io_sample(net, place as usize, x);
-        return at.went(11, 0);
-    }
-    at.bad(out)
+    let x = io_sample_in(body);
+    let fine = x.inputs < 4096;
+    take_sample(at, 11, body[0], 2, fine, Measured::Io(x), net, out)
 }
 
 fn take_tick(at: Place, net: &mut [u8]) -> Turned
@@ -309,8 +354,7 @@ fn take_other(at: Place, kind: u8, body: &[u8], net: &mut [u8], out: &mut [u8]) 
 {
     match kind {
         1 => take_byte(at, body, net, out),
-        // No chain has a servo yet.
-        2 => at.bad(out),
+        2 => take_servo_sample(at, body, net, out),
         3 => take_io_sample(at, body, net, out),
         4 => take_tick(at, net),
         _ => at.bad(out),

@@ -42,13 +42,16 @@ byteTable net mark room =
     ∷ record { number = 15; applies = ltb (length room) 608 }
     ∷ []
 
--- a sample for a module of type t: 16, 13 no module of that type is at the place, 14 a field is out of range
+-- 13: no module of type t is at the place; 14: a field of a sample is out of range
+abbrev pub unlike : ℕ → List ℕ → ℕ → Line
+unlike t net place = record { number = 13; applies = not (ofType t (netIn slots net) place) }
+
+abbrev pub outside : Bool → Line
+outside far = record { number = 14; applies = far }
+
+-- a sample for a module of type t: 16, 13, 14
 abbrev pub sampleTable : ℕ → List ℕ → ℕ → Bool → List Line
-sampleTable t net place far =
-    broken net
-    ∷ record { number = 13; applies = not (ofType t (netIn slots net) place) }
-    ∷ record { number = 14; applies = far }
-    ∷ []
+sampleTable t net place far = broken net ∷ unlike t net place ∷ outside far ∷ []
 
 -- a servo's power is at most 2, an I/O module's inputs are twelve bits
 abbrev pub servoSampleTable : List ℕ → ℕ → ℕ → List Line

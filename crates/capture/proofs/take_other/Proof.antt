@@ -14,6 +14,12 @@ take-byte-requires c κs =
     let s = c .before .before .before .before .before .before in
     ((s .pre .0 .0, rw (c .before .before .match .keys1) at (s .pre .0 .1)), s .pre .1)
 
+take-servo-sample-requires : tie.Need-take-servo-sample-requires
+unfolding bodyLength
+take-servo-sample-requires c κs =
+    let s = c .before .before .before .before .before .before in
+    ((s .pre .0 .0, rw (c .before .before .match .keys2) at (s .pre .0 .1)), s .pre .1)
+
 take-io-sample-requires : tie.Need-take-io-sample-requires
 unfolding bodyLength
 take-io-sample-requires c κs =
@@ -25,8 +31,8 @@ unfolding netRecord bodyLength
 returns c = rw (c .before .before .before .before .before .before .before .match .keys1) (c .before .before .before .before .take-byte .ensures)
 
 returns-2 : tie.Need-returns-2
-unfolding netRecord bodyLength turned netAfter textAfter
-returns-2 c = let e = c .before .before .bad .ensures in rw (c .before .before .before .before .match .keys2) (e .0, (refl, e .1))
+unfolding netRecord bodyLength
+returns-2 c = rw (c .before .before .before .before .before .before .before .match .keys2) (c .before .before .before .before .take-servo-sample .ensures)
 
 returns-3 : tie.Need-returns-3
 unfolding netRecord bodyLength
@@ -39,7 +45,7 @@ returns-4 c = let e = c .before .before .take-tick .ensures in rw (c .before .be
 returns-5 : tie.Need-returns-5
 unfolding netRecord turned netAfter textAfter
 returns-5 c =
-    let e = c .before .before .bad2 .ensures in
+    let e = c .before .before .bad .ensures in
     let n = c .before .before .before .before .match .rest in
     rw (ne-eqb _ _ (n .0 .0 .0 .1), ne-eqb _ _ (n .0 .0 .1), ne-eqb _ _ (n .0 .1), ne-eqb _ _ (n .1)) (e .0, (refl, e .1))
 
@@ -48,13 +54,14 @@ take-other-spec =
     tie.close
     (tie.spec
     take-byte-requires
-    (λ c κs. search needs)
+    take-servo-sample-requires
     take-io-sample-requires
     (λ c κs. search needs)
     (λ c κs. search needs)
     (λ c. search needs)
     (λ c. search needs)
     returns
+    (λ c. search needs)
     (λ c. search needs)
     returns-2
     (λ c. search needs)
