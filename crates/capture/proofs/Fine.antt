@@ -16,10 +16,10 @@ use Rattle.layout.proofs.Pasted.{length-pasted, read-pasted}
 use Rattle.chain.specs.Chain.{Net, byteStep}
 use Rattle.modules.specs.Types.{Module, AnySample, kind, slots, known, powered, Good}
 use Rattle.modules.proofs.Laws.{lawful}
-use Rattle.modules.proofs.Kept.{preserves, powered-fits}
+use Rattle.modules.proofs.Kept.{preserves}
 use Rattle.network.specs.Record.{recordSize, netIn}
 use Rattle.network.specs.Calls.{setUp, allKnown, fresh, tickStep, sampleStep, byteOf, ofType}
-use Rattle.network.specs.Promises.{Each, SoundNet}
+use Rattle.network.specs.Promises.{SoundNet}
 use Rattle.network.proofs.Stored.{holds, back}
 use Rattle.network.proofs.Calls.{type-beyond}
 use Rattle.network.proofs.Kept.{kept-by-byte, kept-by-sample, kept-by-tick}
@@ -39,10 +39,6 @@ by-cond {A} P b x y f g = go b refl
     go : (u : Bool) → b ≡ u → P (cond u x y)
     go true e = f e
     go false e = g e
-
-each-powered : (ts : List ℕ) → allKnown ts ≡ true → Each (slots .fits) (map powered ts)
-each-powered [] a = tt
-each-powered (t ∷ ts) a = let p = and-true (known t) (allKnown ts) a in (powered-fits t (p .0), each-powered ts (p .1))
 
 -- a sample whose power is 0 to 2, and one whose inputs are twelve bits
 servo-good : (body : List ℕ) → Bytes body → servoSampleIn body .power < 3 → Good (inl (servoSampleIn body))
@@ -107,7 +103,7 @@ module _ (at : Place) (types net : List ℕ) (h : Held at types net) (size : ℕ
   fine-gathering ts p l a =
       let z = h .size in
       let n = length-map ts powered in
-      let w = Powered.powered lawful (map powered ts) (omega arith) (omega arith) (each-powered ts a) in
+      let w = Powered.powered lawful (map powered ts) (omega arith) (omega arith) (Powered.powered-each ts a) in
       let r : take (length ts) (pasted 0 ts types) ≡ ts = read-pasted 0 ts types (omega arith) in
       record {
         held = record {

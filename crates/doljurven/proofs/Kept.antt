@@ -1,7 +1,7 @@
 -- Calls keep a valid record, which then holds the network of the definitions. Assumes nothing.
 use mathlib.Core.Path.{_≡_, refl, sym, ap, subst, _∙_}
-use mathlib.Core.List.{List, [], _∷_, map}
-use mathlib.Core.Bool.{Bool, true, false}
+use mathlib.Core.List.{List, _∷_, map}
+use mathlib.Core.Bool.{Bool, false}
 use Prim.Native.Nat.{ℕ, _<_, _≤_}
 use native.Mathlib.Omega.{arith}
 use lib.ListN.{length-map}
@@ -9,13 +9,12 @@ use lib.Dec.{eqb, ltb}
 use borrow.Author.Tests.{ltb-false}
 use Rattle.layout.specs.Bytes.{Bytes}
 use Rattle.chain.specs.Chain.{Net}
-use Rattle.modules.specs.Types.{Module, AnySample, kind, slots, known, powered, Good}
+use Rattle.modules.specs.Types.{Module, AnySample, kind, slots, powered, Good}
 use Rattle.modules.proofs.Laws.{lawful}
-use Rattle.modules.proofs.Kept.{preserves, powered-fits}
+use Rattle.modules.proofs.Kept.{preserves}
 use Rattle.network.specs.Record.{netIn, stored}
-use Rattle.network.specs.Calls.{setUp, allKnown, fresh, byteOf, tickStep, sampleStep}
-use Rattle.network.specs.Promises.{Each, SoundNet}
-use Rattle.network.proofs.Tests.{and-true}
+use Rattle.network.specs.Calls.{setUp, fresh, byteOf, tickStep, sampleStep}
+use Rattle.network.specs.Promises.{SoundNet}
 use Rattle.network.proofs.Valid.{valid-is}
 use Rattle.network.proofs.Stored as Stored
 use Rattle.network.proofs.Kept as Net
@@ -52,16 +51,12 @@ sample-after net place x g v =
 tick-after : (net : List ℕ) → ValidRecord net → After (stored slots (tickStep (netIn slots net)) net) (tickStep (netIn slots net))
 tick-after net v = stored-after (tickStep (netIn slots net)) net (Net.kept-by-tick kind slots Good preserves (netIn slots net) (held net v)) v
 
-powered-each : (types : List ℕ) → allKnown types ≡ true → Each (slots .fits) (map powered types)
-powered-each [] e = tt
-powered-each (t ∷ ts) e = let p = and-true (known t) (allKnown ts) e in (powered-fits t (p .0), powered-each ts (p .1))
-
 setup-after : (net types : List ℕ) → Passes (setupTable net types) → After (fresh types) (setUp types)
 unfolding After fresh
 setup-after net types e =
     let p = setup-passes net types e in
     let l = length-map types powered in
-    let q = Powered.powered lawful (map powered types) (omega (arith, setup-some net types e)) (omega (arith, p .1)) (powered-each types (p .2)) in
+    let q = Powered.powered lawful (map powered types) (omega (arith, setup-some net types e)) (omega (arith, p .1)) (Powered.powered-each types (p .2)) in
     ((q .1, q .2), q .0)
 
 -- samples whose fields are in range

@@ -1,6 +1,6 @@
 -- A network just set up: an idle receiver and its modules, written into an empty record. Assumes nothing.
 use mathlib.Core.Path.{_≡_}
-use mathlib.Core.List.{List}
+use mathlib.Core.List.{List, [], _∷_, map}
 use mathlib.Core.Bool.{true}
 use Prim.Native.Nat.{ℕ, zero, suc, _≤_}
 use native.Mathlib.Omega.{arith}
@@ -9,14 +9,24 @@ use Rattle.layout.specs.Bytes.{Bytes}
 use Rattle.line.specs.Receive.{idle}
 use Rattle.line.proofs.Kept.{fresh}
 use Rattle.chain.specs.Slots.{Slots, Lawful}
+use Rattle.modules.specs.Types as Types
+use Rattle.modules.specs.Types.{slots, known}
+use Rattle.modules.proofs.Kept.{powered-fits}
 use Rattle.network.specs.Record.{recordSize, netIn, stored, valid}
+use Rattle.network.specs.Calls.{allKnown}
 use Rattle.network.specs.Promises.{Each, SoundNet}
 use Rattle.network.proofs.Stored.{back}
+use Rattle.network.proofs.Tests.{and-true}
 
 pub bytes-zeros : (n : ℕ) → Bytes (replicate n 0)
 bytes-zeros zero i = omega arith
 bytes-zeros (suc n) zero = omega arith
 bytes-zeros (suc n) (suc i) = bytes-zeros n i
+
+-- modules of known types can be written
+pub powered-each : (types : List ℕ) → allKnown types ≡ true → Each (slots .fits) (map Types.powered types)
+powered-each [] e = tt
+powered-each (t ∷ ts) e = let p = and-true (known t) (allKnown ts) e in (powered-fits t (p .0), powered-each ts (p .1))
 
 module _ {M : Type 0} {L : Slots M} (law : Lawful L) (ms : List M) (some : 1 ≤ length ms) (most : length ms ≤ 32) (each : Each (L .fits) ms) where
   pub powered-sound : SoundNet L (record { receiver = idle; modules = ms })
