@@ -16,7 +16,8 @@ use Rattle.servo.specs.declared.Mode.the-variants.{Off, Pwm, Hold, Velocity, Tr
 use Rattle.servo.specs.declared.Servo.{Servo}
 use Rattle.servo.specs.Servo.{powered}
 use Rattle.positioner.specs.List.{silent, modeFits, sound}
-use Rattle.positioner.specs.Slot.{modeByte, slot, frontTests, loadTests, motionTests, decodeOf, okOf}
+use Rattle.positioner.specs.Slot.{modeByte, slot, decodeOf, okOf}
+use Rattle.positioner.specs.Parts.{frontTests, loadTests, motionTests}
 use Rattle.positioner.specs.Promises.{Lines}
 use Rattle.positioner.proofs.Good.{Live, InMode, rates-fit, memory-fits, drive-fits, mode-fits, powerless-fits}
 

@@ -10,7 +10,8 @@ use Rattle.integers.specs.Whole.{word}
 use Rattle.station.specs.Slot.{station}
 use Rattle.motion.specs.declared.Profile.{Profile}
 use Rattle.servo.specs.declared.Servo.{Servo}
-use Rattle.positioner.specs.Slot.{sample, counts, tuning, rates, load, profile, memory, drive, frontOf, backOf, encodeOf}
+use Rattle.positioner.specs.Slot.{sample, counts, tuning, rates, load, profile, memory, drive, encodeOf}
+use Rattle.positioner.specs.Parts.{frontOf, backOf}
 
 -- what stands after the setpoint
 course : ℕ → ℕ → Profile → List ℕ

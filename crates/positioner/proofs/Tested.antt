@@ -16,7 +16,8 @@ use Rattle.servo.specs.declared.Servo.{Servo}
 use Rattle.servo.specs.Orders.{execute}
 use Rattle.servo.specs.Tick.{Steady}
 use Rattle.positioner.specs.List.{sound}
-use Rattle.positioner.specs.Slot.{slot, profile, frontTests, loadTests, motionTests, decodeOf, okOf}
+use Rattle.positioner.specs.Slot.{slot, profile, decodeOf, okOf}
+use Rattle.positioner.specs.Parts.{frontTests, loadTests, motionTests}
 use Rattle.positioner.specs.Promises.{Fits}
 use Rattle.positioner.proofs.Good.{good}
 use Rattle.positioner.proofs.Within.{kept, defined}

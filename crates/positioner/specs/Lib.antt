@@ -1,3 +1,4 @@
 pub mod List
 pub mod Slot
+pub mod Parts
 pub mod Promises
