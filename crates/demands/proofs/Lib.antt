@@ -1,0 +1,10 @@
+pub mod Histories
+pub mod Alone
+pub mod Order
+pub mod Alive
+pub mod Asking
+pub mod Motion
+pub mod Question
+pub mod OnTheLine
+pub mod ByCalls
+pub mod Example
