@@ -1,5 +1,5 @@
 -- What a frame that asks for a start or a Stop Here has: its code and its number of data bytes. Assumes nothing.
-use mathlib.Core.Path.{_≡_, refl, sym, ap, subst, _∙_}
+use mathlib.Core.Path.{_≡_, refl, _∙_}
 use mathlib.Core.List.{List}
 use mathlib.Core.Bool.{Bool, true, false, cond, _&&_}
 use Prim.Native.Nat.{ℕ}
@@ -10,14 +10,12 @@ use Rattle.line.specs.Frames.{Frame}
 use Rattle.station.specs.declared.Asked.{Asked}
 use Rattle.station.specs.declared.Asked.the-variants as Both
 use Rattle.station.specs.Commands.{asked}
-use Rattle.orders.specs.declared.Carried.{Carried}
-use Rattle.orders.specs.declared.Halt.{Halt}
 use Rattle.orders.specs.declared.Halt.the-variants.{Keep, Release, Abrupt, Smooth, Here}
 use Rattle.orders.specs.declared.Order.the-variants.{Set, Reset, ResetPosition, LoadTrajectory, Start, SetGain, Stop, ClearBits}
 use Rattle.orders.specs.declared.Request.{Request}
 use Rattle.orders.specs.declared.Request.the-variants.{Malformed, Wants}
 use Rattle.orders.specs.Loads.{isSet, needed, carriedIn, inRange}
-use Rattle.orders.specs.Orders.{counted, loadRequest, gainsIn, tuningIn, gainsFit, gainRequest, haltOf, oneHalt, stopCount, stopRequest, own, joined, request}
+use Rattle.orders.specs.Orders.{loadRequest, gainsIn, tuningIn, gainsFit, gainRequest, haltOf, oneHalt, stopCount, stopRequest, own, joined, request}
 use Rattle.orders.proofs.Taken.{load-read}
 
 -- the code and count of what is asked, where it can start motion

@@ -3,7 +3,7 @@ use mathlib.Core.Path.{_≡_, refl, sym, ap, subst, _∙_}
 use mathlib.Core.Logic.{_⊎_, inl, inr}
 use mathlib.Core.List.{List, [], _∷_, map}
 use mathlib.Core.Bool.{Bool, true, false, cond, true≢false}
-use mathlib.Core.Option.{Option, some, none, Option·map}
+use mathlib.Core.Option.{Option, some, Option·map}
 use Prim.Native.Nat.{ℕ, zero, suc, _<_}
 use borrow.Author.Tests.{eqb-true, eqb-false}
 use lib.ListN.{getElem?}
@@ -28,7 +28,7 @@ use Rattle.positioner.specs.Promises.{Fits}
 use Rattle.modules.specs.Types.{Module, AnySample, kind, slots, powered}
 use Rattle.modules.proofs.Laws.{lawful}
 use Rattle.network.specs.Record.{netIn}
-use Rattle.network.specs.Calls.{byteOf, tickStep, sampleStep}
+use Rattle.network.specs.Calls.{byteOf, sampleStep}
 use Rattle.network.specs.Walk.{changed}
 use Rattle.network.specs.Promises.{Each}
 use Rattle.network.proofs.Stored as Stored
@@ -122,12 +122,7 @@ sampled-begins (inl x) (y ∷ ms) zero zero m k e q g =
     let z : y ≡ inl m = cc in
     let w : _≡_ {A = Option Module} (some (inl (sampled x m))) (some (inl k)) = ap (λ (y : Module). some (kind .sample (inl x) y)) (sym z) ∙ q in
     let u : sampled x m ≡ k = cc in
-    at (subst (Begins m) (sym u) g)
-  where
-    at : Begins m (sampled x m) → ⊥
-    at (moving n z) = n z
-    at (bound n z) = n z
-    at (put a z) = a refl
+    tick-starts .sampling x m (subst (Begins m) (sym u) g)
 sampled-begins (inr x) (y ∷ ms) zero zero m k e q g =
     let z : y ≡ inl m = cc in
     let w : _≡_ {A = Option Module} (some (inl m)) (some (inl k)) = ap (λ (y : Module). some (kind .sample (inr x) y)) (sym z) ∙ q in
@@ -173,10 +168,11 @@ byte-call net mark byte room i m k h v e q g = at (passes? (byteTable net mark r
         (kept-modules net (byteRecord net mark byte room) (unchanged .byte net mark byte room r .netKept))
         e q g)
 
-tick-call : (net : List ℕ) (i : ℕ) (m k : Servo) → ValidRecord net → At net i m → At (tickRecord net) i k → (Moves m → ⊥) → Moves k → Bound m
-tick-call net i m k v e q n z = at (passes? (tickTable net))
+tick-call : (net : List ℕ) (i : ℕ) (m k : Servo) → ValidRecord net → At net i m → At (tickRecord net) i k
+    → ((Moves m → ⊥) → Moves k → Bound m) × (Bound k → Bound m)
+tick-call net i m k v e q = at (passes? (tickTable net))
   where
-    at : Passes (tickTable net) ⊎ Refuses (tickTable net) → Bound m
+    at : Passes (tickTable net) ⊎ Refuses (tickTable net) → ((Moves m → ⊥) → Moves k → Bound m) × (Bound k → Bound m)
     at (inl p) =
         let ms : List Module = netIn slots net .modules in
         let x : getElem? (netIn slots (tickRecord net) .modules) i ≡ some (inl (ticked m)) =
@@ -184,10 +180,12 @@ tick-call net i m k v e q n z = at (passes? (tickTable net))
         ∙ map-at (kind .tick) ms i
         ∙ ap (λ (o : Option Module). Option·map (kind .tick) o) e in
         let u : ticked m ≡ k = same-place (netIn slots (tickRecord net) .modules) i (ticked m) k x q in
-        tick-starts .tick m (fits-at net i m v e) n (subst Moves (sym u) z)
+        let t = fits-at net i m v e in
+        (λ n z. tick-starts .tick m t n (subst Moves (sym u) z), λ b. tick-starts .goal m t (subst Bound (sym u) b))
     at (inr r) =
-        let w = kept-modules net (tickRecord net) (unchanged .tick net r) in
-        absurd (unchanged-begins (netIn slots net .modules) (netIn slots (tickRecord net) .modules) i m k w e q (moving n z))
+        let w = ap (λ (l : List Module). getElem? l i) (sym (kept-modules net (tickRecord net) (unchanged .tick net r))) ∙ q in
+        let u : m ≡ k = same-place (netIn slots net .modules) i m k e w in
+        (λ n z. absurd (n (subst Moves (sym u) z)), λ b. subst Bound (sym u) b)
 
 -- what a sample's call leaves, by its table
 sample-call : (net : List ℕ) (table : List Line) (place : ℕ) (x : AnySample) (i : ℕ) (m k : Servo)

@@ -1,9 +1,9 @@
 -- The examples of demand 1, computed. Assumes nothing.
 use mathlib.Core.Path.{_≡_, refl, sym, ap, subst⁻¹, _∙_}
-use mathlib.Core.Logic.{_⊎_, inl, inr}
+use mathlib.Core.Logic.{inl, inr}
 use mathlib.Core.List.{List, [], _∷_}
-use mathlib.Core.Bool.{Bool, true, false}
-use Prim.Native.Nat.{ℕ, zero, suc, _+_}
+use mathlib.Core.Bool.{true}
+use Prim.Native.Nat.{ℕ, zero, suc, _+_, _≤_}
 use native.Mathlib.Omega.{arith}
 use lib.Count.{ones}
 use lib.ListN.{length, replicate, length-replicate}
@@ -19,24 +19,25 @@ use Rattle.filter.specs.Filter.{filtered}
 use Rattle.orders.specs.Loads.{needed, carriedIn, inRange}
 use Rattle.orders.specs.Orders.{loadRequest, haltOf, stopRequest, own, request}
 use Rattle.servo.specs.declared.Servo.{Servo}
-use Rattle.servo.specs.Servo.{started, idled, off}
+use Rattle.servo.specs.Servo.{started, idled}
 use Rattle.servo.specs.Loads.{wayOf, loadOf, ratesOf, loaded, beginning, movable, complete, startable, signedBy, toSpeed, toPlace, start}
 use Rattle.servo.specs.Orders.{holding, stopped, withCause, execute}
-use Rattle.servo.specs.Tick.{latch, advanced, putOut, servoed, ticked}
+use Rattle.servo.specs.Tick.{advanced, servoed, ticked}
 use Rattle.servo.specs.RestPromises.{Resting, following}
 use Rattle.chain.specs.Chain.{Net}
 use Rattle.positioner.specs.Promises.{Fits}
 use Rattle.positioner.proofs.Within.{kept}
-use Rattle.modules.specs.Types.{Module}
-use Rattle.network.specs.Record.{recordSize}
+use Rattle.modules.specs.Types.{Module, slots}
+use Rattle.network.specs.Record.{recordSize, netIn}
 use Rattle.network.specs.Calls.{setUp}
 use Rattle.doljurven.specs.Table.{setupTable}
-use Rattle.doljurven.specs.Promises.{Passes}
+use Rattle.doljurven.specs.Promises.{Passes, ValidRecord}
 use Rattle.doljurven.proofs.Kept as DoljurvenKept
 use Rattle.demands.specs.Motion.{Moves, Bound, Begins, moving, bound, put}
 use Rattle.demands.specs.Question.{short, NoneReady, none, ShortLoad}
-use Rattle.demands.specs.Example.{Examples, sent, awake, pulse, run, move, start as startFrame, here, cut}
-use Rattle.demands.proofs.Motion.{rest-is}
+use Rattle.demands.specs.Example.{Examples, sent, awake, pulse, run, move, start as startFrame, here, cut, history, lent, space}
+use Rattle.demands.proofs.Motion.{rest-is, frame-starts, never}
+use Rattle.demands.proofs.OnTheLine.{short-load-on-the-line}
 
 -- bytes one by one are bytes at every place
 are : (xs : List ℕ) → AreBytes xs → Bytes xs
@@ -107,13 +108,23 @@ passes = refl
 
 on-the-line : ShortLoad (setUp (0 ∷ [])) 0 started 0 0 (cut .content)
 on-the-line = record {
-  idle = refl;
+  receiver = refl;
   here = refl;
   load = (omega arith, (omega arith, (omega arith, (omega arith, (omega arith, (omega arith, (omega arith, (omega arith, (omega arith, (omega arith, tt))))))))), omega arith);
   short = not-thirteen;
   start = (omega arith, refl);
   unready = none refl;
 }
+
+valid : ValidRecord lent
+valid = DoljurvenKept.kept .setup (replicate recordSize 0) (0 ∷ []) passes
+
+room : 608 ≤ length space
+room = omega (arith, length-replicate {A = ℕ} 608 0)
+
+lent-short : ShortLoad (netIn slots lent) 0 started 0 0 (cut .content)
+lent-short =
+    subst⁻¹ (λ (n : Net Module). ShortLoad n 0 started 0 0 (cut .content)) (DoljurvenKept.holds .setup (replicate recordSize 0) (0 ∷ []) passes) on-the-line
 
 pub examples : Examples
 examples = record {
@@ -131,9 +142,10 @@ examples = record {
   isStart = record { undamaged = refl; code = refl; empty = refl };
   short = short-stays;
   whole = whole-goes;
-  valid = DoljurvenKept.kept .setup (replicate recordSize 0) (0 ∷ []) passes;
-  room = omega (arith, length-replicate {A = ℕ} 608 0);
-  line =
-      subst⁻¹ (λ (n : Net Module). ShortLoad n 0 started 0 0 (cut .content)) (DoljurvenKept.holds .setup (replicate recordSize 0) (0 ∷ []) passes)
-      on-the-line;
+  valid = valid;
+  room = room;
+  line = lent-short;
+  starts = frame-starts run true awake awake-fits by-load;
+  startedIn = never .motion history awake awake-fits (bytes-run, tt) rests running-moves;
+  called = short-load-on-the-line .calls lent space 0 started 0 0 (cut .content) valid room lent-short;
 }

@@ -1,17 +1,21 @@
 -- Demand 1 at one servo: what begins motion is one of the three starts. Assumes nothing.
-use mathlib.Core.Path.{_≡_, refl, sym, ap, subst, _∙_}
+use mathlib.Core.Path.{_≡_, refl, sym, ap, ap₂, subst, _∙_}
 use mathlib.Core.Logic.{_⊎_, inl, inr}
-use mathlib.Core.List.{List, [], _∷_, _++_}
+use mathlib.Core.List.{List, [], _∷_}
 use mathlib.Core.Bool.{Bool, true, false, true≢false, false≢true}
 use Prim.Native.Nat.{ℕ}
 use native.Mathlib.Omega.{arith}
 use lib.Dec.{eqb}
-use lib.IntN.{ℤ, pos}
+use lib.IntN.{ℤ, pos, natAbs, _-ℤ_}
 use Rattle.integers.specs.Whole.{same}
 use Rattle.integers.proofs.Same.{same-eq, eq-same}
 use Rattle.line.specs.Frames.{Frame}
-use Rattle.motion.specs.Profile.{left}
-use Rattle.orders.specs.declared.Carried.{Carried}
+use Rattle.motion.specs.declared.Profile.{Profile}
+use Rattle.motion.specs.Trapezoid.{nextSpeed}
+use Rattle.motion.specs.Profile.{Ranged, left, trapezoid, stepped, byTrapezoid, byVelocity}
+use Rattle.motion.specs.Promises.{CanStop, Running}
+use Rattle.motion.proofs.Speeds.{stillStops}
+use Rattle.motion.proofs.Runs.{taken}
 use Rattle.orders.specs.declared.Halt.{Halt}
 use Rattle.orders.specs.declared.Halt.the-variants.{Keep, Release, Abrupt, Smooth, Here}
 use Rattle.orders.specs.declared.Order.{Order}
@@ -19,13 +23,14 @@ use Rattle.orders.specs.declared.Order.the-variants.{Set, Reset, ResetPosition,
 use Rattle.orders.specs.declared.Request.{Request}
 use Rattle.orders.specs.declared.Request.the-variants.{Malformed, Wants}
 use Rattle.orders.specs.Orders.{request}
+use Rattle.servo.specs.declared.Sample.{Sample}
 use Rattle.servo.specs.declared.Mode.{Mode}
 use Rattle.servo.specs.declared.Mode.the-variants.{Off, Pwm, Hold, Velocity, Trapezoid}
 use Rattle.servo.specs.declared.Servo.{Servo}
-use Rattle.servo.specs.Servo.{servoOff, idled, off}
+use Rattle.servo.specs.Servo.{servoOff, withProfile, sampled, idled, off}
 use Rattle.servo.specs.Loads.{loaded, startsNow, start, toSpeed}
 use Rattle.servo.specs.Orders.{resetPosition, shifted, holding, smooth, halted, stopped, can, perform, withCause, settled, execute}
-use Rattle.servo.specs.Tick.{ticked}
+use Rattle.servo.specs.Tick.{latch, unpowered, advancedBy, advanced, tripped, pulsed, ticked}
 use Rattle.servo.specs.LoadPromises.{Starting}
 use Rattle.servo.specs.StopPromises.{Counted}
 use Rattle.servo.specs.RestPromises.{Resting, following}
@@ -34,10 +39,11 @@ use Rattle.servo.proofs.Keeping.{by-test, either, number, distinct}
 use Rattle.servo.proofs.Starting.{starts, start-now}
 use Rattle.servo.proofs.Stopping.{stops-now}
 use Rattle.servo.proofs.Shifting.{resets-position}
+use Rattle.servo.proofs.Ends.{ends}
 use Rattle.servo.proofs.AtRest.{stays-resting}
 use Rattle.servo.proofs.Placing.{only-here}
 use Rattle.positioner.specs.Promises.{Fits}
-use Rattle.positioner.proofs.Good.{good}
+use Rattle.positioner.proofs.Good.{InMode, good}
 use Rattle.positioner.proofs.Within.{kept}
 use Rattle.demands.specs.Motion.{Moves, Bound, RestIs, Begins, moving, bound, put, Starts, byStart, byLoad, byStopHere, FrameStarts, StartsAreExecuted, TickStarts, Met, frame, sampling, tick, meets, after, Handed, StartedIn, Never}
 use Rattle.demands.proofs.Asking.{Evident, evident}
@@ -279,12 +285,15 @@ frame-back P f alone m w o u =
     (λ d. w 1)
     (λ d. settled-back P (request f alone) m w (λ c q t. o c (u c d q t .0)))
 
+frame-bound : (f : Frame) (alone : Bool) (m : Servo) → Fits m → Unstarted f alone m → Bound (execute f alone m) → Bound m
+frame-bound f alone m t u b = frame-back Bound f alone m (λ c z. z) (λ c s. order-bound c m (counted m t) s) u b
+
 pub frame-starts : FrameStarts
 frame-starts f alone m t b = at (starts? f alone m)
   where
     none : Unstarted f alone m → Begins m (execute f alone m) → ⊥
     none u (moving n z) = n (frame-back Moves f alone m (λ c z. z) (λ c s. order-moves c m s) u z)
-    none u (bound n z) = n (frame-back Bound f alone m (λ c z. z) (λ c s. order-bound c m (counted m t) s) u z)
+    none u (bound n z) = n (frame-bound f alone m t u z)
     none u (put a z) = by (only-here f alone m (counted m t) (λ h x d q k. u (Stop h Here x) d q k .1 h x refl))
       where
         by : (following (execute f alone m) ≡ following m) ⊎ (following (execute f alone m) ≡ pos 0) → ⊥
@@ -303,19 +312,56 @@ starts-are-executed f alone m (byLoad c d k n q e s) =
 starts-are-executed f alone m (byStopHere a x d c n q r) =
     ap (λ (k : Servo). k .station .cause) (cause f alone m .executed (Stop a Here x) d q (stops-now a x m .here .1 r))
 
--- ---- ticks, and histories
+-- ---- ticks
+
+-- a trapezoid with no distance left has none after a tick
+at-goal : (p : Profile) → Ranged p → Running p → left p ≡ pos 0 → left (byTrapezoid p) ≡ pos 0
+unfolding byTrapezoid stepped trapezoid
+at-goal p r s e =
+    let c : CanStop (p .acceleration) (p .top) 0 (natAbs (p .speed)) = subst (λ (z : ℤ). CanStop (p .acceleration) (p .top) (natAbs z) (natAbs (p .speed))) e (s .stops) in
+    let w : ℕ = nextSpeed (p .acceleration) (p .top) 0 (natAbs (p .speed)) in
+    let h : w ≡ 0 = omega (arith, stillStops (p .acceleration) (p .top) 0 (natAbs (p .speed)) (s .force) c .0) in
+    let v : byTrapezoid p .speed ≡ pos 0 = ap (λ (z : ℤ). trapezoid (p .acceleration) (p .top) z (p .speed)) e ∙ ap pos h in
+    taken p r s ∙ ap₂ _-ℤ_ e v
+
+module _ (m : Servo) (t : Fits m) where
+  advanced-bound : Bound (withProfile (advanced (latch m)) m) → Bound m
+  unfolding advanced byVelocity stepped
+  advanced-bound (inl b) = inl (b .0, λ e. b .1 (ap (λ (k : Mode). advancedBy k (m .profile) .aim) (b .0) ∙ e))
+  advanced-bound (inr b) =
+      let s = good m t .sane in
+      let i = subst (λ (k : Mode). InMode k (m .latched .power) (m .profile) (m .memory) (m .drive)) (b .0) (s .mode) in
+      inr (b .0, λ e. b .1 (ap (λ (k : Mode). left (advancedBy k (m .profile))) (b .0) ∙ at-goal (m .profile) (s .profile) (i .2) e))
+
+  ticked-bound : Bound (ticked m) → Bound m
+  unfolding unpowered pulsed tripped idled off
+  ticked-bound = ends (λ (n : Servo). Bound n → Bound m) m (record {
+    low = λ q b. absurd (mode-unbound Off refl refl (unpowered (latch m)) refl b);
+    off = λ q b. b;
+    pwm = λ q b. b;
+    output = λ s y u b. advanced-bound b;
+    trip = λ q b. absurd (mode-unbound Off refl refl (tripped (advanced (latch m)) (latch m)) refl b);
+  })
+
+  ticked-rests : Resting m → Resting (ticked m) × (ticked m .profile .setpoint ≡ m .profile .setpoint)
+  ticked-rests r = stays-resting .tick m (good m t .sane .profile .setpoint) r
+
+  ticked-moves : (Moves m → ⊥) → Moves (ticked m) → Bound m
+  ticked-moves n z = at (bound? m)
+    where
+      at : Bound m ⊎ (Bound m → ⊥) → Bound m
+      at (inl b) = b
+      at (inr u) = absurd (rests-still (ticked m) (ticked-rests (rest-is m .1 n u) .0) z)
+
+sampled-begins : (x : Sample) (m : Servo) → Begins m (sampled x m) → ⊥
+sampled-begins x m (moving n z) = n z
+sampled-begins x m (bound n z) = n z
+sampled-begins x m (put a z) = a refl
 
 pub tick-starts : TickStarts
-tick-starts = record {
-  tick = λ m t n z. at m t n z (bound? m);
-  rests = λ m t r. stays-resting .tick m (good m t .sane .profile .setpoint) r;
-  sampling = λ x m. (λ z. z, λ b. b);
-}
-  where
-    at : (m : Servo) → Fits m → (Moves m → ⊥) → Moves (ticked m) → Bound m ⊎ (Bound m → ⊥) → Bound m
-    at m t n z (inl b) = b
-    at m t n z (inr u) =
-        absurd (rests-still (ticked m) (stays-resting .tick m (good m t .sane .profile .setpoint) (rest-is m .1 n u) .0) z)
+tick-starts = record { tick = ticked-moves; goal = ticked-bound; rests = ticked-rests; sampling = sampled-begins }
+
+-- ---- histories
 
 -- a start in what comes after the first that is met
 later : (e : Met) (es : List Met) (m : Servo) → StartedIn (meets e m) es → StartedIn m (e ∷ es)
@@ -328,21 +374,38 @@ later e es m s = record {
   start = s .start;
 }
 
-started : (es : List Met) (m : Servo) → Fits m → Handed es → Resting m → (Resting (after es m) → ⊥) → StartedIn m es
-started [] m t h r n = absurd (n r)
-started (frame f alone ∷ es) m t h r n =
-    at (starts? f alone m) (λ q. started es (execute f alone m) (kept .frame f alone m (h .0) t) (h .1) q n)
-  where
-    at : Starts f alone m ⊎ Unstarted f alone m → (Resting (execute f alone m) → StartedIn (execute f alone m) es) → StartedIn m (frame f alone ∷ es)
-    at (inl s) g = record { before = []; f = f; alone = alone; later = es; split = refl; start = s }
-    at (inr u) g = later (frame f alone) es m (g (stays-resting .frame f alone m (counted m t) r (λ c d q k. u c d q k .0)))
-started (sampling x ∷ es) m t h r n =
-    later (sampling x) es m (started es (meets (sampling x) m) (kept .sampling x m (h .0) t) (h .1) (stays-resting .sampling x m r) n)
-started (tick ∷ es) m t h r n =
-    later tick es m (started es (ticked m) (kept .tick m t) h (stays-resting .tick m (good m t .sane .profile .setpoint) r .0) n)
+-- what ticks, samples and all other frames keep, and is lost, was lost by a start
+module _ (Q : Servo → Type 0)
+    (framed : (f : Frame) (alone : Bool) (m : Servo) → Fits m → Unstarted f alone m → Q m → Q (execute f alone m))
+    (seen : (x : Sample) (m : Servo) → Q m → Q (sampled x m))
+    (timed : (m : Servo) → Fits m → Q m → Q (ticked m)) where
+  started : (es : List Met) (m : Servo) → Fits m → Handed es → Q m → (Q (after es m) → ⊥) → StartedIn m es
+  started [] m t h r n = absurd (n r)
+  started (frame f alone ∷ es) m t h r n =
+      at (starts? f alone m) (λ q. started es (execute f alone m) (kept .frame f alone m (h .0) t) (h .1) q n)
+    where
+      at : Starts f alone m ⊎ Unstarted f alone m → (Q (execute f alone m) → StartedIn (execute f alone m) es) → StartedIn m (frame f alone ∷ es)
+      at (inl s) g = record { before = []; f = f; alone = alone; later = es; split = refl; start = s }
+      at (inr u) g = later (frame f alone) es m (g (framed f alone m t u r))
+  started (sampling x ∷ es) m t h r n =
+      later (sampling x) es m (started es (sampled x m) (kept .sampling x m (h .0) t) (h .1) (seen x m r) n)
+  started (tick ∷ es) m t h r n = later tick es m (started es (ticked m) (kept .tick m t) h (timed m t r) n)
+
+rest-lost : (es : List Met) (m : Servo) → Fits m → Handed es → Resting m → (Resting (after es m) → ⊥) → StartedIn m es
+rest-lost =
+    started Resting
+    (λ f alone m t u r. stays-resting .frame f alone m (counted m t) r (λ c d q k. u c d q k .0))
+    (λ x m r. stays-resting .sampling x m r)
+    (λ m t r. ticked-rests m t r .0)
 
 pub never : Never
 never = record {
-  rest = started;
-  motion = λ es m t h r z. started es m t h r (λ q. rests-still (after es m) q z);
+  rest = rest-lost;
+  motion = λ es m t h r z. rest-lost es m t h r (λ q. rests-still (after es m) q z);
+  goal = λ es m t h n b.
+      started (λ (m : Servo). Bound m → ⊥)
+      (λ f alone m t u n b. n (frame-bound f alone m t u b))
+      (λ x m n. n)
+      (λ m t n b. n (ticked-bound m t b))
+      es m t h n (λ q. q b);
 }

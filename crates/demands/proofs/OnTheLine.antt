@@ -1,14 +1,13 @@
 -- The mill's question on the line, byte by byte, and through the exported call. Assumes nothing.
 use mathlib.Core.Path.{_≡_, refl, sym, ap, ap₂, _∙_}
-use mathlib.Core.Logic.{_⊎_, inl, inr}
+use mathlib.Core.Logic.{inl, inr}
 use mathlib.Core.List.{List, [], _∷_, _++_}
-use mathlib.Core.Bool.{Bool, true, false, cond, not, _&&_}
-use mathlib.Core.Option.{Option, some, none, Option·map}
-use Prim.Native.Nat.{ℕ, _+_, _*_, _%_, _<_, _≤_}
+use mathlib.Core.Bool.{Bool, true, false, cond, _&&_}
+use mathlib.Core.Option.{Option, some, Option·map}
+use Prim.Native.Nat.{ℕ, _+_, _*_, _<_, _≤_}
 use native.Mathlib.Omega.{arith}
 use borrow.Author.Tests.{le-ltb}
-use lib.ListN.{length, getD, getElem?}
-use lib.Dec.{ltb}
+use lib.ListN.{length, getElem?}
 use Rattle.line.specs.declared.Receiver.{Receiver}
 use Rattle.line.specs.declared.Answer.{Answer}
 use Rattle.line.specs.declared.Answer.the-variants.{Ended, Nothing}
@@ -18,7 +17,7 @@ use Rattle.line.proofs.Holding.{reads-on, reads-end}
 use Rattle.line.proofs.Read.{read}
 use Rattle.station.specs.declared.Address.{Address}
 use Rattle.station.specs.Touch.{individually, named}
-use Rattle.chain.specs.Chain.{Net, Step, addresses, touched, executed, handed, byteStep}
+use Rattle.chain.specs.Chain.{Net, Step, addresses, touched, executed, handed}
 use Rattle.chain.proofs.Bytes.{step-on, step-end}
 use Rattle.chain.proofs.Touching.{touched-before}
 use Rattle.inout.proofs.Address as InoutAddress
@@ -27,11 +26,11 @@ use Rattle.servo.specs.Orders.{withCause, execute}
 use Rattle.servo.proofs.Address as ServoAddress
 use Rattle.modules.specs.Types.{Module, kind, slots}
 use Rattle.network.specs.Record.{netIn, valid}
-use Rattle.doljurven.specs.Table.{first, byteTable}
+use Rattle.doljurven.specs.Table.{byteTable}
 use Rattle.doljurven.specs.Calls.{byteRecord}
 use Rattle.doljurven.specs.Promises.{ValidRecord, Passes}
 use Rattle.doljurven.proofs.Kept.{kept, holds}
-use Rattle.demands.specs.Question.{Missed, short, NoneReady, IsStart, fed, QuestionOnTheLine, called, ShortLoad, ShortLoadOnTheLine}
+use Rattle.demands.specs.Question.{short, fed, QuestionOnTheLine, called, ShortLoad, ShortLoadOnTheLine}
 use Rattle.demands.proofs.Question.{question}
 
 -- the bytes of a whole frame hand that frame along
@@ -106,24 +105,24 @@ written-bytes : (a code : ℕ) (ds : List ℕ) → a < 256 → code < 16 → len
 written-bytes a code ds h c l b =
     (omega arith, (h, (omega arith, bytes-append ds (sum8 a (code + 16 * length ds) ds ∷ []) b (omega arith, tt))))
 
-byte-passes : (net room : List ℕ) → valid slots net ≡ true → 608 ≤ length room → Passes (byteTable net 0 room)
-byte-passes net room v r = rw (v, le-ltb (length room) 608 r) refl
+byte-goes : (net room : List ℕ) → valid slots net ≡ true → 608 ≤ length room → Passes (byteTable net 0 room)
+byte-goes net room v r = rw (v, le-ltb (length room) 608 r) refl
 
-module _ (room : List ℕ) (r : 608 ≤ length room) where
-  called-valid : (xs net : List ℕ) → ValidRecord net → AreBytes xs → ValidRecord (called room xs net)
-  called-valid [] net v b = v
-  called-valid (x ∷ xs) net v b = called-valid xs (byteRecord net 0 x room) (kept .byte net 0 x room (b .0) v) (b .1)
+called-valid : (room xs net : List ℕ) → ValidRecord net → AreBytes xs → ValidRecord (called room xs net)
+called-valid room [] net v b = v
+called-valid room (x ∷ xs) net v b = called-valid room xs (byteRecord net 0 x room) (kept .byte net 0 x room (b .0) v) (b .1)
 
-  called-fed : (xs net : List ℕ) → ValidRecord net → AreBytes xs → netIn slots (called room xs net) ≡ fed (clean xs) (netIn slots net)
-  called-fed [] net v b = refl
-  called-fed (x ∷ xs) net v b =
-      called-fed xs (byteRecord net 0 x room) (kept .byte net 0 x room (b .0) v) (b .1)
-      ∙ ap (fed (clean xs)) (holds .byte net 0 x room (b .0) (v .1) (byte-passes net room (v .0) r))
+-- calls that are made with bytes one by one feed them to the network that the record holds
+called-fed : (room xs net : List ℕ) → 608 ≤ length room → ValidRecord net → AreBytes xs → netIn slots (called room xs net) ≡ fed (clean xs) (netIn slots net)
+called-fed room [] net r v b = refl
+called-fed room (x ∷ xs) net r v b =
+    called-fed room xs (byteRecord net 0 x room) r (kept .byte net 0 x room (b .0) v) (b .1)
+    ∙ ap (fed (clean xs)) (holds .byte net 0 x room (b .0) (v .1) (byte-goes net room (v .0) r))
 
 short-bytes : (n : Net Module) (i : ℕ) (m : Servo) (a b : ℕ) (ds : List ℕ) → ShortLoad n i m a b ds
     → getElem? (fed (clean (written b 5 [])) (fed (clean (written a 4 ds)) n) .modules) i ≡ some (inl (withCause 3 m))
 short-bytes n i m a b ds h =
-    question-on-the-line n i m (clean (written a 4 ds)) (clean (written b 5 [])) _ _ (h .idle) (h .here)
+    question-on-the-line n i m (clean (written a 4 ds)) (clean (written b 5 [])) _ _ (h .receiver) (h .here)
     (read a 4 ds (h .load .0) (omega arith) (h .load .2))
     refl
     (short refl (h .short))
@@ -141,7 +140,7 @@ short-load-on-the-line = record {
       let one = written-bytes a 4 ds (h .load .0) (omega arith) (h .load .2) (h .load .1) in
       let two = written-bytes b 5 [] (h .start .0) (omega arith) (omega arith) tt in
       ap (λ (n : Net Module). getElem? (n .modules) i)
-      (called-fed room r start (called room load net) (called-valid room r load net v one) two
-      ∙ ap (fed (clean start)) (called-fed room r load net v one))
+      (called-fed room start (called room load net) r (called-valid room load net v one) two
+      ∙ ap (fed (clean start)) (called-fed room load net r v one))
       ∙ short-bytes (netIn slots net) i m a b ds h;
 }

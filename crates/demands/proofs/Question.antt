@@ -14,7 +14,7 @@ use Rattle.servo.specs.Orders.{can, perform, withCause, execute}
 use Rattle.servo.proofs.Cause.{cause}
 use Rattle.servo.proofs.Starting.{starts, complete-is, start-now, twice as twice-from}
 use Rattle.servo.proofs.Stopping.{stops, stops-now}
-use Rattle.demands.specs.Motion.{Starts, byStart, byLoad, byStopHere}
+use Rattle.demands.specs.Motion.{byStart, byLoad, byStopHere}
 use Rattle.demands.specs.Question.{Missed, elsewhere, damaged, short, NoneReady, none, incomplete, IsStart, Question, Twice}
 use Rattle.demands.proofs.Asking.{start-asks, short-asks}
 

@@ -4,7 +4,7 @@ use Prim.Native.Nat.{ℕ, _≤_}
 use mathlib.Core.List.{List, [], _∷_}
 use mathlib.Core.Bool.{true, false}
 use lib.ListN.{length, replicate}
-use Rattle.line.specs.Frames.{Frame}
+use Rattle.line.specs.Frames.{Frame, written}
 use Rattle.servo.specs.declared.Servo.{Servo}
 use Rattle.servo.specs.Servo.{started}
 use Rattle.servo.specs.Orders.{withCause, execute}
@@ -15,8 +15,8 @@ use Rattle.modules.specs.Types.{slots}
 use Rattle.network.specs.Record.{recordSize, netIn}
 use Rattle.doljurven.specs.Calls.{setupRecord}
 use Rattle.doljurven.specs.Promises.{ValidRecord}
-use Rattle.demands.specs.Motion.{Moves, Bound, Begins, Met, frame, sampling, tick, after, Handed, At}
-use Rattle.demands.specs.Question.{Missed, NoneReady, IsStart, ShortLoad}
+use Rattle.demands.specs.Motion.{Moves, Bound, Begins, Starts, Met, frame, sampling, tick, after, Handed, StartedIn, At}
+use Rattle.demands.specs.Question.{Missed, NoneReady, IsStart, called, ShortLoad}
 
 abbrev pub sent : ℕ → List ℕ → Frame
 sent code ds = record { address = 0; code = code; content = ds; damaged = false }
@@ -80,3 +80,7 @@ pub record Examples : Type 0 where
   pub valid : ValidRecord lent
   pub room : 608 ≤ length space
   pub line : ShortLoad (netIn slots lent) 0 started 0 0 (cut .content)
+  -- and so what the promises say of them
+  pub starts : Starts run true awake
+  pub startedIn : StartedIn awake history
+  pub called : At (called space (written 0 5 []) (called space (written 0 4 (cut .content)) lent)) 0 (withCause 3 started)

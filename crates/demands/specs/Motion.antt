@@ -100,11 +100,12 @@ FrameStarts = (f : Frame) (alone : Bool) (m : Servo) → Fits m → Begins m (ex
 abbrev pub StartsAreExecuted : Type 0
 StartsAreExecuted = (f : Frame) (alone : Bool) (m : Servo) → Starts f alone m → execute f alone m .station .cause ≡ 0
 
--- A tick sets a servo moving only toward a goal that it already had; at rest it leaves it at rest, its setpoint where it was. A sample never does.
+-- A tick sets a servo moving only toward a goal that it had, and gives it none; at rest it stays, its setpoint too. A sample begins nothing.
 pub record TickStarts : Type 0 where
   pub tick : (m : Servo) → Fits m → (Moves m → ⊥) → Moves (ticked m) → Bound m
+  pub goal : (m : Servo) → Fits m → Bound (ticked m) → Bound m
   pub rests : (m : Servo) → Fits m → Resting m → Resting (ticked m) × (ticked m .profile .setpoint ≡ m .profile .setpoint)
-  pub sampling : (x : Sample) (m : Servo) → (Moves (sampled x m) → Moves m) × (Bound (sampled x m) → Bound m)
+  pub sampling : (x : Sample) (m : Servo) → Begins m (sampled x m) → ⊥
 
 -- what a servo meets: a frame that touched it, individually or by group, a sample, a tick; and the servo after all that it met
 pub data Met : Type 0 where
@@ -137,10 +138,11 @@ pub record StartedIn (m : Servo) (es : List Met) : Type 0 where
   pub split : es ≡ before ++ frame f alone ∷ later
   pub start : Starts f alone (after before m)
 
--- Through any history at any servo: one that was at rest and is so no longer has met one of the three; so has one that moves.
+-- Through any history: a servo that was at rest and is not, or moves, has met one of the three; so has one that has a goal and had none.
 pub record Never : Type 0 where
   pub rest : (es : List Met) (m : Servo) → Fits m → Handed es → Resting m → (Resting (after es m) → ⊥) → StartedIn m es
   pub motion : (es : List Met) (m : Servo) → Fits m → Handed es → Resting m → Moves (after es m) → StartedIn m es
+  pub goal : (es : List Met) (m : Servo) → Fits m → Handed es → (Bound m → ⊥) → Bound (after es m) → StartedIn m es
 
 -- the servo m is at place i of the network that a record holds
 abbrev pub At : List ℕ → ℕ → Servo → Type 0
@@ -152,8 +154,7 @@ pub record LineStarts (n : Net Module) (b : Byte) (i : ℕ) (m : Servo) : Type 0
   pub touches : touched true (n .receiver .address) (addresses kind (n .modules)) i ≡ true
   pub starts : Starts (frameIn (n .receiver) false) (individually (n .receiver .address) (m .station .address)) m
 
--- Motion starts, by the exported calls on any valid record, with a servo m at place i before and k after: a byte begins motion only as the end
--- of one of the three; a tick only toward a goal that the servo has; a sample never; after setup every servo is at rest.
+-- The exported calls, with the servo m at place i before and k after: motion begins with the last byte of one of the three, or at a tick toward a goal.
 pub record CallStarts : Type 0 where
   pub byte : (net : List ℕ) (mark byte : ℕ) (room : List ℕ) (i : ℕ) (m k : Servo)
       → byte < 256 → ValidRecord net → At net i m → At (byteRecord net mark byte room) i k
@@ -161,8 +162,7 @@ pub record CallStarts : Type 0 where
       → LineStarts (netIn slots net) (byteOf byte (eqb mark 1)) i m
   pub tick : (net : List ℕ) (i : ℕ) (m k : Servo)
       → ValidRecord net → At net i m → At (tickRecord net) i k
-      → (Moves m → ⊥) → Moves k
-      → Bound m
+      → ((Moves m → ⊥) → Moves k → Bound m) × (Bound k → Bound m)
   pub servoSample : (net : List ℕ) (place raw power ad i : ℕ) (m k : Servo)
       → ServoHanded raw ad → ValidRecord net → At net i m
       → At (sampleRecord (servoSampleTable net place power) net place (servoSampleOf raw power ad)) i k

@@ -78,9 +78,9 @@ abbrev pub called : List ℕ → List ℕ → List ℕ → List ℕ
 called room [] net = net
 called room (x ∷ xs) net = called room xs (byteRecord net 0 x room)
 
--- a Load with the data bytes ds, whose count is wrong, for address a, then a Start for address b, of which b names the servo m at place i
+-- a Load for address a, whose data bytes ds are not as many as it asks for, then a Start for address b, which touches the servo m at place i
 pub record ShortLoad (n : Net Module) (i : ℕ) (m : Servo) (a b : ℕ) (ds : List ℕ) : Type 0 where
-  pub idle : n .receiver ≡ idle
+  pub receiver : n .receiver ≡ idle
   pub here : getElem? (n .modules) i ≡ some (inl m)
   pub load : (a < 256) × AreBytes ds × (length ds ≤ 15)
   pub short : length ds ≡ needed (getD ds 0 0) → ⊥
