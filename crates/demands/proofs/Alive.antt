@@ -97,19 +97,18 @@ in-turns =
     let (x, (y, (z, u))) = to-inout in
     (x, (a, (y, (b, (c, (z, (d, tt)))))))
 
-lives-first : Lives (run kind oneByOne ready)
+lives : Lives (run kind oneByOne ready) × Lives (run kind inTurns ready)
 unfolding ready taken byteStep Station.asked InoutCommands.own InoutCommands.request Inout.execute Inout.reply Pins.blend Report.report Report.replyOf Orders.own Orders.request Orders.gainRequest Orders.gainsFit Orders.gainsIn Orders.stopRequest Orders.haltOf Orders.loadRequest ones Carried.inRange Carried.carriedIn Loads.loaded Loads.loadOf Loads.wayOf Loads.complete Loads.startable Loads.signedBy Loads.start Servo.idled Performed.stopped Performed.execute Filter.held Tick.putOut Tick.pulsed Tick.ticked Answers.done Answers.status Answers.numbers Answers.reply Answers.outputsOf
-lives-first = record { servoDrives = refl; inoutDrives = refl; servoReplied = refl; inoutReplied = refl }
-
-lives-second : Lives (run kind inTurns ready)
-unfolding ready taken byteStep Station.asked InoutCommands.own InoutCommands.request Inout.execute Inout.reply Pins.blend Report.report Report.replyOf Orders.own Orders.request Orders.gainRequest Orders.gainsFit Orders.gainsIn Orders.stopRequest Orders.haltOf Orders.loadRequest ones Carried.inRange Carried.carriedIn Loads.loaded Loads.loadOf Loads.wayOf Loads.complete Loads.startable Loads.signedBy Loads.start Servo.idled Performed.stopped Performed.execute Filter.held Tick.putOut Tick.pulsed Tick.ticked Answers.done Answers.status Answers.numbers Answers.reply Answers.outputsOf
-lives-second = record { servoDrives = refl; inoutDrives = refl; servoReplied = refl; inoutReplied = refl }
+lives = (
+  record { servoDrives = refl; inoutDrives = refl; servoReplied = refl; inoutReplied = refl },
+  record { servoDrives = refl; inoutDrives = refl; servoReplied = refl; inoutReplied = refl },
+)
 
 pub alive : Alive
 unfolding firstAddress
 alive = record {
-  first = lives-first;
-  second = lives-second;
+  first = lives .0;
+  second = lives .1;
   differ = λ e. let z : _≡_ {A = ℕ} 1 2 = ap firstAddress e in omega arith;
   idles = idles;
   firstOrdinary = one-by-one;

@@ -7,7 +7,8 @@ use super::station::{Device, Station, Touch, EXECUTED};
 use crate::calls::{BAD_FIELD, BAD_PLACE};
 use crate::slips::Slip;
 
-/// A module of whatever type. Boxed: optimised by rustc 1.95, a plain `Io` read from a record lost two of its bytes.
+/// A module of whatever type. Boxed: with plain variants an optimised build once gave two wrong bytes of an `Io`, and
+/// why was not found.
 #[derive(Clone, Debug, PartialEq, Eq)]
 pub enum Module {
     Servo(Box<Servo>),
