@@ -16,6 +16,7 @@ use Rattle.orders.specs.declared.Request.{Request}
 use Rattle.orders.specs.declared.Request.the-variants.{Malformed, Wants}
 use Rattle.orders.specs.Loads.{isSet, needed, carriedIn, inRange}
 use Rattle.orders.specs.Orders.{loadRequest, gainsIn, tuningIn, gainsFit, gainRequest, haltOf, oneHalt, stopCount, stopRequest, own, joined, request}
+use Rattle.orders.proofs.Asks.{pick}
 use Rattle.orders.proofs.Taken.{load-read}
 
 -- the code and count of what is asked, where it can start motion
@@ -29,11 +30,6 @@ Evident code ds (Wants Start) = (code ≡ 5) × (length ds ≡ 0)
 Evident code ds (Wants (SetGain t)) = Unit {0}
 Evident code ds (Wants (Stop a h x)) = h ≡ Here → (code ≡ 7) × (length ds ≡ 5)
 Evident code ds (Wants ClearBits) = Unit {0}
-
--- of one or the other, by a test that tells
-choose : {A : Type 0} (P : A → Type 0) (t : Bool) (q r : A) → (t ≡ true → P q) → P r → P (cond t q r)
-choose P true q r g h = g refl
-choose P false q r g h = h
 
 -- Stop Here has bit 4, so it asks for five bytes
 five : (a b c d : Bool) → cond a Release (cond b Abrupt (cond c Smooth (cond d Here Keep))) ≡ Here → _≡_ {A = ℕ} (cond d 5 1) 5
@@ -51,20 +47,20 @@ own-evident : (code : ℕ) (ds : List ℕ) → Evident code ds (own code ds)
 unfolding own loadRequest gainRequest stopRequest
 own-evident code ds =
     let P : Request → Type 0 = Evident code ds in
-    let if : (t : Bool) (q : Request) → (t ≡ true → P q) → P (cond t q Malformed) = λ t q h. choose P t q Malformed h tt in
-    choose P (eqb code 0) _ _ (λ t. if (eqb (length ds) 0) _ (λ n. tt))
-    (choose P (eqb code 4) _ _
+    let if : (t : Bool) (q : Request) → (t ≡ true → P q) → P (cond t q Malformed) = λ t q h. pick P t q Malformed h tt in
+    pick P (eqb code 0) _ _ (λ t. if (eqb (length ds) 0) _ (λ n. tt))
+    (pick P (eqb code 4) _ _
     (λ t. if (eqb (length ds) (needed (getD ds 0 0))) _ (λ n. if (inRange (carriedIn ds)) _ (λ h. (eqb-true _ _ t, eqb-true _ _ n))))
-    (choose P (eqb code 5) _ _ (λ t. if (eqb (length ds) 0) _ (λ n. (eqb-true _ _ t, eqb-true _ _ n)))
-    (choose P (eqb code 6) _ _
+    (pick P (eqb code 5) _ _ (λ t. if (eqb (length ds) 0) _ (λ n. (eqb-true _ _ t, eqb-true _ _ n)))
+    (pick P (eqb code 6) _ _
     (λ t.
     if (eqb (length ds) 15) _
     (λ n. if (gainsFit (gainsIn ds) && eqb (getD ds 12 0) 1 && eqb (getD ds 13 0) 0) (Wants (SetGain (tuningIn ds))) (λ h. tt)))
-    (choose P (eqb code 7) _ _
+    (pick P (eqb code 7) _ _
     (λ t.
     if (eqb (length ds) (stopCount (getD ds 0 0))) _
     (λ n. if (oneHalt (getD ds 0 0)) _ (λ h e. (eqb-true _ _ t, eqb-true _ _ n ∙ here-five (getD ds 0 0) e))))
-    (choose P (eqb code 11) _ _ (λ t. if (eqb (length ds) 0) _ (λ n. tt))
+    (pick P (eqb code 11) _ _ (λ t. if (eqb (length ds) 0) _ (λ n. tt))
     tt)))))
 
 pub evident : (f : Frame) (alone : Bool) → Evident (f .code) (f .content) (request f alone)

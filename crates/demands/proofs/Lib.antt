@@ -1,10 +1,11 @@
-pub mod Histories
-pub mod Alone
-pub mod Order
-pub mod Alive
-pub mod Asking
+mod Asking
+pub mod Calls
 pub mod Motion
+pub mod EveryCall
 pub mod Question
+pub mod Order
 pub mod OnTheLine
-pub mod ByCalls
-pub mod Example
+pub mod Alive
+pub mod Sheet
+pub mod Meaning
+pub mod Examples

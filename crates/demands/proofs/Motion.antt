@@ -5,6 +5,7 @@ use mathlib.Core.List.{List, [], _∷_}
 use mathlib.Core.Bool.{Bool, true, false, true≢false, false≢true}
 use Prim.Native.Nat.{ℕ}
 use native.Mathlib.Omega.{arith}
+use lib.ListN.{length}
 use lib.Dec.{eqb}
 use lib.IntN.{ℤ, pos, natAbs, _-ℤ_}
 use Rattle.integers.specs.Whole.{same}
@@ -44,8 +45,7 @@ use Rattle.servo.proofs.AtRest.{stays-resting}
 use Rattle.servo.proofs.Placing.{only-here}
 use Rattle.positioner.specs.Promises.{Fits}
 use Rattle.positioner.proofs.Good.{InMode, good}
-use Rattle.positioner.proofs.Within.{kept}
-use Rattle.demands.specs.Motion.{Moves, Bound, RestIs, Begins, moving, bound, put, Starts, byStart, byLoad, byStopHere, FrameStarts, StartsAreExecuted, TickStarts, Met, frame, sampling, tick, meets, after, Handed, StartedIn, Never}
+use Rattle.demands.specs.Motion.{Moves, Bound, AtRest, Begins, moving, bound, put, Asks, Starts, byStart, byLoad, byStopHere, StartsAreExecuted}
 use Rattle.demands.proofs.Asking.{Evident, evident}
 
 -- the servos that a slot can hold have counts within their bytes
@@ -79,17 +79,16 @@ rests-unbound : (m : Servo) → Resting m → Bound m → ⊥
 rests-unbound m r (inl b) = b .1 (r .aim (b .0))
 rests-unbound m r (inr b) = b .1 (r .goal (b .0))
 
-pub rest-is : RestIs
-rest-is m = (
-  λ r. (rests-still m r, rests-unbound m r),
-  λ n b.
-      record {
-        speed = stable _ (λ z. n (inl z));
-        pulse = stable _ (λ z. n (inr z));
-        aim = λ e. stable _ (λ z. b (inl (e, z)));
-        goal = λ e. stable _ (λ z. b (inr (e, z)));
-      },
-)
+pub resting-rests : (m : Servo) → Resting m → AtRest m
+resting-rests m r = (rests-still m r, rests-unbound m r)
+
+pub rests-resting : (m : Servo) → AtRest m → Resting m
+rests-resting m (n, b) = record {
+  speed = stable _ (λ z. n (inl z));
+  pulse = stable _ (λ z. n (inr z));
+  aim = λ e. stable _ (λ z. b (inl (e, z)));
+  goal = λ e. stable _ (λ z. b (inr (e, z)));
+}
 
 -- in any mode but the two no goal is gone to
 mode-unbound : (k : Mode) → eqb (number k) 3 ≡ false → eqb (number k) 4 ≡ false → (m : Servo) → m .drive .mode ≡ k → Bound m → ⊥
@@ -160,6 +159,10 @@ module _ (f : Frame) (alone : Bool) (m : Servo) where
   abbrev Unstarted : Type 0
   Unstarted = (c : Order) → f .damaged ≡ false → request f alone ≡ Wants c → can c m ≡ true → Quiet c
 
+  asks : {code count : ℕ} {c : Order} → f .damaged ≡ false → f .code ≡ code → length (f .content) ≡ count → request f alone ≡ Wants c
+      → Asks f alone code count c
+  asks d k n q = record { undamaged = d; named = k; whole = n; order = q }
+
   by-order : (c : Order) → f .damaged ≡ false → request f alone ≡ Wants c → can c m ≡ true → Starts f alone m ⊎ Quiet c
   by-order (Set s) d q t = inr (λ s. s, no-here (Set s) refl)
   by-order Reset d q t = inr (λ s. s, no-here Reset refl)
@@ -169,15 +172,15 @@ module _ (f : Frame) (alone : Bool) (m : Servo) where
       at : (s : Bool) → startsNow c ≡ s → Starts f alone m ⊎ Quiet (LoadTrajectory c)
       at true e =
           let v = subst (Evident (f .code) (f .content)) q (evident f alone) in
-          inl (byLoad c d (v .0) (v .1) q e (starts (loaded c m) .0 (sym (start-now c m .now e) ∙ t)))
+          inl (byLoad c (asks d (v .0) (v .1) q) e (starts (loaded c m) .0 (sym (start-now c m .now e) ∙ t)))
       at false e = inr (λ s. false≢true (sym e ∙ s), no-here (LoadTrajectory c) refl)
   by-order Start d q t =
       let v = subst (Evident (f .code) (f .content)) q (evident f alone) in
-      inl (byStart d (v .0) (v .1) q (starts m .0 t))
+      inl (byStart (asks d (v .0) (v .1) q) (starts m .0 t))
   by-order (SetGain g) d q t = inr (λ s. s, no-here (SetGain g) refl)
   by-order (Stop a Here x) d q t =
       let v = subst (Evident (f .code) (f .content)) q (evident f alone) refl in
-      inl (byStopHere a x d (v .0) (v .1) q (stops-now a x m .here .0 t))
+      inl (byStopHere a x (asks d (v .0) (v .1) q) (stops-now a x m .here .0 t))
   by-order (Stop a Keep x) d q t = inr (λ s. s, no-here (Stop a Keep x) refl)
   by-order (Stop a Release x) d q t = inr (λ s. s, no-here (Stop a Release x) refl)
   by-order (Stop a Abrupt x) d q t = inr (λ s. s, no-here (Stop a Abrupt x) refl)
@@ -288,7 +291,8 @@ frame-back P f alone m w o u =
 frame-bound : (f : Frame) (alone : Bool) (m : Servo) → Fits m → Unstarted f alone m → Bound (execute f alone m) → Bound m
 frame-bound f alone m t u b = frame-back Bound f alone m (λ c z. z) (λ c s. order-bound c m (counted m t) s) u b
 
-pub frame-starts : FrameStarts
+-- a frame that begins motion is one of the three
+pub frame-starts : (f : Frame) (alone : Bool) (m : Servo) → Fits m → Begins m (execute f alone m) → Starts f alone m
 frame-starts f alone m t b = at (starts? f alone m)
   where
     none : Unstarted f alone m → Begins m (execute f alone m) → ⊥
@@ -305,12 +309,13 @@ frame-starts f alone m t b = at (starts? f alone m)
     at (inr u) = absurd (none u b)
 
 pub starts-are-executed : StartsAreExecuted
-starts-are-executed f alone m (byStart d c n q s) = ap (λ (k : Servo). k .station .cause) (cause f alone m .executed Start d q (starts m .1 s))
-starts-are-executed f alone m (byLoad c d k n q e s) =
+starts-are-executed f alone m (byStart a s) =
+    ap (λ (k : Servo). k .station .cause) (cause f alone m .executed Start (a .undamaged) (a .order) (starts m .1 s))
+starts-are-executed f alone m (byLoad c a e s) =
     ap (λ (k : Servo). k .station .cause)
-    (cause f alone m .executed (LoadTrajectory c) d q (start-now c m .now e ∙ starts (loaded c m) .1 s))
-starts-are-executed f alone m (byStopHere a x d c n q r) =
-    ap (λ (k : Servo). k .station .cause) (cause f alone m .executed (Stop a Here x) d q (stops-now a x m .here .1 r))
+    (cause f alone m .executed (LoadTrajectory c) (a .undamaged) (a .order) (start-now c m .now e ∙ starts (loaded c m) .1 s))
+starts-are-executed f alone m (byStopHere h x a r) =
+    ap (λ (k : Servo). k .station .cause) (cause f alone m .executed (Stop h Here x) (a .undamaged) (a .order) (stops-now h x m .here .1 r))
 
 -- ---- ticks
 
@@ -333,7 +338,7 @@ module _ (m : Servo) (t : Fits m) where
       let i = subst (λ (k : Mode). InMode k (m .latched .power) (m .profile) (m .memory) (m .drive)) (b .0) (s .mode) in
       inr (b .0, λ e. b .1 (ap (λ (k : Mode). left (advancedBy k (m .profile))) (b .0) ∙ at-goal (m .profile) (s .profile) (i .2) e))
 
-  ticked-bound : Bound (ticked m) → Bound m
+  pub ticked-bound : Bound (ticked m) → Bound m
   unfolding unpowered pulsed tripped idled off
   ticked-bound = ends (λ (n : Servo). Bound n → Bound m) m (record {
     low = λ q b. absurd (mode-unbound Off refl refl (unpowered (latch m)) refl b);
@@ -343,69 +348,25 @@ module _ (m : Servo) (t : Fits m) where
     trip = λ q b. absurd (mode-unbound Off refl refl (tripped (advanced (latch m)) (latch m)) refl b);
   })
 
-  ticked-rests : Resting m → Resting (ticked m) × (ticked m .profile .setpoint ≡ m .profile .setpoint)
-  ticked-rests r = stays-resting .tick m (good m t .sane .profile .setpoint) r
+  pub ticked-rests : Resting m → Resting (ticked m)
+  ticked-rests r = stays-resting .tick m (good m t .sane .profile .setpoint) r .0
 
-  ticked-moves : (Moves m → ⊥) → Moves (ticked m) → Bound m
+  pub ticked-moves : (Moves m → ⊥) → Moves (ticked m) → Bound m
   ticked-moves n z = at (bound? m)
     where
       at : Bound m ⊎ (Bound m → ⊥) → Bound m
       at (inl b) = b
-      at (inr u) = absurd (rests-still (ticked m) (ticked-rests (rest-is m .1 n u) .0) z)
+      at (inr u) = absurd (rests-still (ticked m) (ticked-rests (rests-resting m (n, u))) z)
 
-sampled-begins : (x : Sample) (m : Servo) → Begins m (sampled x m) → ⊥
+pub sampled-begins : (x : Sample) (m : Servo) → Begins m (sampled x m) → ⊥
 sampled-begins x m (moving n z) = n z
 sampled-begins x m (bound n z) = n z
 sampled-begins x m (put a z) = a refl
 
-pub tick-starts : TickStarts
-tick-starts = record { tick = ticked-moves; goal = ticked-bound; rests = ticked-rests; sampling = sampled-begins }
-
--- ---- histories
-
--- a start in what comes after the first that is met
-later : (e : Met) (es : List Met) (m : Servo) → StartedIn (meets e m) es → StartedIn m (e ∷ es)
-later e es m s = record {
-  before = e ∷ s .before;
-  f = s .f;
-  alone = s .alone;
-  later = s .later;
-  split = ap (λ (l : List Met). e ∷ l) (s .split);
-  start = s .start;
-}
-
--- what ticks, samples and all other frames keep, and is lost, was lost by a start
-module _ (Q : Servo → Type 0)
-    (framed : (f : Frame) (alone : Bool) (m : Servo) → Fits m → Unstarted f alone m → Q m → Q (execute f alone m))
-    (seen : (x : Sample) (m : Servo) → Q m → Q (sampled x m))
-    (timed : (m : Servo) → Fits m → Q m → Q (ticked m)) where
-  started : (es : List Met) (m : Servo) → Fits m → Handed es → Q m → (Q (after es m) → ⊥) → StartedIn m es
-  started [] m t h r n = absurd (n r)
-  started (frame f alone ∷ es) m t h r n =
-      at (starts? f alone m) (λ q. started es (execute f alone m) (kept .frame f alone m (h .0) t) (h .1) q n)
-    where
-      at : Starts f alone m ⊎ Unstarted f alone m → (Q (execute f alone m) → StartedIn (execute f alone m) es) → StartedIn m (frame f alone ∷ es)
-      at (inl s) g = record { before = []; f = f; alone = alone; later = es; split = refl; start = s }
-      at (inr u) g = later (frame f alone) es m (g (framed f alone m t u r))
-  started (sampling x ∷ es) m t h r n =
-      later (sampling x) es m (started es (sampled x m) (kept .sampling x m (h .0) t) (h .1) (seen x m r) n)
-  started (tick ∷ es) m t h r n = later tick es m (started es (ticked m) (kept .tick m t) h (timed m t r) n)
-
-rest-lost : (es : List Met) (m : Servo) → Fits m → Handed es → Resting m → (Resting (after es m) → ⊥) → StartedIn m es
-rest-lost =
-    started Resting
-    (λ f alone m t u r. stays-resting .frame f alone m (counted m t) r (λ c d q k. u c d q k .0))
-    (λ x m r. stays-resting .sampling x m r)
-    (λ m t r. ticked-rests m t r .0)
-
-pub never : Never
-never = record {
-  rest = rest-lost;
-  motion = λ es m t h r z. rest-lost es m t h r (λ q. rests-still (after es m) q z);
-  goal = λ es m t h n b.
-      started (λ (m : Servo). Bound m → ⊥)
-      (λ f alone m t u n b. n (frame-bound f alone m t u b))
-      (λ x m n. n)
-      (λ m t n b. n (ticked-bound m t b))
-      es m t h n (λ q. q b);
-}
+-- at rest a servo stays, whatever frame comes, unless it is one of the three
+pub frame-rests : (f : Frame) (alone : Bool) (m : Servo) → Fits m → Resting m → Starts f alone m ⊎ Resting (execute f alone m)
+frame-rests f alone m t r = at (starts? f alone m)
+  where
+    at : Starts f alone m ⊎ Unstarted f alone m → Starts f alone m ⊎ Resting (execute f alone m)
+    at (inl s) = inl s
+    at (inr u) = inr (stays-resting .frame f alone m (counted m t) r (λ c d q k. u c d q k .0))

@@ -1,146 +1,130 @@
--- The mill's question on the line, byte by byte, and through the exported call. Assumes nothing.
-use mathlib.Core.Path.{_≡_, refl, sym, ap, ap₂, _∙_}
+-- The mill's question on the line, byte by byte, through the exported call. Assumes nothing.
+use mathlib.Core.Path.{_≡_, refl, sym, ap, ap₂, subst⁻¹, _∙_}
 use mathlib.Core.Logic.{inl, inr}
-use mathlib.Core.List.{List, [], _∷_, _++_}
-use mathlib.Core.Bool.{Bool, true, false, cond, _&&_}
+use mathlib.Core.List.{List, [], _∷_, _++_, map, map-append, append-nil}
+use mathlib.Core.Bool.{Bool, true, false, cond, _&&_, true≢false}
 use mathlib.Core.Option.{Option, some, Option·map}
-use Prim.Native.Nat.{ℕ, _+_, _*_, _<_, _≤_}
+use Prim.Native.Nat.{ℕ, _≤_}
 use native.Mathlib.Omega.{arith}
-use borrow.Author.Tests.{le-ltb}
+use borrow.Author.Tests.{le-ltb, ltb-true}
 use lib.ListN.{length, getElem?}
-use Rattle.line.specs.declared.Receiver.{Receiver}
-use Rattle.line.specs.declared.Answer.{Answer}
-use Rattle.line.specs.declared.Answer.the-variants.{Ended, Nothing}
-use Rattle.line.specs.Receive.{idle, taken, sum8}
-use Rattle.line.specs.Frames.{Byte, Frame, frameIn, clean, written, ended, reads, AreBytes}
-use Rattle.line.proofs.Holding.{reads-on, reads-end}
-use Rattle.line.proofs.Read.{read}
+use lib.Dec.{eqb, ltb}
+use Rattle.line.specs.Receive.{idle}
+use Rattle.line.specs.Frames.{Byte, Frame, values, AreBytes}
 use Rattle.station.specs.declared.Address.{Address}
-use Rattle.station.specs.Touch.{individually, named}
-use Rattle.chain.specs.Chain.{Net, Step, addresses, touched, executed, handed}
-use Rattle.chain.proofs.Bytes.{step-on, step-end}
+use Rattle.station.specs.Touch.{individually}
+use Rattle.chain.specs.Chain.{Net, addresses, touched, executed}
 use Rattle.chain.proofs.Touching.{touched-before}
-use Rattle.inout.proofs.Address as InoutAddress
 use Rattle.servo.specs.declared.Servo.{Servo}
 use Rattle.servo.specs.Orders.{withCause, execute}
-use Rattle.servo.proofs.Address as ServoAddress
-use Rattle.modules.specs.Types.{Module, kind, slots}
+use Rattle.modules.specs.Types.{Module, AnySample, kind, slots}
 use Rattle.network.specs.Record.{netIn, valid}
-use Rattle.doljurven.specs.Table.{byteTable}
-use Rattle.doljurven.specs.Calls.{byteRecord}
+use Rattle.network.specs.Calls.{byteOf}
 use Rattle.doljurven.specs.Promises.{ValidRecord, Passes}
-use Rattle.doljurven.proofs.Kept.{kept, holds}
-use Rattle.demands.specs.Question.{short, fed, QuestionOnTheLine, called, ShortLoad, ShortLoadOnTheLine}
+use Rattle.histories.specs.Events.{Event, sent, Outcome, taking, run, Reads, singly}
+use Rattle.histories.specs.Calls.{Call, byte, AllHanded, refusals, leaves, leftBy, doneBy}
+use Rattle.histories.proofs.Events.{whole-event, event-idle}
+use Rattle.histories.proofs.Singly.{run-singly}
+use Rattle.histories.proofs.Calls.{call-kept}
+use Rattle.demands.specs.Motion.{Missed, NoneReady, IsStart, fed, QuestionOnTheLine}
+use Rattle.demands.proofs.Calls.{done-passed, any-calls}
+use Rattle.demands.proofs.Order.{keeps-address, kept-handed}
 use Rattle.demands.proofs.Question.{question}
 
--- the bytes of a whole frame hand that frame along
-abbrev framed : Frame → Receiver → List Module → Net Module
-framed f r ms = record { receiver = r; modules = handed kind f true ms }
+-- ---- bytes handed over by calls
 
-whole : (bs : List Byte) (n : Net Module) (f : Frame) (r : Receiver) → reads bs (n .receiver) ≡ ended f r [] → fed bs n ≡ framed f r (n .modules)
-unfolding reads
-whole [] n f r e = let z : _≡_ {A = ℕ} 0 1 = cc in absurd (omega arith)
-whole (b ∷ bs) n f r e = go (λ n. whole bs n f r) (taken (n .receiver) (b .value) (b .mark) .answer) (taken (n .receiver) (b .value) (b .mark) .next) refl
+-- bytes, by a test
+abbrev pub areSmall : List ℕ → Bool
+areSmall [] = true
+areSmall (x ∷ xs) = ltb x 256 && areSmall xs
+
+pub small : (xs : List ℕ) → areSmall xs ≡ true → AreBytes xs
+small [] e = tt
+small (x ∷ xs) e = at (ltb x 256) refl e (small xs)
   where
-    go : ((n : Net Module) → reads bs (n .receiver) ≡ ended f r [] → fed bs n ≡ framed f r (n .modules))
-        → (a : Answer) (k : Receiver) → taken (n .receiver) (b .value) (b .mark) ≡ record { next = k; answer = a }
-        → fed (b ∷ bs) n ≡ framed f r (n .modules)
-    go ih Nothing k q =
-        ap (λ (s : Step Module). fed bs (s .net)) (step-on kind n b k q)
-        ∙ ih (record { receiver = k; modules = n .modules }) (sym (reads-on b bs (n .receiver) k q) ∙ e)
-    go ih (Ended d) k q =
-        let g : ended (frameIn (n .receiver) d) k bs ≡ ended f r [] = sym (reads-end b bs (n .receiver) k d q) ∙ e in
-        let gf : frameIn (n .receiver) d ≡ f = cc in
-        let gr : k ≡ r = cc in
-        let gb : bs ≡ [] = cc in
-        ap (λ (s : Step Module). fed bs (s .net)) (step-end kind n b k d q) ∙ rw (gb, gf, gr) refl
+    at : (t : Bool) → ltb x 256 ≡ t → t && areSmall xs ≡ true → (areSmall xs ≡ true → AreBytes xs) → AreBytes (x ∷ xs)
+    at true q e ih = (ltb-true _ _ q, ih e)
+    at false q e ih = absurd (true≢false (sym e))
 
--- a Load changes nobody's address
-load-address : (f : Frame) (alone : Bool) (m : Module) → f .code ≡ 4 → kind .address (kind .execute f alone m) ≡ kind .address m
-load-address f alone (inl m) c = ServoAddress.address-kept .frame f alone m (λ e. omega arith) (λ e. omega arith)
-load-address f alone (inr m) c = InoutAddress.address-kept .frame f alone m (λ e. omega arith) (λ e. omega arith)
-
-load-addresses : (f : Frame) (t : Bool) (ms : List Module) → f .code ≡ 4 → addresses kind (handed kind f t ms) ≡ addresses kind ms
-load-addresses f t [] c = refl
-load-addresses f t (m ∷ ms) c = ap₂ _∷_ (at (t && named (f .address) (kind .address m))) (load-addresses f (kind .address m .low) ms c)
+byte-goes : (net room : List ℕ) (b : Byte) → valid slots net ≡ true → 608 ≤ length room → Passes (refusals net (byte (cond (b .mark) 1 0) (b .value) room))
+byte-goes net room b v r = at (b .mark)
   where
-    at : (u : Bool) → kind .address (cond u (executed kind f m) m) ≡ kind .address m
-    at true = load-address f (individually (f .address) (kind .address m)) m c
-    at false = refl
+    at : (t : Bool) → Passes (refusals net (byte (cond t 1 0) (b .value) room))
+    at true = rw (v, le-ltb (length room) 608 r) refl
+    at false = rw (v, le-ltb (length room) 608 r) refl
+
+pub fed-handed : (room : List ℕ) (bs : List Byte) → AreBytes (values bs) → AllHanded (fed room bs)
+fed-handed room [] h = tt
+fed-handed room (b ∷ bs) h = (h .0, fed-handed room bs (h .1))
+
+-- the byte that a call hands over is the byte
+handed-over : (v : ℕ) (t : Bool) → byteOf v (eqb (cond t 1 0) 1) ≡ record { value = v; mark = t }
+handed-over v true = refl
+handed-over v false = refl
+
+-- they are done, one by one
+pub fed-done : (room : List ℕ) (bs : List Byte) (net : List ℕ) → 608 ≤ length room → ValidRecord net → AreBytes (values bs)
+    → doneBy (fed room bs) net ≡ map (λ (b : Byte). sent (b ∷ [])) bs
+fed-done room [] net r v h = refl
+fed-done room (b ∷ bs) net r v h =
+    let c : Call = byte (cond (b .mark) 1 0) (b .value) room in
+    done-passed c (fed room bs) net (byte-goes net room b (v .0) r)
+    ∙ ap₂ (λ (b : Byte) (l : List (Event AnySample)). sent (b ∷ []) ∷ l) (handed-over (b .value) (b .mark))
+    (fed-done room bs (leaves net c) r (call-kept net c (h .0) v) (h .1))
+
+-- two frames, one after the other
+pub fed-two : (room : List ℕ) (bs ds : List Byte) (net : List ℕ) → 608 ≤ length room → ValidRecord net → AreBytes (values (bs ++ ds))
+    → doneBy (fed room (bs ++ ds)) net ≡ singly (sent bs ∷ sent ds ∷ [])
+fed-two room bs ds net r v h =
+    let each : Byte → Event AnySample = λ b. sent (b ∷ []) in
+    fed-done room (bs ++ ds) net r v h
+    ∙ map-append each bs ds
+    ∙ ap (λ (l : List (Event AnySample)). map each bs ++ l) (sym (append-nil (map each ds)))
+
+pub fed-both : (room : List ℕ) (bs ds : List Byte) (net : List ℕ) → 608 ≤ length room → ValidRecord net → AreBytes (values (bs ++ ds))
+    → netIn slots (leftBy (fed room (bs ++ ds)) net) ≡ run kind (sent bs ∷ sent ds ∷ []) (netIn slots net) .net
+fed-both room bs ds net r v h =
+    any-calls net (fed room (bs ++ ds)) v (fed-handed room (bs ++ ds) h) .network
+    ∙ ap (λ (l : List (Event AnySample)). run kind l (netIn slots net) .net) (fed-two room bs ds net r v h)
+    ∙ ap (λ (o : Outcome Module). o .net) (run-singly kind (sent bs ∷ sent ds ∷ []) (netIn slots net))
+
+-- ---- two frames at one place
 
 -- a servo that a frame may have reached is still a servo
 reached-is : (t : Bool) (x y : Servo) → _≡_ {A = Module} (cond t (inl x) (inl y)) (inl (cond t x y))
 reached-is true x y = refl
 reached-is false x y = refl
 
+-- what the bytes of a frame make of the servo at a place
+place-after : (n : Net Module) (i : ℕ) (m : Servo) (bs : List Byte) (f : Frame) → n .receiver ≡ idle → Reads bs f → getElem? (n .modules) i ≡ some (inl m)
+    → getElem? (taking kind bs n .net .modules) i
+    ≡ some (inl (cond (touched true (f .address) (addresses kind (n .modules)) i) (execute f (individually (f .address) (m .station .address)) m) m))
+place-after n i m bs f z q e =
+    let t : Bool = touched true (f .address) (addresses kind (n .modules)) i in
+    ap (λ (o : Outcome Module). getElem? (o .net .modules) i) (whole-event kind n z bs f q)
+    ∙ touched-before kind f (n .modules) i
+    ∙ ap (λ (o : Option Module). Option·map (λ (m : Module). cond t (executed kind f m) m) o) e
+    ∙ ap some (reached-is t (execute f (individually (f .address) (m .station .address)) m) m)
+
+-- a Load changes nobody's address
+load-addresses : (n : Net Module) (bs : List Byte) (f : Frame) → n .receiver ≡ idle → Reads bs f → f .code ≡ 4
+    → addresses kind (taking kind bs n .net .modules) ≡ addresses kind (n .modules)
+load-addresses n bs f z q c =
+    ap (λ (o : Outcome Module). addresses kind (o .net .modules)) (whole-event kind n z bs f q)
+    ∙ kept-handed kind keeps-address f true (n .modules) (inr (λ e. omega arith, λ e. omega arith))
+
 pub question-on-the-line : QuestionOnTheLine
-question-on-the-line n i m loadBytes startBytes load start z here l c x k s g t =
-    let ms : List Module = n .modules in
-    let ns : List Module = handed kind load true ms in
-    let reached : Bool = touched true (load .address) (addresses kind ms) i in
+question-on-the-line net room i m loadBytes startBytes load start v r h z here unready readsLoad c missed readsStart isStart touches =
+    let n : Net Module = netIn slots net in
+    let n′ : Net Module = taking kind loadBytes n .net in
+    let reached : Bool = touched true (load .address) (addresses kind (n .modules)) i in
     let alone : Bool = individually (load .address) (m .station .address) in
-    let y : Servo = cond reached (execute load alone m) m in
-    let apart : Bool = individually (start .address) (y .station .address) in
-    let all : fed startBytes (fed loadBytes n) ≡ framed start idle ns =
-    ap (fed startBytes) (whole loadBytes n load idle (ap (reads loadBytes) z ∙ l))
-    ∙ whole startBytes (framed load idle ms) start idle s in
-    let one : getElem? ns i ≡ some (inl y) =
-    touched-before kind load ms i
-    ∙ ap (λ (o : Option Module). Option·map (λ (m : Module). cond reached (executed kind load m) m) o) here
-    ∙ ap some (reached-is reached (execute load alone m) m) in
-    let touches : touched true (start .address) (addresses kind ns) i ≡ true =
-    ap (λ (ws : List Address). touched true (start .address) ws i) (load-addresses load true ms c) ∙ t in
-    ap (λ (n : Net Module). getElem? (n .modules) i) all
-    ∙ touched-before kind start ns i
-    ∙ ap₂ (λ (t : Bool) (o : Option Module). Option·map (λ (m : Module). cond t (executed kind start m) m) o) touches one
-    ∙ ap (λ (m : Servo). some (inl m)) (question m load start reached alone apart x k g)
-
--- ---- the frames as they are written, and the exported call
-
-bytes-append : (xs ys : List ℕ) → AreBytes xs → AreBytes ys → AreBytes (xs ++ ys)
-bytes-append [] ys h g = g
-bytes-append (x ∷ xs) ys h g = (h .0, bytes-append xs ys (h .1) g)
-
-written-bytes : (a code : ℕ) (ds : List ℕ) → a < 256 → code < 16 → length ds ≤ 15 → AreBytes ds → AreBytes (written a code ds)
-written-bytes a code ds h c l b =
-    (omega arith, (h, (omega arith, bytes-append ds (sum8 a (code + 16 * length ds) ds ∷ []) b (omega arith, tt))))
-
-byte-goes : (net room : List ℕ) → valid slots net ≡ true → 608 ≤ length room → Passes (byteTable net 0 room)
-byte-goes net room v r = rw (v, le-ltb (length room) 608 r) refl
-
-called-valid : (room xs net : List ℕ) → ValidRecord net → AreBytes xs → ValidRecord (called room xs net)
-called-valid room [] net v b = v
-called-valid room (x ∷ xs) net v b = called-valid room xs (byteRecord net 0 x room) (kept .byte net 0 x room (b .0) v) (b .1)
-
--- calls that are made with bytes one by one feed them to the network that the record holds
-called-fed : (room xs net : List ℕ) → 608 ≤ length room → ValidRecord net → AreBytes xs → netIn slots (called room xs net) ≡ fed (clean xs) (netIn slots net)
-called-fed room [] net r v b = refl
-called-fed room (x ∷ xs) net r v b =
-    called-fed room xs (byteRecord net 0 x room) r (kept .byte net 0 x room (b .0) v) (b .1)
-    ∙ ap (fed (clean xs)) (holds .byte net 0 x room (b .0) (v .1) (byte-goes net room (v .0) r))
-
-short-bytes : (n : Net Module) (i : ℕ) (m : Servo) (a b : ℕ) (ds : List ℕ) → ShortLoad n i m a b ds
-    → getElem? (fed (clean (written b 5 [])) (fed (clean (written a 4 ds)) n) .modules) i ≡ some (inl (withCause 3 m))
-short-bytes n i m a b ds h =
-    question-on-the-line n i m (clean (written a 4 ds)) (clean (written b 5 [])) _ _ (h .receiver) (h .here)
-    (read a 4 ds (h .load .0) (omega arith) (h .load .2))
-    refl
-    (short refl (h .short))
-    (h .unready)
-    (read b 5 [] (h .start .0) (omega arith) (omega arith))
-    (record { undamaged = refl; code = refl; empty = refl })
-    (h .start .1)
-
-pub short-load-on-the-line : ShortLoadOnTheLine
-short-load-on-the-line = record {
-  bytes = short-bytes;
-  calls = λ net room i m a b ds v r h.
-      let load : List ℕ = written a 4 ds in
-      let start : List ℕ = written b 5 [] in
-      let one = written-bytes a 4 ds (h .load .0) (omega arith) (h .load .2) (h .load .1) in
-      let two = written-bytes b 5 [] (h .start .0) (omega arith) (omega arith) tt in
-      ap (λ (n : Net Module). getElem? (n .modules) i)
-      (called-fed room start (called room load net) r (called-valid room load net v one) two
-      ∙ ap (fed (clean start)) (called-fed room load net r v one))
-      ∙ short-bytes (netIn slots net) i m a b ds h;
-}
+    let k : Servo = cond reached (execute load alone m) m in
+    let apart : Bool = individually (start .address) (k .station .address) in
+    let z′ : n′ .receiver ≡ idle = event-idle kind n z (sent loadBytes) (load, readsLoad) in
+    let touches′ : touched true (start .address) (addresses kind (n′ .modules)) i ≡ true =
+    ap (λ (ws : List Address). touched true (start .address) ws i) (load-addresses n loadBytes load z readsLoad c) ∙ touches in
+    ap (λ (n : Net Module). getElem? (n .modules) i) (fed-both room loadBytes startBytes net r v h)
+    ∙ place-after n′ i k startBytes start z′ readsStart (place-after n i m loadBytes load z readsLoad here)
+    ∙ ap (λ (t : Bool). some (inl (cond t (execute start apart k) k))) touches′
+    ∙ ap (λ (m : Servo). some (inl m)) (question m load start reached alone apart missed unready isStart)

@@ -1,6 +1,6 @@
 -- Order does not matter, for any chain and for this product's. Assumes nothing.
 use mathlib.Core.Path.{_≡_, refl, sym, ap, ap₂, _∙_}
-use mathlib.Core.List.{List, [], _∷_, map, append-nil}
+use mathlib.Core.List.{List, [], _∷_, map}
 use mathlib.Core.Bool.{Bool, true, false, cond, _&&_}
 use mathlib.Core.Option.{Option, some, none, Option·map}
 use mathlib.Core.Logic.{_⊎_, inl, inr}
@@ -12,19 +12,22 @@ use Rattle.line.specs.Receive.{idle}
 use Rattle.line.specs.Frames.{Frame}
 use Rattle.station.specs.declared.Address.{Address}
 use Rattle.station.specs.Touch.{named}
-use Rattle.chain.specs.Chain.{Kind, Net, Reply, addresses, executed, handed}
+use Rattle.chain.specs.Chain.{Kind, Net, repliesOf, addresses, executed, handed}
 use Rattle.chain.specs.Either.{either}
 use Rattle.network.specs.Walk.{changed}
 use Rattle.inout.specs.Module as Inout
 use Rattle.inout.proofs.Address as InoutAddress
 use Rattle.servo.specs.Answers as Servo
 use Rattle.servo.proofs.Address as ServoAddress
-use Rattle.modules.specs.Types.{kind}
-use Rattle.doljurven.specs.Calls.{stepOf}
-use Rattle.demands.specs.Histories.{Event, sent, sampled, ticked, Outcome, event, run, Harmless, Ordinary, metBy, metInTurn, alone, aloneReplies}
-use Rattle.demands.specs.Order.{MeetsTheSame, EndsTheSame, KeepsAddress, OrderDoesNotMatter, OrderOfAll, OfAnyKind, Product, AsCalled}
-use Rattle.demands.proofs.Histories.{fromSome, whole-event, event-idle}
-use Rattle.demands.proofs.Alone.{first-whole, later-frames, alone-at, each-alone}
+use Rattle.modules.specs.Types.{Module, AnySample, kind, slots}
+use Rattle.network.specs.Record.{netIn}
+use Rattle.histories.specs.Events.{Event, sent, sampled, ticked, Outcome, event, run, Harmless, Ordinary, singly, metBy, metInTurn, alone, aloneReplies}
+use Rattle.histories.specs.Calls.{Call, doneBy}
+use Rattle.demands.specs.Order.{EachAlone, MeetsTheSame, EndsTheSame, KeepsAddress, OrderDoesNotMatter, OrderOfAll, OfAnyKind, Product, ByCalls}
+use Rattle.histories.proofs.Events.{fromSome, whole-event, event-idle}
+use Rattle.histories.proofs.Alone.{first-whole, later-frames, alone-at}
+use Rattle.histories.proofs.Singly.{run-singly}
+use Rattle.demands.proofs.Calls.{any-calls}
 
 same-places : {M : Type 0} (a b : List M) → ((i : ℕ) → getElem? a i ≡ getElem? b i) → a ≡ b
 same-places [] [] h = refl
@@ -37,9 +40,12 @@ place-below [] i m e = let z : none ≡ some m = e in let y : _≡_ {A = ℕ} 0 
 place-below (x ∷ ms) zero m e = omega arith
 place-below (x ∷ ms) (suc i) m e = let h = place-below ms i m e in omega arith
 
+pub each-alone : {M S : Type 0} (K : Kind M S) → EachAlone K
+each-alone K n h i m z w e = let a = alone-at K (λ f. Unit {0}) h n i z w in (rw e at (a .0), rw e at (a .1))
+
 module _ {M S : Type 0} (K : Kind M S) (keeps : KeepsAddress K) where
   -- the addresses after a harmless frame, a sample, a tick
-  kept-handed : (f : Frame) (t : Bool) (ms : List M) → Harmless f → addresses K (handed K f t ms) ≡ addresses K ms
+  pub kept-handed : (f : Frame) (t : Bool) (ms : List M) → Harmless f → addresses K (handed K f t ms) ≡ addresses K ms
   kept-handed f t [] p = refl
   kept-handed f t (m ∷ ms) p =
       ap₂ (λ (w : Address) (ws : List Address). w ∷ ws) (one (t && named (f .address) (K .address m))) (kept-handed f (K .address m .low) ms p)
@@ -149,17 +155,24 @@ pub keeps-address : KeepsAddress kind
 keeps-address = keeps-both Servo.servo Inout.inout servo-keeps inout-keeps
 
 pub product : Product
-product = record {
-  keepsAddress = keeps-address;
-  eachAlone = each-alone kind;
-  orderDoesNotMatter = order-does-not-matter kind keeps-address;
-  orderOfAll = order-of-all kind keeps-address;
-}
+product = (keeps-address, each-alone kind, order-does-not-matter kind keeps-address, order-of-all kind keeps-address)
 
-pub as-called : (net : List ℕ) → AsCalled net
-as-called net = record {
-  byte = λ mark byte.
-      ap (λ (l : List Reply). record { net = stepOf net mark byte .net; replies = l }) (append-nil (stepOf net mark byte .replies));
-  sample = λ place x. refl;
-  tick = refl;
-}
+-- what calls make of a record's network is what the history that they do makes of it
+outcome-of : (net : List ℕ) (cs : List Call) (h : List (Event AnySample)) → doneBy cs net ≡ singly h
+    → run kind (doneBy cs net) (netIn slots net) ≡ run kind h (netIn slots net)
+outcome-of net cs h e = ap (λ (l : List (Event AnySample)). run kind l (netIn slots net)) e ∙ run-singly kind h (netIn slots net)
+
+pub by-calls : ByCalls
+by-calls net cs₁ cs₂ h₁ h₂ v a₁ a₂ z o₁ o₂ d₁ d₂ same =
+    let q = order-of-all kind keeps-address (netIn slots net) h₁ h₂ z o₁ o₂ same in
+    let x = outcome-of net cs₁ h₁ d₁ in
+    let y = outcome-of net cs₂ h₂ d₂ in (
+      any-calls net cs₁ v a₁ .network
+          ∙ ap (λ (o : Outcome Module). o .net) x
+          ∙ q .0
+          ∙ sym (any-calls net cs₂ v a₂ .network ∙ ap (λ (o : Outcome Module). o .net) y),
+      λ i.
+          ap (λ (o : Outcome Module). repliesOf i (o .replies)) x
+          ∙ q .1 i
+          ∙ sym (ap (λ (o : Outcome Module). repliesOf i (o .replies)) y),
+    )

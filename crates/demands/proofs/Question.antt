@@ -1,6 +1,7 @@
 -- The mill's question at one servo. Assumes nothing.
 use mathlib.Core.Path.{_≡_, refl, sym, ap, _∙_}
 use mathlib.Core.Bool.{Bool, true, false, cond, _&&_, and-false, true≢false}
+use mathlib.Core.Logic.{inl, inr}
 use Prim.Native.Nat.{ℕ}
 use Rattle.line.specs.Frames.{Frame}
 use Rattle.orders.specs.declared.Halt.the-variants.{Keep, Here}
@@ -14,8 +15,7 @@ use Rattle.servo.specs.Orders.{can, perform, withCause, execute}
 use Rattle.servo.proofs.Cause.{cause}
 use Rattle.servo.proofs.Starting.{starts, complete-is, start-now, twice as twice-from}
 use Rattle.servo.proofs.Stopping.{stops, stops-now}
-use Rattle.demands.specs.Motion.{byStart, byLoad, byStopHere}
-use Rattle.demands.specs.Question.{Missed, elsewhere, damaged, short, NoneReady, none, incomplete, IsStart, Question, Twice}
+use Rattle.demands.specs.Motion.{byStart, byLoad, byStopHere, Missed, elsewhere, damaged, short, NoneReady, IsStart, Question, Twice}
 use Rattle.demands.proofs.Asking.{start-asks, short-asks}
 
 -- a cause makes no load complete
@@ -27,14 +27,14 @@ caused-complete c Move m = refl
 
 unready : (c : ℕ) (m : Servo) → NoneReady m → can Start (withCause c m) ≡ false
 unfolding startable
-unready c m (none e) = ap (λ (t : Bool). t && complete (withCause c m) && ready m) e
-unready c m (incomplete e) =
+unready c m (inl e) = ap (λ (t : Bool). t && complete (withCause c m) && ready m) e
+unready c m (inr e) =
     let n : complete (withCause c m) ≡ false = complete-is (withCause c m) ∙ caused-complete c (m .load .way) m ∙ sym (complete-is m) ∙ e in
     ap (λ (t : Bool). m .load .waits && t && ready m) n ∙ ap (λ (t : Bool). t && ready m) (and-false (m .load .waits))
 
 -- an undamaged Start with no complete load waiting
 pub start-refused : (c : ℕ) (m : Servo) (f : Frame) (apart : Bool) → NoneReady m → IsStart f → execute f apart (withCause c m) ≡ withCause 3 m
-start-refused c m f apart n s = cause f apart (withCause c m) .notNow Start (s .undamaged) (start-asks f apart (s .code) (s .empty)) (unready c m n)
+start-refused c m f apart n s = cause f apart (withCause c m) .notNow Start (s .0) (start-asks f apart (s .1) (s .2)) (unready c m n)
 
 -- what a load that was missed leaves: its own cause, or none
 missed-is : (load : Frame) (alone reached : Bool) (m : Servo) → Missed reached load → (c : ℕ) × (cond reached (execute load alone m) m ≡ withCause c m)
@@ -53,15 +53,15 @@ question m load start reached alone apart x n s =
     ap (execute start apart) (k .1) ∙ start-refused (k .0) m start apart n s
 
 pub twice : Twice
-twice m f g alone apart (byStart d c n q s) t =
-    twice-from Start m tt .second f g alone apart d q (starts m .1 s) (t .undamaged) (start-asks g apart (t .code) (t .empty))
-twice m f g alone apart (byLoad c d k n q e s) t =
-    twice-from (LoadTrajectory c) m e .second f g alone apart d q (start-now c m .now e ∙ starts (loaded c m) .1 s) (t .undamaged) (start-asks g apart (t .code) (t .empty))
-twice m f g alone apart (byStopHere a x d c n q r) t =
+twice m f g alone apart (byStart a s) t =
+    twice-from Start m tt .second f g alone apart (a .undamaged) (a .order) (starts m .1 s) (t .0) (start-asks g apart (t .1) (t .2))
+twice m f g alone apart (byLoad c a e s) t =
+    twice-from (LoadTrajectory c) m e .second f g alone apart (a .undamaged) (a .order) (start-now c m .now e ∙ starts (loaded c m) .1 s) (t .0) (start-asks g apart (t .1) (t .2))
+twice m f g alone apart (byStopHere a x h r) t =
     let k : Servo = execute f alone m in
-    let e : k ≡ withCause 0 (perform (Stop a Here x) m) = cause f alone m .executed (Stop a Here x) d q (stops-now a x m .here .1 r) in
+    let e : k ≡ withCause 0 (perform (Stop a Here x) m) = cause f alone m .executed (Stop a Here x) (h .undamaged) (h .order) (stops-now a x m .here .1 r) in
     start-refused (k .station .cause) k g apart
-    (none (ap (λ (k : Servo). k .load .waits) e ∙ stops a x m .waits Here (λ z. not-keep z)))
+    (inl (ap (λ (k : Servo). k .load .waits) e ∙ stops a x m .waits Here (λ z. not-keep z)))
     t
   where
     not-keep : Here ≡ Keep → ⊥

@@ -1,6 +1,3 @@
-pub mod Histories
-pub mod Order
-pub mod Alive
 pub mod Motion
-pub mod Question
-pub mod Example
+pub mod Meaning
+pub mod Order

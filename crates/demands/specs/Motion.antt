@@ -1,45 +1,69 @@
--- Demand 1: no motion starts except from a complete load or a complete Stop Here. Each promise is proved under its name, with small letters, in proofs/.
+-- Demand 1: any calls do no harm; only a complete load or a complete Stop Here starts motion. Each promise is proved under its name in proofs/.
 use mathlib.Core.Path.{_≡_}
 use mathlib.Core.Logic.{_⊎_, inl}
-use Prim.Native.Nat.{ℕ, _<_}
-use mathlib.Core.List.{List, [], _∷_, _++_}
-use mathlib.Core.Bool.{Bool, true, false}
+use Prim.Native.Nat.{ℕ, _≤_}
+use mathlib.Core.List.{List, [], _∷_, _++_, map}
+use mathlib.Core.Bool.{Bool, true, false, cond}
 use mathlib.Core.Option.{some}
 use lib.IntN.{pos}
 use lib.ListN.{length, getD, getElem?}
 use lib.Dec.{eqb}
-use Rattle.layout.specs.Bytes.{Bytes}
 use Rattle.line.specs.declared.Answer.the-variants.{Ended}
-use Rattle.line.specs.Receive.{taken}
-use Rattle.line.specs.Frames.{Byte, Frame, frameIn}
+use Rattle.line.specs.Receive.{idle, taken}
+use Rattle.line.specs.Frames.{Byte, Frame, frameIn, values, AreBytes}
 use Rattle.station.specs.Touch.{individually}
-use Rattle.chain.specs.Chain.{Net, addresses, touched}
+use Rattle.chain.specs.Chain.{Net, flat, addresses, touched}
 use Rattle.motion.specs.Profile.{left}
 use Rattle.orders.specs.declared.Carried.{Carried}
 use Rattle.orders.specs.declared.Halt.the-variants.{Here}
+use Rattle.orders.specs.declared.Order.{Order}
 use Rattle.orders.specs.declared.Order.the-variants.{LoadTrajectory, Start, Stop}
 use Rattle.orders.specs.declared.Request.the-variants.{Wants}
 use Rattle.orders.specs.Loads.{needed}
 use Rattle.orders.specs.Orders.{request}
-use Rattle.servo.specs.declared.Sample.{Sample}
 use Rattle.servo.specs.declared.Mode.the-variants.{Velocity, Trapezoid}
 use Rattle.servo.specs.declared.Servo.{Servo}
-use Rattle.servo.specs.Servo.{sampled}
-use Rattle.servo.specs.Loads.{loaded, startsNow}
-use Rattle.servo.specs.Orders.{execute}
-use Rattle.servo.specs.Tick.{ticked}
+use Rattle.servo.specs.Loads.{complete, loaded, startsNow}
+use Rattle.servo.specs.Orders.{withCause, execute}
 use Rattle.servo.specs.LoadPromises.{Ready, Startable}
-use Rattle.servo.specs.RestPromises.{Resting, following}
-use Rattle.positioner.specs.Slot.{sample}
-use Rattle.positioner.specs.Promises.{Fits}
+use Rattle.servo.specs.RestPromises.{following}
 use Rattle.modules.specs.Types.{Module, kind, slots}
 use Rattle.network.specs.Record.{netIn}
-use Rattle.network.specs.Calls.{byteOf}
-use Rattle.doljurven.specs.Table.{setupTable, servoSampleTable, ioSampleTable}
-use Rattle.doljurven.specs.Calls.{setupRecord, byteRecord, servoSampleOf, ioSampleOf, sampleRecord, tickRecord}
-use Rattle.doljurven.specs.Promises.{Passes, ValidRecord, ServoHanded, IoHanded}
+use Rattle.network.specs.Calls.{byteOf, setUp}
+use Rattle.doljurven.specs.Table.{setupTable}
+use Rattle.doljurven.specs.Calls.{setupRecord}
+use Rattle.doljurven.specs.Promises.{Passes, Refuses, ValidRecord}
+use Rattle.histories.specs.Events.{run, Reads}
+use Rattle.histories.specs.Calls.{Call, byte, servoSample, ioSample, tick, Handed, AllHanded, refusals, leaves, leftBy, writtenBy, doneBy}
 
--- Motion: a speed or a PWM value other than 0 (01 Tick).
+-- ---- Any calls
+
+-- Setup, unless it is refused, leaves a valid record of the modules at power-up, whatever was lent.
+abbrev pub FromSetup : Type 0
+FromSetup =
+    (net types : List ℕ) → Passes (setupTable net types)
+    → ValidRecord (setupRecord net types) × (netIn slots (setupRecord net types) ≡ setUp types)
+
+-- the record is valid, it holds what the calls that were not refused make of the network, and the bytes written are its replies
+pub record Through (net : List ℕ) (cs : List Call) : Type 0 where
+  pub valid : ValidRecord (leftBy cs net)
+  pub network : netIn slots (leftBy cs net) ≡ run kind (doneBy cs net) (netIn slots net) .net
+  pub replies : writtenBy cs net ≡ flat (run kind (doneBy cs net) (netIn slots net) .replies)
+
+-- So it is after any bytes, samples and ticks, in any order, from any valid record.
+abbrev pub AnyCalls : Type 0
+AnyCalls = (net : List ℕ) (cs : List Call) → ValidRecord net → AllHanded cs → Through net cs
+
+-- A refused call is no step: without it the same record is left and the same bytes are written.
+abbrev pub RefusedIsNoStep : Type 0
+RefusedIsNoStep =
+    (net : List ℕ) (before later : List Call) (c : Call) → Refuses (refusals (leftBy before net) c)
+    → (leftBy (before ++ c ∷ later) net ≡ leftBy (before ++ later) net)
+    × (writtenBy (before ++ c ∷ later) net ≡ writtenBy (before ++ later) net)
+
+-- ---- Motion and its starts
+
+-- Motion: a speed or a PWM value other than 0.
 abbrev pub Moves : Servo → Type 0
 Moves m = (m .profile .speed ≡ pos 0 → ⊥) ⊎ (m .drive .pulse ≡ pos 0 → ⊥)
 
@@ -49,12 +73,8 @@ Bound m =
     ((m .drive .mode ≡ Velocity) × (m .profile .aim ≡ pos 0 → ⊥))
     ⊎ ((m .drive .mode ≡ Trapezoid) × (left (m .profile) ≡ pos 0 → ⊥))
 
--- A servo is at rest exactly if it neither moves nor is on the way to it.
-abbrev pub RestIs : Type 0
-RestIs =
-    (m : Servo)
-    → (Resting m → (Moves m → ⊥) × (Bound m → ⊥))
-    × ((Moves m → ⊥) → (Bound m → ⊥) → Resting m)
+abbrev pub AtRest : Servo → Type 0
+AtRest m = (Moves m → ⊥) × (Bound m → ⊥)
 
 -- What begins motion between two records of a servo.
 pub data Begins (before after : Servo) : Type 0 where
@@ -65,84 +85,23 @@ pub data Begins (before after : Servo) : Type 0 where
   -- a setpoint put elsewhere than at the position, and not as far from it as it was
   put : (following after ≡ following before → ⊥) → (following after ≡ pos 0 → ⊥) → Begins before after
 
--- The three ways to start: an undamaged frame that asks for it with the right count, at a servo m that can do it.
-pub data Starts (f : Frame) (alone : Bool) (m : Servo) : Type 0 where
-  -- a Start, without data, where a load waits that is complete, with power 1 and a clear error bit
-  byStart : f .damaged ≡ false
-      → f .code ≡ 5
-      → length (f .content) ≡ 0
-      → request f alone ≡ Wants Start
-      → Startable m
-      → Starts f alone m
-  -- a Load with start now, of as many bytes as its control byte asks for, that is complete, with power 1 and a clear error bit
-  byLoad : (c : Carried)
-      → f .damaged ≡ false
-      → f .code ≡ 4
-      → length (f .content) ≡ needed (getD (f .content) 0 0)
-      → request f alone ≡ Wants (LoadTrajectory c)
-      → startsNow c ≡ true
-      → Startable (loaded c m)
-      → Starts f alone m
-  -- a Stop Here of five data bytes, with power 1 and a clear error bit
-  byStopHere : (a : Bool) (x : ℕ)
-      → f .damaged ≡ false
-      → f .code ≡ 7
-      → length (f .content) ≡ 5
-      → request f alone ≡ Wants (Stop a Here x)
-      → Ready m
-      → Starts f alone m
+-- an undamaged frame with this code and this many data bytes asks for this order
+pub record Asks (f : Frame) (alone : Bool) (code count : ℕ) (c : Order) : Type 0 where
+  pub undamaged : f .damaged ≡ false
+  pub named : f .code ≡ code
+  pub whole : length (f .content) ≡ count
+  pub order : request f alone ≡ Wants c
 
--- A frame that begins motion, at any servo that a slot can hold, is one of the three.
-abbrev pub FrameStarts : Type 0
-FrameStarts = (f : Frame) (alone : Bool) (m : Servo) → Fits m → Begins m (execute f alone m) → Starts f alone m
+-- The three ways to start, all with power 1 and a clear error bit: a Start where a complete load waits; a Load with start now, of as many
+-- bytes as its control byte asks for, that is complete; a Stop Here of five bytes.
+pub data Starts (f : Frame) (alone : Bool) (m : Servo) : Type 0 where
+  byStart : Asks f alone 5 0 Start → Startable m → Starts f alone m
+  byLoad : (c : Carried) → Asks f alone 4 (needed (getD (f .content) 0 0)) (LoadTrajectory c) → startsNow c ≡ true → Startable (loaded c m) → Starts f alone m
+  byStopHere : (a : Bool) (x : ℕ) → Asks f alone 7 5 (Stop a Here x) → Ready m → Starts f alone m
 
 -- Each of the three is executed: the cause after it is 0.
 abbrev pub StartsAreExecuted : Type 0
 StartsAreExecuted = (f : Frame) (alone : Bool) (m : Servo) → Starts f alone m → execute f alone m .station .cause ≡ 0
-
--- A tick sets a servo moving only toward a goal that it had, and gives it none; at rest it stays, its setpoint too. A sample begins nothing.
-pub record TickStarts : Type 0 where
-  pub tick : (m : Servo) → Fits m → (Moves m → ⊥) → Moves (ticked m) → Bound m
-  pub goal : (m : Servo) → Fits m → Bound (ticked m) → Bound m
-  pub rests : (m : Servo) → Fits m → Resting m → Resting (ticked m) × (ticked m .profile .setpoint ≡ m .profile .setpoint)
-  pub sampling : (x : Sample) (m : Servo) → Begins m (sampled x m) → ⊥
-
--- what a servo meets: a frame that touched it, individually or by group, a sample, a tick; and the servo after all that it met
-pub data Met : Type 0 where
-  frame : Frame → Bool → Met
-  sampling : Sample → Met
-  tick : Met
-
-abbrev pub meets : Met → Servo → Servo
-meets (frame f alone) m = execute f alone m
-meets (sampling x) m = sampled x m
-meets tick m = ticked m
-
-abbrev pub after : List Met → Servo → Servo
-after [] m = m
-after (e ∷ es) m = after es (meets e m)
-
--- what the line and the calls can hand over: data that are bytes, samples in their ranges
-abbrev pub Handed : List Met → Type 0
-Handed [] = Unit {0}
-Handed (frame f alone ∷ es) = Bytes (f .content) × Handed es
-Handed (sampling x ∷ es) = sample .codec .fits x × Handed es
-Handed (tick ∷ es) = Handed es
-
--- one of the three is in the history, with the servo as that frame met it
-pub record StartedIn (m : Servo) (es : List Met) : Type 0 where
-  pub before : List Met
-  pub f : Frame
-  pub alone : Bool
-  pub later : List Met
-  pub split : es ≡ before ++ frame f alone ∷ later
-  pub start : Starts f alone (after before m)
-
--- Through any history: a servo that was at rest and is not, or moves, has met one of the three; so has one that has a goal and had none.
-pub record Never : Type 0 where
-  pub rest : (es : List Met) (m : Servo) → Fits m → Handed es → Resting m → (Resting (after es m) → ⊥) → StartedIn m es
-  pub motion : (es : List Met) (m : Servo) → Fits m → Handed es → Resting m → Moves (after es m) → StartedIn m es
-  pub goal : (es : List Met) (m : Servo) → Fits m → Handed es → (Bound m → ⊥) → Bound (after es m) → StartedIn m es
 
 -- the servo m is at place i of the network that a record holds
 abbrev pub At : List ℕ → ℕ → Servo → Type 0
@@ -154,21 +113,81 @@ pub record LineStarts (n : Net Module) (b : Byte) (i : ℕ) (m : Servo) : Type 0
   pub touches : touched true (n .receiver .address) (addresses kind (n .modules)) i ≡ true
   pub starts : Starts (frameIn (n .receiver) false) (individually (n .receiver .address) (m .station .address)) m
 
--- The exported calls, with the servo m at place i before and k after: motion begins with the last byte of one of the three, or at a tick toward a goal.
-pub record CallStarts : Type 0 where
-  pub byte : (net : List ℕ) (mark byte : ℕ) (room : List ℕ) (i : ℕ) (m k : Servo)
-      → byte < 256 → ValidRecord net → At net i m → At (byteRecord net mark byte room) i k
-      → Begins m k
-      → LineStarts (netIn slots net) (byteOf byte (eqb mark 1)) i m
-  pub tick : (net : List ℕ) (i : ℕ) (m k : Servo)
-      → ValidRecord net → At net i m → At (tickRecord net) i k
+-- a call hands over such a byte: no other call starts anything
+abbrev pub CallStarts : List ℕ → ℕ → Servo → Call → Type 0
+CallStarts net i m (byte mark x room) = LineStarts (netIn slots net) (byteOf x (eqb mark 1)) i m
+CallStarts net i m (servoSample place raw power ad) = ⊥
+CallStarts net i m (ioSample place inputs ad1 ad2 ad3 counter) = ⊥
+CallStarts net i m tick = ⊥
+
+-- Every call, with the servo m at place i before it and k after it. What begins motion is the last byte of one of the three; a tick, which
+-- is no command, only goes on toward a goal that m had, and gives none; after setup every servo is at rest.
+pub record EveryCall : Type 0 where
+  pub command : (net : List ℕ) (c : Call) (i : ℕ) (m k : Servo) → Handed c → ValidRecord net → At net i m → At (leaves net c) i k
+      → (c ≡ tick → ⊥) → Begins m k → CallStarts net i m c
+  pub tick : (net : List ℕ) (i : ℕ) (m k : Servo) → ValidRecord net → At net i m → At (leaves net tick) i k
       → ((Moves m → ⊥) → Moves k → Bound m) × (Bound k → Bound m)
-  pub servoSample : (net : List ℕ) (place raw power ad i : ℕ) (m k : Servo)
-      → ServoHanded raw ad → ValidRecord net → At net i m
-      → At (sampleRecord (servoSampleTable net place power) net place (servoSampleOf raw power ad)) i k
-      → Begins m k → ⊥
-  pub ioSample : (net : List ℕ) (place inputs ad1 ad2 ad3 counter i : ℕ) (m k : Servo)
-      → IoHanded ad1 ad2 ad3 counter → ValidRecord net → At net i m
-      → At (sampleRecord (ioSampleTable net place inputs) net place (ioSampleOf inputs ad1 ad2 ad3 counter)) i k
-      → Begins m k → ⊥
-  pub setup : (net types : List ℕ) (i : ℕ) (k : Servo) → Passes (setupTable net types) → At (setupRecord net types) i k → Resting k
+  pub setup : (net types : List ℕ) (i : ℕ) (k : Servo) → Passes (setupTable net types) → At (setupRecord net types) i k → AtRest k
+
+-- one of the calls started the servo at place i
+pub record StartedBy (cs : List Call) (net : List ℕ) (i : ℕ) : Type 0 where
+  pub before : List Call
+  pub call : Call
+  pub later : List Call
+  pub servo : Servo
+  pub split : cs ≡ before ++ call ∷ later
+  pub here : At (leftBy before net) i servo
+  pub starts : CallStarts (leftBy before net) i servo call
+
+-- Never otherwise: a servo that was at rest and, after any calls, is not was started by one of them.
+abbrev pub Never : Type 0
+Never =
+    (net : List ℕ) (cs : List Call) (i : ℕ) (m k : Servo)
+    → ValidRecord net → AllHanded cs → At net i m → At (leftBy cs net) i k
+    → AtRest m → (AtRest k → ⊥) → StartedBy cs net i
+
+-- ---- The mill's question: "If the scanner sends a short load and the Start comes through, does the spindle carriage go anyway?"
+
+-- the ways to miss a load: it was for another module, it came damaged, or it has not as many data bytes as its control byte asks for
+pub data Missed (reached : Bool) (load : Frame) : Type 0 where
+  elsewhere : reached ≡ false → Missed reached load
+  damaged : load .damaged ≡ true → Missed reached load
+  short : load .code ≡ 4 → (length (load .content) ≡ needed (getD (load .content) 0 0) → ⊥) → Missed reached load
+
+-- no complete load waits: none at all, or one that is incomplete
+abbrev pub NoneReady : Servo → Type 0
+NoneReady m = (m .load .waits ≡ false) ⊎ (complete m ≡ false)
+
+-- an undamaged Start: code 5, no data
+abbrev pub IsStart : Frame → Type 0
+IsStart f = (f .damaged ≡ false) × (f .code ≡ 5) × (length (f .content) ≡ 0)
+
+-- It does not: after the missed load and the Start the servo is in every part what it was, and its cause is 3.
+abbrev pub Question : Type 0
+Question =
+    (m : Servo) (load start : Frame) (reached alone apart : Bool)
+    → Missed reached load → NoneReady m → IsStart start
+    → execute start apart (cond reached (execute load alone m) m) ≡ withCause 3 m
+
+-- Twice: after any of the three starts a Start is 3 and changes nothing else.
+abbrev pub Twice : Type 0
+Twice =
+    (m : Servo) (f g : Frame) (alone apart : Bool) → Starts f alone m → IsStart g
+    → execute g apart (execute f alone m) ≡ withCause 3 (execute f alone m)
+
+-- the byte call with each of these bytes and marks
+abbrev pub fed : List ℕ → List Byte → List Call
+fed room = map (λ (b : Byte). byte (cond (b .mark) 1 0) (b .value) room)
+
+-- The same on the line, at any place of any valid record, through the exported call: the bytes of a Load that the servo misses in any of the
+-- three ways, then those of a Start for it.
+abbrev pub QuestionOnTheLine : Type 0
+QuestionOnTheLine =
+    (net room : List ℕ) (i : ℕ) (m : Servo) (loadBytes startBytes : List Byte) (load start : Frame)
+    → ValidRecord net → 608 ≤ length room → AreBytes (values (loadBytes ++ startBytes))
+    → netIn slots net .receiver ≡ idle → At net i m → NoneReady m
+    → Reads loadBytes load → load .code ≡ 4
+    → Missed (touched true (load .address) (addresses kind (netIn slots net .modules)) i) load
+    → Reads startBytes start → IsStart start
+    → touched true (start .address) (addresses kind (netIn slots net .modules)) i ≡ true
+    → At (leftBy (fed room (loadBytes ++ startBytes)) net) i (withCause 3 m)

@@ -35,7 +35,7 @@ pub record Each (P : Request → Type 0) (code : ℕ) (ds : List ℕ) : Type 0 w
   pub clearBits : P (Wants ClearBits)
 
 -- of one or the other, by a test
-pick : {A : Type 0} (P : A → Type 0) (t : Bool) (q r : A) → (t ≡ true → P q) → P r → P (cond t q r)
+pub pick : {A : Type 0} (P : A → Type 0) (t : Bool) (q r : A) → (t ≡ true → P q) → P r → P (cond t q r)
 pick P true q r g h = g refl
 pick P false q r g h = h
 

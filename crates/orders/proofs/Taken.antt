@@ -1,18 +1,16 @@
 -- Which frames are taken and which are malformed. Assumes nothing.
-use mathlib.Core.Path.{_≡_, refl, ap, _∙_}
+use mathlib.Core.Path.{_≡_, refl}
 use mathlib.Core.List.{List}
 use mathlib.Core.Bool.{Bool, true, false, cond, _&&_, and-false}
 use Prim.Native.Nat.{ℕ}
-use native.Mathlib.Omega.{arith}
 use borrow.Author.Tests.{eq-eqb, ne-eqb}
 use lib.ListN.{length, getD}
-use lib.Count.{ones}
 use lib.Dec.{eqb}
 use Rattle.station.specs.Commands.{asked}
 use Rattle.orders.specs.declared.Request.the-variants.{Malformed}
 use Rattle.orders.specs.Loads.{needed}
 use Rattle.orders.specs.Orders.{counted, loadRequest, gainsIn, gainsFit, gainRequest, stopCount, stopRequest, own, request}
-use Rattle.orders.specs.Promises.{BenchE, LoadRead, GainRead, StopRead, Unknown}
+use Rattle.orders.specs.Promises.{LoadRead, GainRead, StopRead, Unknown}
 
 -- what is malformed stays so with any number of data bytes
 still : (n : ℕ) (ds : List ℕ) → counted n ds Malformed ≡ Malformed
@@ -46,17 +44,6 @@ stop-read ds = record {
   read = λ n v. rw (eq-eqb _ _ n, v);
   count = λ n. rw (ne-eqb _ _ n);
   value = λ v. rw v (still (stopCount (getD ds 0 0)) ds);
-}
-
-thirteen : needed 151 ≡ 13
-unfolding ones
-thirteen = refl
-
-pub bench-e : BenchE
-unfolding request asked own
-bench-e = record {
-  asksFor = thirteen;
-  malformed = λ f alone c n b. rw c (load-read (f .content) .count (λ e. let m = ap needed b ∙ thirteen in omega arith));
 }
 
 pub unknown : Unknown

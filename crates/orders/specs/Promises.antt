@@ -15,15 +15,6 @@ use Rattle.orders.specs.declared.Request.the-variants.{Malformed, Wants}
 use Rattle.orders.specs.Loads.{isSet, needed, carriedIn, inRange}
 use Rattle.orders.specs.Orders.{loadRequest, gainsIn, tuningIn, gainsFit, gainRequest, haltOf, oneHalt, stopCount, stopRequest, request}
 
--- Bench (e): the control byte 0x97 asks for 13 data bytes, so a load with it and 9 data bytes is malformed.
-pub record BenchE : Type 0 where
-  pub asksFor : needed 151 ≡ 13
-  pub malformed : (f : Frame) (alone : Bool)
-      → f .code ≡ 4
-      → length (f .content) ≡ 9
-      → getD (f .content) 0 0 ≡ 151
-      → request f alone ≡ Malformed
-
 -- A load is taken if its data bytes are as many as its control byte asks for and its values are in range; else it is malformed.
 pub record LoadReads (ds : List ℕ) : Type 0 where
   pub read : length ds ≡ needed (getD ds 0 0) → inRange (carriedIn ds) ≡ true → loadRequest ds ≡ Wants (LoadTrajectory (carriedIn ds))

@@ -19,8 +19,7 @@ use Rattle.chain.proofs.Touching.{touched-before}
 use Rattle.chain.proofs.Replies.{replies-are}
 use Rattle.chain.proofs.Bytes.{step-on, step-end}
 use Rattle.network.specs.Walk.{changed}
-use Rattle.demands.specs.Histories.{Event, sent, sampled, ticked, Outcome, after, taking, event, Reads, ofFrame, meets, own, ownReply}
-use Rattle.demands.specs.Order.{FramesAreWhole}
+use Rattle.histories.specs.Events.{Event, sent, sampled, ticked, Outcome, after, taking, event, Reads, FramesAreWhole, ofFrame, meets, own, ownReply}
 
 pub frames-are-whole : FramesAreWhole
 frames-are-whole address command ds last h e = (_, marked address command ds last h e)
@@ -42,7 +41,7 @@ pub map-same : {M : Type 0} (x : Option M) → Option·map (λ (m : M). m) x ≡
 map-same none = refl
 map-same (some m) = refl
 
-changed-at : {M : Type 0} (g : M → M) (j : ℕ) (ms : List M) (i : ℕ)
+pub changed-at : {M : Type 0} (g : M → M) (j : ℕ) (ms : List M) (i : ℕ)
     → getElem? (changed g j ms) i ≡ Option·map (λ (m : M). cond (eqb i j) (g m) m) (getElem? ms i)
 changed-at g j [] i = refl
 changed-at g zero (m ∷ ms) zero = refl
@@ -50,7 +49,7 @@ changed-at g zero (m ∷ ms) (suc i) = rw (eqb·suc-zero i) (sym (map-same (getE
 changed-at g (suc j) (m ∷ ms) zero = rw (eqb·zero-suc j)
 changed-at g (suc j) (m ∷ ms) (suc i) = rw (eqb·suc-suc i j) (changed-at g j ms i)
 
-map-at : {M : Type 0} (g : M → M) (ms : List M) (i : ℕ) → getElem? (map g ms) i ≡ Option·map g (getElem? ms i)
+pub map-at : {M : Type 0} (g : M → M) (ms : List M) (i : ℕ) → getElem? (map g ms) i ≡ Option·map g (getElem? ms i)
 map-at g [] i = refl
 map-at g (m ∷ ms) zero = refl
 map-at g (m ∷ ms) (suc i) = map-at g ms i

@@ -9,9 +9,8 @@ use Rattle.line.specs.Receive.{idle}
 use Rattle.line.specs.Frames.{Frame}
 use Rattle.chain.specs.Chain.{Kind, Net, repliesOf, addresses}
 use Rattle.chain.proofs.Replies.{replies-append}
-use Rattle.demands.specs.Histories.{Event, sent, sampled, ticked, event, run, Frames, meets, metInTurn, own, ownReply, alone, aloneReplies}
-use Rattle.demands.specs.Order.{EachAlone}
-use Rattle.demands.proofs.Histories.{WholeEvent, map-same, fromSome, from-nothing, event-idle, event-at, event-replies}
+use Rattle.histories.specs.Events.{Event, sent, sampled, ticked, event, run, Frames, meets, metInTurn, own, ownReply, alone, aloneReplies}
+use Rattle.histories.proofs.Events.{WholeEvent, map-same, fromSome, from-nothing, event-idle, event-at, event-replies}
 
 -- the first event of whole events is whole, and so are those after it
 pub first-whole : {S : Type 0} (P : Frame → Type 0) (e : Event S) (h : List (Event S)) → Frames P (e ∷ h) → WholeEvent e
@@ -60,6 +59,3 @@ module _ {M S : Type 0} (K : Kind M S) (P : Frame → Type 0) where
       joined t rest none = refl
       joined true rest (some m) = refl
       joined false rest (some m) = refl
-
-pub each-alone : {M S : Type 0} (K : Kind M S) → EachAlone K
-each-alone K n h i m z w e = let a = alone-at K (λ f. Unit {0}) h n i z w in (rw e at (a .0), rw e at (a .1))

@@ -1,12 +1,13 @@
--- Histories of a chain of any modules: frames as bytes with their marks, samples and ticks, run byte by byte.
+-- A chain of any modules through a history: frames as bytes with their marks, samples and ticks, run byte by byte.
 use mathlib.Core.Path.{_≡_}
-use Prim.Native.Nat.{ℕ}
+use Prim.Native.Nat.{ℕ, _/_, _<_}
 use mathlib.Core.List.{List, [], _∷_, _++_, map}
 use mathlib.Core.Bool.{Bool, true, false, cond}
 use mathlib.Core.Logic.{_⊎_}
+use lib.ListN.{length}
 use lib.Dec.{eqb}
 use Rattle.line.specs.Receive.{idle}
-use Rattle.line.specs.Frames.{Byte, Frame, waiting, ended, reads}
+use Rattle.line.specs.Frames.{Byte, Frame, waiting, ended, reads, header}
 use Rattle.station.specs.declared.Address.{Address}
 use Rattle.chain.specs.Chain.{Kind, Net, Reply, once, addresses, touched, executed, replied, byteStep}
 use Rattle.network.specs.Walk.{changed}
@@ -46,6 +47,13 @@ run K (e ∷ h) n = after (event K e n .replies) (run K h (event K e n .net))
 abbrev pub Reads : List Byte → Frame → Type 0
 Reads bs f = reads bs idle ≡ ended f idle []
 
+-- Every frame is whole, whatever marks its bytes have after the header and whatever its last byte is.
+abbrev pub FramesAreWhole : Type 0
+FramesAreWhole =
+    (address command : Byte) (ds : List Byte) (last : Byte)
+    → command .value < 256 → length ds ≡ command .value / 16
+    → (f : Frame) × Reads (header ∷ address ∷ command ∷ ds ++ last ∷ []) f
+
 -- the frame can't change an address: it is damaged, or neither Set Address nor Hard Reset
 abbrev pub Harmless : Frame → Type 0
 Harmless f = (f .damaged ≡ true) ⊎ ((f .code ≡ 1 → ⊥) × (f .code ≡ 15 → ⊥))
@@ -64,6 +72,13 @@ Whole = Frames (λ f. Unit {0})
 -- whole frames with no undamaged Set Address and no undamaged Hard Reset
 abbrev pub Ordinary : {S : Type 0} → List (Event S) → Type 0
 Ordinary = Frames Harmless
+
+-- a history as the calls hand it over, a byte at a time
+abbrev pub singly : {S : Type 0} → List (Event S) → List (Event S)
+singly [] = []
+singly (sent bs ∷ h) = map (λ (b : Byte). sent (b ∷ [])) bs ++ singly h
+singly (sampled place x ∷ h) = sampled place x ∷ singly h
+singly (ticked ∷ h) = ticked ∷ singly h
 
 -- something about the frame that bytes come to, or this if they come to none
 abbrev pub ofFrame : {A : Type 0} → A → (Frame → A) → List Byte → A

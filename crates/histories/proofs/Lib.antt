@@ -1,0 +1,4 @@
+pub mod Events
+pub mod Alone
+pub mod Singly
+pub mod Calls
