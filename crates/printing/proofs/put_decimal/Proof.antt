@@ -1,4 +1,4 @@
--- `capture::put_decimal` meets its contract. The invariant: the digits of what is left, before those that are there, give the whole. Assumes nothing.
+-- `printing::put_decimal` meets its contract. The invariant: the digits of what is left, before those that are there, give the whole. Assumes nothing.
 use mathlib.Core.Path.{_≡_, refl, sym, ap, _∙_}
 use mathlib.Core.List.{List, _++_}
 use Prim.Native.Nat.{ℕ, _-_, _/_, _^_, _<_, _≤_}
@@ -6,11 +6,11 @@ use native.Mathlib.Omega.{arith}
 use lib.ListN.{length, take, drop, length-take, length-drop, length-set}
 use lib.Seq.{take-all}
 use Rattle.layout.specs.Bytes.{pasted}
-use Rattle.capture.specs.Text.{decimal}
-use Rattle.capture.specs.Text as Spec
-use Rattle.capture.proofs.Text.{decimal-is, digit-turn, some-left, less, ends}
-use Rattle.capture.proofs.put_decimal.Statement.{statement}
-use Rattle.capture.proofs.put_decimal.Tie as tie
+use Rattle.printing.specs.Text.{decimal}
+use Rattle.printing.specs.Text as Spec
+use Rattle.printing.proofs.Text.{decimal-is, digit-turn, some-left, less, ends}
+use Rattle.printing.proofs.put_decimal.Statement.{statement}
+use Rattle.printing.proofs.put_decimal.Tie as tie
 
 abbrev Inv-loop : tie.InvT-loop
 Inv-loop out at n digits₀ rest₀ i₀ digits rest i =

@@ -1,4 +1,4 @@
--- `capture::put_pairs` meets its contract. The invariant: the bytes left, put where the loop is, give the whole. Assumes nothing.
+-- `printing::put_pairs` meets its contract. The invariant: the bytes left, put where the loop is, give the whole. Assumes nothing.
 use mathlib.Core.Path.{_≡_, refl, sym, _∙_}
 use mathlib.Core.List.{[]}
 use Prim.Native.Nat.{_+_, _*_, _-_, _≤_}
@@ -6,10 +6,10 @@ use native.Mathlib.Omega.{arith}
 use lib.ListN.{length, drop, drop-of-length-le}
 use Rattle.layout.specs.Bytes.{pasted}
 use Rattle.layout.proofs.Pasted.{pasted-none}
-use Rattle.capture.specs.Text.{hexes}
-use Rattle.capture.proofs.Text.{hexes-turn}
-use Rattle.capture.proofs.put_pairs.Statement.{statement}
-use Rattle.capture.proofs.put_pairs.Tie as tie
+use Rattle.printing.specs.Text.{hexes}
+use Rattle.printing.proofs.Text.{hexes-turn}
+use Rattle.printing.proofs.put_pairs.Statement.{statement}
+use Rattle.printing.proofs.put_pairs.Tie as tie
 
 abbrev Inv-loop : tie.InvT-loop
 Inv-loop out₀ at bytes place₀ i₀ out place i =

@@ -1,12 +1,12 @@
--- `capture::put_line` meets its contract. Assumes nothing.
+-- `printing::put_line` meets its contract. Assumes nothing.
 use Prim.Native.Nat.{_+_, _*_, _≤_}
 use native.Mathlib.Omega.{arith}
 use borrow.Author.Needs.{needs}
 use lib.ListN.{length, length-set}
-use Rattle.capture.specs.Text.{decimal, hexes, line}
-use Rattle.capture.proofs.Text.{place-short, line-length, length-hexes, all-put}
-use Rattle.capture.proofs.put_line.Statement.{statement}
-use Rattle.capture.proofs.put_line.Tie as tie
+use Rattle.printing.specs.Text.{decimal, hexes, line}
+use Rattle.printing.proofs.Text.{place-short, line-length, length-hexes, all-put}
+use Rattle.printing.proofs.put_line.Statement.{statement}
+use Rattle.printing.proofs.put_line.Tie as tie
 
 short : (c : tie.Start) → length (decimal (c .args .place)) ≤ 2
 short c = place-short (c .args .place) (c .pre .0)

@@ -12,7 +12,7 @@ use lib.Dec.{eqb}
 use borrow.Author.Tests.{ne-eqb}
 use Rattle.layout.specs.Bytes.{pasted}
 use Rattle.layout.proofs.Pasted.{pasted-one, pasted-twice, length-pasted}
-use Rattle.capture.specs.Text.{space, newline, digit, digits, decimal, hexPair, hexes, line, badLine}
+use Rattle.printing.specs.Text.{space, newline, digit, digits, decimal, hexPair, hexes, line, badLine}
 
 -- nothing for 0, and else the tens and the last digit
 digits-zero : (k : ℕ) → digits k 0 ≡ []

@@ -1,4 +1,4 @@
--- `capture::put_replies` meets its contract. The invariant: the lines of the places left, put where the loop is, give the whole. Assumes nothing.
+-- `printing::put_replies` meets its contract. The invariant: the lines of the places left, put where the loop is, give the whole. Assumes nothing.
 use mathlib.Core.Path.{_≡_, refl, sym, _∙_}
 use Prim.Native.Nat.{_+_, _*_, _-_, _≤_}
 use native.Mathlib.Nat.{add-zero}
@@ -6,13 +6,13 @@ use native.Mathlib.Omega.{arith}
 use lib.ListN.{length, getD, drop, length-take}
 use Rattle.layout.specs.Bytes.{pasted}
 use Rattle.layout.proofs.Pasted.{pasted-none}
-use Rattle.capture.specs.Turns.{printed}
-use Rattle.capture.proofs.Replies.{Turn, print-turn, printed-none}
-use Rattle.capture.proofs.put_replies.Statement.{statement}
-use Rattle.capture.proofs.put_replies.Tie as tie
-use Rattle.capture.proofs.put_replies.Reads as reads
-use Rattle.capture.proofs.put_replies.Lts as lts
-use Rattle.capture.proofs.put_reply.Reads as put-reply-reads
+use Rattle.printing.specs.Text.{printed}
+use Rattle.printing.proofs.Replies.{Turn, print-turn, printed-none}
+use Rattle.printing.proofs.put_replies.Statement.{statement}
+use Rattle.printing.proofs.put_replies.Tie as tie
+use Rattle.printing.proofs.put_replies.Reads as reads
+use Rattle.printing.proofs.put_replies.Lts as lts
+use Rattle.printing.proofs.put_reply.Reads as put-reply-reads
 
 abbrev Inv-loop : tie.InvT-loop
 Inv-loop room out₀ lengths wrote₀ at₀ place₀ left₀ out wrote at place left =

@@ -2,6 +2,7 @@
 use Prim.Native.Nat.{ℕ, zero, suc, _+_, _/_, _%_}
 use mathlib.Core.List.{List, [], _∷_, _++_}
 use mathlib.Core.Bool.{cond}
+use lib.ListN.{getD, take, drop}
 use lib.Dec.{eqb, ltb}
 use Rattle.chain.specs.Chain.{Reply}
 
@@ -47,6 +48,17 @@ line place bytes = decimal place ++ (hexes bytes ++ newline ∷ [])
 abbrev pub lines : List Reply → List ℕ
 lines [] = []
 lines (r ∷ rs) = line (r .place) (r .bytes) ++ lines rs
+
+-- 01 Replay file: the line of what a place said; no line where it said nothing.
+abbrev pub replyText : ℕ → List ℕ → List ℕ
+replyText place [] = []
+replyText place (b ∷ bs) = line place (b ∷ bs)
+
+-- 01 Replay file: the lines of k places from one on, whose words stand in a room one after another, by the length of each.
+unfoldable pub printed : ℕ → ℕ → ℕ → List ℕ → List ℕ → List ℕ
+printed zero place at lengths room = []
+printed (suc k) place at lengths room =
+    replyText place (take (getD lengths place 0) (drop at room)) ++ printed k (place + 1) (at + getD lengths place 0) lengths room
 
 -- 01 Replay file: the last line of a replay that a record ended: "bad ", and where that record begins.
 unfoldable pub badLine : ℕ → List ℕ

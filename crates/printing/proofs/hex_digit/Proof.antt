@@ -1,8 +1,8 @@
--- `capture::hex_digit` meets its contract. Assumes nothing.
+-- `printing::hex_digit` meets its contract. Assumes nothing.
 use borrow.Author.Tests.{lt-ltb, le-ltb}
 use borrow.Author.Needs.{needs}
-use Rattle.capture.proofs.hex_digit.Statement.{statement}
-use Rattle.capture.proofs.hex_digit.Tie as tie
+use Rattle.printing.proofs.hex_digit.Statement.{statement}
+use Rattle.printing.proofs.hex_digit.Tie as tie
 
 returns : tie.Need-returns
 returns c = rw (lt-ltb _ 10 (c .if1 .taken))

@@ -1,7 +1,7 @@
--- `capture::put_pair` meets its contract. Assumes nothing.
+-- `printing::put_pair` meets its contract. Assumes nothing.
 use borrow.Author.Needs.{needs}
-use Rattle.capture.proofs.put_pair.Statement.{statement}
-use Rattle.capture.proofs.put_pair.Tie as tie
+use Rattle.printing.proofs.put_pair.Statement.{statement}
+use Rattle.printing.proofs.put_pair.Tie as tie
 
 returns : tie.Need-returns
 returns c = rw (← c .before .before .before .before .before .before .hex-digit .ensures, ← c .before .before .before .before .before .hex-digit2 .ensures) (c .before .before .put-all .ensures)

@@ -10,9 +10,8 @@ use lib.Seq.{take-append-seam, drop-append-seam, drop-drop}
 use Rattle.layout.specs.Bytes.{pasted}
 use Rattle.layout.proofs.Pasted.{pasted-none, pasted-twice, length-pasted}
 use Rattle.chain.specs.Chain.{Reply, join, sentBy, repliesFrom}
-use Rattle.capture.specs.Text.{line, lines}
-use Rattle.capture.specs.Turns.{replyText, printed}
-use Rattle.capture.proofs.Text.{line-length, place-short}
+use Rattle.printing.specs.Text.{line, lines, replyText, printed}
+use Rattle.printing.proofs.Text.{line-length, place-short}
 
 pub reply-none : (place : ℕ) (bs out : List ℕ) (at : ℕ) → length bs ≡ 0 → (0 ≡ length (replyText place bs)) × (out ≡ pasted at (replyText place bs) out)
 reply-none place [] out at h = (refl, sym (pasted-none at out))

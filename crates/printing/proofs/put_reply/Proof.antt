@@ -1,9 +1,9 @@
--- `capture::put_reply` meets its contract. Assumes nothing.
+-- `printing::put_reply` meets its contract. Assumes nothing.
 use native.Mathlib.Omega.{arith}
 use borrow.Author.Needs.{needs}
-use Rattle.capture.proofs.Replies.{reply-none, reply-some}
-use Rattle.capture.proofs.put_reply.Statement.{statement}
-use Rattle.capture.proofs.put_reply.Tie as tie
+use Rattle.printing.proofs.Replies.{reply-none, reply-some}
+use Rattle.printing.proofs.put_reply.Statement.{statement}
+use Rattle.printing.proofs.put_reply.Tie as tie
 
 returns : tie.Need-returns
 returns c = reply-none (c .before .before .before .args .place) (c .before .before .before .args .bytes .now) (c .before .before .before .args .out .now) (c .before .before .before .args .at) (omega arith)
