@@ -10,7 +10,7 @@ use Rattle.inout.specs.Pins.{blend}
 use Rattle.orders.specs.Orders as Orders
 use Rattle.servo.specs.Orders as Servo
 use Rattle.servo.specs.Answers as Answers
-use Rattle.capture.specs.Text.{decimal, line, badLine}
+use Rattle.printing.specs.Text.{decimal, line, badLine}
 use Rattle.capture.specs.Records.{bodyLength, lineByte, netRecord, recordStep, replayed}
 use Rattle.capture.specs.Promises.{Examples}
 

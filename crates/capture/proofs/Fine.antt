@@ -28,7 +28,7 @@ use Rattle.network.proofs.Tests.{and-true}
 use Rattle.capture.specs.declared.Place.{Place}
 use Rattle.capture.specs.Records.{gathering, running, Effect, goes, bad, moduleRecord, lineByte, servoSampleIn, ioSampleIn, sampleRecord, servoSample, ioSample, netRecord, netOf, recordStep}
 use Rattle.capture.specs.Turns.{start, stageIn, Held, placeAfter, turned, typesAfter, netAfter, textAfter}
-use Rattle.capture.proofs.Text.{bad-length, offset-short}
+use Rattle.printing.proofs.Text.{bad-length, offset-short}
 use Rattle.capture.proofs.Spoken.{spoken-short}
 use Rattle.capture.proofs.Gathered.{never, known-more}
 

@@ -1,5 +1,3 @@
-pub mod Text
-pub mod Replies
 pub mod Spoken
 pub mod Gathered
 pub mod Fine

@@ -24,9 +24,8 @@ use Rattle.modules.proofs.Laws.{said-short}
 use Rattle.network.specs.declared.Called.{Called}
 use Rattle.network.specs.Calls.{spokenTo, calledBy}
 use Rattle.network.proofs.Lengths.{noted-at}
-use Rattle.capture.specs.Text.{lines}
-use Rattle.capture.specs.Turns.{printed}
-use Rattle.capture.proofs.Replies.{printed-words, lines-short}
+use Rattle.printing.specs.Text.{lines, printed}
+use Rattle.printing.proofs.Replies.{printed-words, lines-short}
 
 -- each place says at most 19 bytes
 word-short : (f : Frame) (ms : List Module) (t : Bool) (i : ℕ) → length (getD (said kind f t ms) i []) ≤ 19

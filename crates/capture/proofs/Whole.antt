@@ -11,7 +11,7 @@ use borrow.Author.Tests.{eqb-true, eqb-false, lt-ltb, le-ltb, ltb-true, ltb-fals
 use Rattle.layout.specs.Bytes.{Bytes}
 use Rattle.layout.proofs.Laws.{bytes-drop}
 use Rattle.capture.specs.declared.Place.{Place}
-use Rattle.capture.specs.Text.{badLine}
+use Rattle.printing.specs.Text.{badLine}
 use Rattle.capture.specs.Records.{Stage, gathering, running, Effect, goes, bad, bodyLength, recordStep, replayFrom, replayed}
 use Rattle.capture.specs.Turns.{start, stageIn, Held, Outcome, over, wants, judged, headSize, turnStep, turned, textAfter, turnedBy, typesBy, netBy, textBy}
 use Rattle.capture.specs.Promises.{Run, stops, turns, Whole, Ends, HeadOnly}

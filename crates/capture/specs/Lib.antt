@@ -1,4 +1,3 @@
-pub mod Text
 pub mod Records
 pub mod Turns
 pub mod Promises

@@ -12,7 +12,7 @@ use Rattle.servo.specs.declared.Sample as Servos
 use Rattle.chain.specs.Chain.{Net, Step, byteStep}
 use Rattle.modules.specs.Types.{Module, AnySample, kind, known}
 use Rattle.network.specs.Calls.{setUp, tickStep, sampleStep, byteOf, ofType}
-use Rattle.capture.specs.Text.{lines, badLine}
+use Rattle.printing.specs.Text.{lines, badLine}
 
 -- 01 Replay file: how many bytes follow the kind byte: module 1, line byte 2, servo sample 7, I/O sample 10, tick none; an unknown kind is bad
 -- whatever follows it.

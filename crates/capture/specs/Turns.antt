@@ -1,8 +1,8 @@
 -- A replay in turns, as the code makes it: at most one record a turn, from the bytes of the file that are there. The types gathered and the
 -- network stand in two lent slices.
 use mathlib.Core.Path.{_≡_}
-use Prim.Native.Nat.{ℕ, zero, suc, _+_, _<_, _≤_}
-use mathlib.Core.List.{List, [], _∷_, _++_}
+use Prim.Native.Nat.{ℕ, _+_, _<_, _≤_}
+use mathlib.Core.List.{List, []}
 use mathlib.Core.Bool.{Bool, true, false, cond}
 use lib.ListN.{length, getD, take, drop}
 use lib.Dec.{eqb, ltb}
@@ -12,7 +12,7 @@ use Rattle.network.specs.Record.{recordSize, netIn, stored, valid}
 use Rattle.network.specs.Calls.{setUp, allKnown, fresh}
 use Rattle.capture.specs.declared.Place.{Place}
 use Rattle.capture.specs.declared.Turned.{Turned}
-use Rattle.capture.specs.Text.{line, badLine}
+use Rattle.printing.specs.Text.{badLine}
 use Rattle.capture.specs.Records.{Stage, gathering, running, Effect, goes, bad, bodyLength, recordStep}
 
 -- 01 Replay file: where a replay begins.
@@ -104,14 +104,3 @@ pub record Within (r : Turned) (from there : ℕ) : Type 0 where
   pub offset : r .next .offset ≤ from + 11
   pub took : r .took ≤ there
   pub wrote : r .wrote ≤ 1920
-
--- 01 Replay file: the line of what a place said; no line where it said nothing.
-abbrev pub replyText : ℕ → List ℕ → List ℕ
-replyText place [] = []
-replyText place (b ∷ bs) = line place (b ∷ bs)
-
--- 01 Replay file: the lines of k places from one on, whose words stand in a room one after another, by the length of each.
-unfoldable pub printed : ℕ → ℕ → ℕ → List ℕ → List ℕ → List ℕ
-printed zero place at lengths room = []
-printed (suc k) place at lengths room =
-    replyText place (take (getD lengths place 0) (drop at room)) ++ printed k (place + 1) (at + getD lengths place 0) lengths room

@@ -2,16 +2,16 @@
 // and the network stand in lent slices.
 ghost use mathlib.Core.Path.{_≡_};
 ghost use mathlib.Core.Bool.{true, false, cond};
-ghost use mathlib.Core.List.{_∷_, []};
-ghost use Prim.Native.Nat.{ℕ, _+_, _*_, _^_, _≤_, _<_};
+ghost use mathlib.Core.List.{[]};
+ghost use Prim.Native.Nat.{_+_, _^_, _≤_, _<_};
 ghost use lib.ListN.{length, getD};
 ghost use Rattle.layout.specs.Bytes.{pasted};
 ghost use Rattle.modules.specs.Types.{slots, measured};
 ghost use Rattle.network.specs.Record.{netIn, stored, valid};
 ghost use Rattle.network.specs.Calls.{tickStep};
-ghost use Rattle.capture.specs.Text.{space, hexDigit, hexPair, hexes, decimal, line, badLine};
+ghost use Rattle.printing.specs.Text.{badLine};
 ghost use Rattle.capture.specs.Records.{bad, goes, running, bodyLength, moduleRecord, lineByte, servoSampleIn, ioSampleIn, sampleRecord, servoSample, ioSample, netRecord, recordStep};
-ghost use Rattle.capture.specs.Turns.{start, stageIn, Held, Within, over, wants, judged, turnStep, turned, typesAfter, netAfter, textAfter, turnedBy, typesBy, netBy, textBy, replyText, printed};
+ghost use Rattle.capture.specs.Turns.{start, stageIn, Held, Within, over, wants, judged, turnStep, turned, typesAfter, netAfter, textAfter, turnedBy, typesBy, netBy, textBy};
 use modules::Measured;
 
 // Where a replay is: the offset of the next record, how many modules there are, and whether another kind has come.
@@ -29,101 +29,6 @@ pub struct Turned {
     pub wrote: usize,
     pub over: bool,
     pub wants: bool,
-}
-
-fn hex_digit(d: u8) -> u8
-    requires { ⌜ d < 16 ⌝ }
-    ensures { λ r. ⌜ r ≡ hexDigit d ⌝ }
-{
-    if d < 10 { 48 + d } else { 55 + d }
-}
-
-// A space and a byte's two digits.
-fn put_pair(out: &mut [u8], at: usize, b: u8)
-    requires { ⌜ at + 3 ≤ length (now out) ⌝ }
-    ensures { λ _. ⌜ now (out .exit) ≡ pasted at (space ∷ hexPair b) (now (out .entry)) ⌝ }
-{
-    let text = [b' ', hex_digit(b / 16), hex_digit(b % 16)];
-    layout::put_all(out, at, &text);
-}
-
-// The bytes of a reply, as the line shows them.
-fn put_pairs(out: &mut [u8], at: usize, bytes: &[u8])
-    requires { ⌜ at + 3 * length (now bytes) ≤ length (now out) ⌝ }
-    ensures { λ _. ⌜ now (out .exit) ≡ pasted at (hexes (now (bytes .entry))) (now (out .entry)) ⌝ }
-{
-    let mut place = at;
-    let mut i = 0;
-    while i < bytes.len() {
-        put_pair(out, place, bytes[i]);
-        place += 3;
-        i += 1;
-    }
-}
-
-// A number in decimal; how many digits it has.
-fn put_decimal(out: &mut [u8], at: usize, n: u64) -> usize
-    requires { ⌜ at + length (decimal n) ≤ length (now out) ⌝ }
-    ensures { λ r. ⌜ r ≡ length (decimal n) ⌝ }
-    ensures { λ _. ⌜ now (out .exit) ≡ pasted at (decimal n) (now (out .entry)) ⌝ }
-{
-    let mut digits = [0u8; 20];
-    digits[19] = 48 + (n % 10) as u8;
-    let mut rest = n / 10;
-    let mut i: usize = 19;
-    while 0 < rest {
-        i -= 1;
-        digits[i] = 48 + (rest % 10) as u8;
-        rest = rest / 10;
-    }
-    layout::put_all(out, at, &digits[i..]);
-    20 - i
-}
-
-// The line of a reply.
-fn put_line(out: &mut [u8], at: usize, place: usize, bytes: &[u8]) -> usize
-    requires { ⌜ (place < 32) × (length (now bytes) ≤ 19) × (at + 60 ≤ length (now out)) ⌝ }
-    ensures { λ r. ⌜ r ≡ length (line place (now (bytes .entry))) ⌝ }
-    ensures { λ _. ⌜ now (out .exit) ≡ pasted at (line place (now (bytes .entry))) (now (out .entry)) ⌝ }
-{
-    let n = put_decimal(out, at, place as u64);
-    put_pairs(out, at + n, bytes);
-    let end = n + 3 * bytes.len();
-    out[at + end] = b'\n';
-    end + 1
-}
-
-// A place that says nothing has no line.
-fn put_reply(out: &mut [u8], at: usize, place: usize, bytes: &[u8]) -> usize
-    requires { ⌜ (place < 32) × (length (now bytes) ≤ 19) × (at + 60 ≤ length (now out)) ⌝ }
-    ensures { λ r. ⌜ r ≡ length (replyText place (now (bytes .entry))) ⌝ }
-    ensures { λ _. ⌜ now (out .exit) ≡ pasted at (replyText place (now (bytes .entry))) (now (out .entry)) ⌝ }
-{
-    if bytes.len() == 0 {
-        return 0;
-    }
-    put_line(out, at, place, bytes)
-}
-
-// The lines of the replies that stand in a room one after another; how many bytes they have.
-fn put_replies(lengths: [u8; 32], room: &[u8], out: &mut [u8]) -> usize
-    requires { ⌜ ((i : ℕ) → getD lengths i 0 ≤ 19) ⌝ }
-    requires { ⌜ (608 ≤ length (now room)) × (1920 ≤ length (now out)) ⌝ }
-    ensures { λ r. ⌜ r ≡ length (printed 32 0 0 lengths (now (room .entry))) ⌝ }
-    ensures { λ _. ⌜ now (out .exit) ≡ pasted 0 (printed 32 0 0 lengths (now (room .entry))) (now (out .entry)) ⌝ }
-{
-    let mut wrote: usize = 0;
-    let mut at: usize = 0;
-    let mut place: usize = 0;
-    let mut left: usize = 32;
-    while 0 < left {
-        let end = at + lengths[place] as usize;
-        wrote += put_reply(out, wrote, place, &room[at..end]);
-        at = end;
-        place += 1;
-        left -= 1;
-    }
-    wrote
 }
 
 impl Place {
@@ -145,7 +50,7 @@ impl Place {
         ensures { λ _. ⌜ now (out .exit) ≡ pasted 0 (badLine (self .offset)) (now (out .entry)) ⌝ }
     {
         layout::put_all(out, 0, b"bad ");
-        let n = put_decimal(out, 4, self.offset);
+        let n = printing::put_decimal(out, 4, self.offset);
         out[4 + n] = b'\n';
         Turned {
             next: self,
@@ -256,7 +161,7 @@ fn take_byte(at: Place, body: &[u8], net: &mut [u8], out: &mut [u8]) -> Turned
     let mut room = [0u8; 608];
     let called = network::byte(net, value, mark == 1, &mut room);
     let lengths = called.lengths;
-    let wrote = put_replies(lengths, &room, out);
+    let wrote = printing::put_replies(lengths, &room, out);
     at.went(3, wrote)
 }
 

@@ -2,20 +2,18 @@
 use mathlib.Core.Path.{_≡_, sym, ap, _∙_}
 use mathlib.Core.Bool.{Bool, true, false, cond}
 use Prim.Native.Nat.{ℕ, zero, suc, _+_, _*_, _/_, _%_, _^_, _<_}
-use native.Mathlib.Nat.{pow-succ', div-div-eq-div-mul}
+use native.Mathlib.Nat.{pow-succ'}
 use native.Mathlib.Omega.{arith}
 use lib.Dec.{eqb}
+use Rattle.integers.specs.Bits.{bit}
+use Rattle.integers.proofs.Bits.{bit-half}
 use Rattle.inout.specs.Pins.{blend}
-use Rattle.inout.specs.Promises.{bit, EachBit, NoFurther, Nibble, InputsKeep, ReadValue}
+use Rattle.inout.specs.Promises.{EachBit, NoFurther, Nibble, InputsKeep, ReadValue}
 
 -- one bit is 0 or 1
 one : (t : Bool) (x y : ℕ) → cond t (x % 2) (y % 2) < 2
 one true x y = omega arith
 one false x y = omega arith
-
--- bit k + 1 is bit k of the half
-next : (k x : ℕ) → bit (suc k) x ≡ bit k (x / 2)
-next k x = ap (λ (z : ℕ). z % 2) (ap (λ (p : ℕ). x / p) (pow-succ' 2 k) ∙ sym (div-div-eq-div-mul x 2 (2 ^ k)))
 
 first : (x : ℕ) → bit 0 x ≡ x % 2
 first x = omega arith
@@ -37,7 +35,7 @@ each-bit (suc n) zero d x y h =
 each-bit (suc n) (suc k) d x y h =
     let b = one (eqb (d % 2) 1) x y in
     let half : (cond (eqb (d % 2) 1) (x % 2) (y % 2) + 2 * blend n (d / 2) (x / 2) (y / 2)) / 2 ≡ blend n (d / 2) (x / 2) (y / 2) = omega arith in
-    rw (next k (cond (eqb (d % 2) 1) (x % 2) (y % 2) + 2 * blend n (d / 2) (x / 2) (y / 2)), half, next k d, next k x, next k y)
+    rw (bit-half k (cond (eqb (d % 2) 1) (x % 2) (y % 2) + 2 * blend n (d / 2) (x / 2) (y / 2)), half, bit-half k d, bit-half k x, bit-half k y)
     (each-bit n k (d / 2) (x / 2) (y / 2) (omega arith))
 
 pub nibble : Nibble

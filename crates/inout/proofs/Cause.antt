@@ -8,12 +8,13 @@ use borrow.Author.Tests.{eqb-true, eqb-false}
 use lib.Dec.{eqb}
 use lib.Pow.{pow-pos}
 use Rattle.station.specs.Report.{replyOf, report}
+use Rattle.integers.specs.Bits.{bit}
 use Rattle.inout.specs.declared.Io.{Io}
 use Rattle.inout.specs.declared.Request.{Request}
 use Rattle.inout.specs.declared.Request.the-variants.{Malformed, Wants}
 use Rattle.inout.specs.Commands.{request}
 use Rattle.inout.specs.Module.{withCause, settled, execute, reply}
-use Rattle.inout.specs.Promises.{bit, Cause, CauseIs, Status, CauseBit, StatusFirst}
+use Rattle.inout.specs.Promises.{Cause, CauseIs, Status, CauseBit, StatusFirst}
 
 -- a frame that is damaged or not, and what it asks
 after : Bool → Request → Io → Io

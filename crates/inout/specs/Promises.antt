@@ -1,10 +1,11 @@
 -- What is promised of an I/O module. Each is proved under its name, with small letters, in proofs/.
 use mathlib.Core.Path.{_≡_}
-use Prim.Native.Nat.{ℕ, _+_, _*_, _/_, _%_, _^_, _<_, _≤_}
+use Prim.Native.Nat.{ℕ, _+_, _*_, _%_, _^_, _<_, _≤_}
 use mathlib.Core.List.{List, [], _∷_, _++_}
 use mathlib.Core.Bool.{Bool, true, false, cond, _&&_}
 use lib.ListN.{length, getD}
 use lib.Dec.{eqb}
+use Rattle.integers.specs.Bits.{bit}
 use Rattle.layout.specs.Bytes.{le, Bytes}
 use Rattle.line.specs.Frames.{Frame}
 use Rattle.station.specs.declared.Setting.the-variants.{Assign, Define, Rate, Nothing}
@@ -21,10 +22,6 @@ use Rattle.inout.specs.Pins.{bitsOf, blend}
 use Rattle.inout.specs.Commands.{request}
 use Rattle.inout.specs.Module.{withCause, fresh, started, readNow, pulsed, output, perform, execute, numbers, reply, sampled, ticked, outputsOf}
 use Rattle.inout.specs.Slot.{sample, slot, decodeOf, okOf}
-
--- bit k of a number
-abbrev pub bit : ℕ → ℕ → ℕ
-bit k x = x / 2 ^ k % 2
 
 -- A frame is tested for damaged, cause 1, then for malformed, cause 2; any other is performed, cause 0. Where the cause after it is not 0,
 -- all else in the record is as it was.

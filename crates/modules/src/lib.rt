@@ -9,7 +9,6 @@ ghost use Rattle.station.specs.Touch.{frameOf};
 ghost use Rattle.chain.specs.Chain.{executed, replied};
 ghost use Rattle.chain.specs.Slots.{slotSize};
 ghost use Rattle.modules.specs.Types.{kind, slots, known, powered, measured, outputs};
-use inout::Io;
 use servo::Servo;
 use station::Head;
 
@@ -33,7 +32,7 @@ pub fn is_ok(s: &[u8]) -> bool
     if s[0] == 0 {
         return positioner::is_ok(s);
     }
-    inout::is_ok(s)
+    ioslot::is_ok(s)
 }
 
 // A module of a known type at power-up, put into a slot.
@@ -44,7 +43,7 @@ pub fn power_up(s: &mut [u8], t: u8)
     if t == 0 {
         positioner::put(s, Servo::power_up());
     } else {
-        inout::put(s, Io::power_up());
+        ioslot::put(s, terminal::power_up());
     }
 }
 
@@ -58,7 +57,7 @@ pub fn touch(s: &mut [u8], f: Head, ds: &[u8], room: &mut [u8], from: usize) -> 
     if s[0] == 0 {
         return positioner::touch(s, f, ds, room, from);
     }
-    inout::touch(s, f, ds, room, from)
+    ports::touch(s, f, ds, room, from)
 }
 
 // The module in a slot, after a tick.
@@ -69,7 +68,7 @@ pub fn tick(s: &mut [u8])
     if s[0] == 0 {
         positioner::tick(s);
     } else {
-        inout::tick(s);
+        ports::tick(s);
     }
 }
 
@@ -89,7 +88,7 @@ fn put_io_sample(s: &mut [u8], x: inout::Sample)
     ensures { λ _. ⌜ now (s .exit) ≡ pasted 0 (slots .enc (kind .sample (inr x) (slots .dec (now (s .entry))))) (now (s .entry)) ⌝ }
 {
     if s[0] != 0 {
-        inout::put_sample(s, x);
+        ports::put_sample(s, x);
     }
 }
 
@@ -112,5 +111,5 @@ pub fn outputs(s: &[u8]) -> [u8; 8]
     if s[0] == 0 {
         return positioner::outputs(s);
     }
-    inout::decode(s).outputs()
+    terminal::outputs(ioslot::decode(s))
 }

@@ -3,17 +3,19 @@ use mathlib.Core.Path.{_≡_, refl, sym, ap, ap₂, _∙_}
 use mathlib.Core.List.{List, [], _∷_}
 use mathlib.Core.Bool.{Bool, true, false, not, cond, _&&_, _||_}
 use Prim.Native.Nat.{ℕ, zero, suc, _+_, _*_, _/_, _%_, _^_, _<_, _≤_}
-use native.Mathlib.Nat.{div-one, pow-succ', div-div-eq-div-mul}
+use native.Mathlib.Nat.{div-one}
 use native.Mathlib.Omega.{arith}
 use borrow.Author.Tests.{eqb-true, leb-true, le-leb, ne-eqb}
 use lib.Count.{ones, ones-step}
 use lib.ListN.{getD}
 use lib.Dec.{eqb, leb}
+use Rattle.integers.specs.Bits.{bit}
+use Rattle.integers.proofs.Bits.{bit-half}
 use Rattle.layout.specs.Bytes.{ofLe, readAt, Bytes}
 use Rattle.layout.proofs.Laws.{ofLe-lt, bytes-read}
 use Rattle.layout.proofs.Every.{every-hold}
 use Rattle.motion.specs.Profile.{fastest}
-use Rattle.orders.specs.Loads.{bit, isSet, carriedIn, inRange}
+use Rattle.orders.specs.Loads.{isSet, carriedIn, inRange}
 use Rattle.orders.specs.Orders.{gainsIn, gainsFit}
 use Rattle.orders.specs.Promises.{LoadRange, GainRange, OneHalt, Fit}
 
@@ -39,18 +41,14 @@ gain-range g = (
   λ r. ap₂ _&&_ (ap₂ _&&_ (ap₂ _&&_ (ap₂ _&&_ (le-leb _ _ (r .kp)) (le-leb _ _ (r .kd))) (le-leb _ _ (r .ki))) (le-leb _ _ (r .il))) (le-leb _ _ (r .el)),
 )
 
--- a bit above the lowest is a bit of the half
-half : (k n : ℕ) → bit (suc k) n ≡ bit k (n / 2)
-half k n = ap (λ (z : ℕ). z % 2) (ap (λ (p : ℕ). n / p) (pow-succ' 2 k) ∙ sym (div-div-eq-div-mul n 2 (2 ^ k)))
-
 one-bit : (k n : ℕ) → bit k n ≤ ones n
 one-bit zero n = omega (arith, div-one n, ones-step n)
-one-bit (suc k) n = omega (arith, half k n, one-bit k (n / 2), ones-step n)
+one-bit (suc k) n = omega (arith, bit-half k n, one-bit k (n / 2), ones-step n)
 
 two-bits : (j k n : ℕ) → j < k → bit j n + bit k n ≤ ones n
 two-bits j zero n l = omega arith
-two-bits zero (suc k) n l = omega (arith, div-one n, half k n, one-bit k (n / 2), ones-step n)
-two-bits (suc j) (suc k) n l = omega (arith, half j n, half k n, two-bits j k (n / 2) (omega arith), ones-step n)
+two-bits zero (suc k) n l = omega (arith, div-one n, bit-half k n, one-bit k (n / 2), ones-step n)
+two-bits (suc j) (suc k) n l = omega (arith, bit-half j n, bit-half k n, two-bits j k (n / 2) (omega arith), ones-step n)
 
 pub one-halt : OneHalt
 one-halt control h =
@@ -64,7 +62,7 @@ one-halt control h =
     single few zero k p l u e = absurd (omega arith)
     single few (suc j) zero p l u e = absurd (omega arith)
     single few (suc j) (suc k) p l u e =
-        ne-eqb _ _ (λ (s : bit (suc k) control ≡ 1). omega (arith, eqb-true (bit (suc j) control) 1 e, half j control, half k control, two-bits j k (control / 2) (omega arith)))
+        ne-eqb _ _ (λ (s : bit (suc k) control ≡ 1). omega (arith, eqb-true (bit (suc j) control) 1 e, bit-half j control, bit-half k control, two-bits j k (control / 2) (omega arith)))
 
 -- numbers in four and in two bytes
 four : (at : ℕ) (ds : List ℕ) → Bytes ds → ofLe (readAt 4 at ds) < 2 ^ 32

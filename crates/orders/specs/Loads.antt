@@ -1,18 +1,16 @@
 -- What a Load Trajectory carries (document 01, "Servo", 4 Load Trajectory).
-use Prim.Native.Nat.{ℕ, _+_, _*_, _/_, _%_, _^_}
+use Prim.Native.Nat.{ℕ, _+_, _*_, _%_}
 use mathlib.Core.List.{List}
 use mathlib.Core.Bool.{Bool, cond, not, _&&_, _||_}
 use lib.ListN.{getD}
 use lib.Count.{ones}
 use lib.Dec.{eqb, leb}
+use Rattle.integers.specs.Bits.{bit}
 use Rattle.layout.specs.Bytes.{ofLe, readAt}
 use Rattle.motion.specs.Profile.{fastest}
 use Rattle.orders.specs.declared.Carried.{Carried}
 
--- bit k of a byte, and whether it is set
-abbrev pub bit : ℕ → ℕ → ℕ
-bit k b = b / 2 ^ k % 2
-
+-- whether bit k of a byte is set
 abbrev pub isSet : ℕ → ℕ → Bool
 isSet k b = eqb (bit k b) 1
 

@@ -15,7 +15,7 @@ use Rattle.orders.specs.declared.Tuning.{Tuning}
 use Rattle.orders.specs.declared.Order.{Order}
 use Rattle.orders.specs.declared.Order.the-variants.{SetGain}
 use Rattle.orders.specs.declared.Request.the-variants.{Malformed, Wants}
-use Rattle.orders.specs.Loads.{bit}
+use Rattle.integers.specs.Bits.{bit}
 use Rattle.orders.specs.Orders.{request, gainsIn, tuningIn, gainsFit}
 use Rattle.servo.specs.declared.Sample.{Sample}
 use Rattle.servo.specs.declared.Mode.the-variants.{Off}

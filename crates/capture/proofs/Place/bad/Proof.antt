@@ -6,9 +6,9 @@ use Prim.Native.Nat.{ℕ, _≤_}
 use native.Mathlib.Omega.{arith}
 use borrow.Author.Needs.{needs}
 use lib.ListN.{length, length-set}
-use Rattle.capture.specs.Text.{decimal, badLine}
+use Rattle.printing.specs.Text.{decimal, badLine}
 use Rattle.capture.specs.Turns.{turned}
-use Rattle.capture.proofs.Text.{offset-short, bad-length, all-put}
+use Rattle.printing.proofs.Text.{offset-short, bad-length, all-put}
 use Rattle.capture.proofs.Place.bad.Statement.{statement}
 use Rattle.capture.proofs.Place.bad.Tie as tie
 
