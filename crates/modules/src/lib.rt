@@ -10,7 +10,6 @@ ghost use Rattle.chain.specs.Chain.{executed, replied};
 ghost use Rattle.chain.specs.Slots.{slotSize};
 ghost use Rattle.modules.specs.Types.{kind, slots, known, powered, measured, outputs};
 use inout::Io;
-use servo::Servo;
 use station::Head;
 
 // A sample, as it was measured for a module of either type.
@@ -42,7 +41,7 @@ pub fn power_up(s: &mut [u8], t: u8)
     ensures { λ _. ⌜ now (s .exit) ≡ pasted 0 (slots .enc (powered t)) (now (s .entry)) ⌝ }
 {
     if t == 0 {
-        positioner::put(s, Servo::power_up());
+        positioner::put(s, commands::power_up());
     } else {
         inout::put(s, Io::power_up());
     }

@@ -588,10 +588,10 @@ pub fn touch(s: &mut [u8], f: Head, ds: &[u8], room: &mut [u8], from: usize) -> 
 {
     let before = decode(s);
     let address = before.station.address;
-    let after = before.execute(f, address.is_individually(f.address), ds);
+    let after = commands::execute(before, f, address.is_individually(f.address), ds);
     put(s, after);
     if address.is_speaking(f.address) {
-        return after.put_reply(f, ds, room, from);
+        return answers::put_reply(after, f, ds, room, from);
     }
     0
 }
@@ -602,7 +602,7 @@ pub fn tick(s: &mut [u8])
     ensures { λ _. ⌜ now (s .exit) ≡ pasted 0 (encodeOf (ticked (decodeOf (now (s .entry))))) (now (s .entry)) ⌝ }
 {
     let m = decode(s);
-    put(s, m.ticked());
+    put(s, motor::ticked(m));
 }
 
 // The servo in a slot, with a sample waiting.
@@ -611,7 +611,7 @@ pub fn put_sample(s: &mut [u8], x: Sample)
     ensures { λ _. ⌜ now (s .exit) ≡ pasted 0 (encodeOf (sampled x (decodeOf (now (s .entry))))) (now (s .entry)) ⌝ }
 {
     let m = decode(s);
-    put(s, m.sampled(x));
+    put(s, motor::sampled(m, x));
 }
 
 // What the board drives for the servo in a slot.
@@ -619,5 +619,5 @@ pub fn outputs(s: &[u8]) -> [u8; 8]
     requires { ⌜ (106 ≤ length (now s)) × (okOf (now s) ≡ true) ⌝ }
     ensures { λ r. ⌜ r ≡ outputsOf (decodeOf (now (s .entry))) ⌝ }
 {
-    decode(s).outputs()
+    answers::outputs(decode(s))
 }
