@@ -25,8 +25,8 @@ use Rattle.servo.specs.Orders.{holding, stopped, withCause, execute}
 use Rattle.servo.specs.Tick.{advanced, servoed, ticked}
 use Rattle.servo.specs.RestPromises.{Resting, following}
 use Rattle.chain.specs.Chain.{Net}
-use Rattle.positioner.specs.Promises.{Fits}
-use Rattle.positioner.proofs.Within.{kept}
+use Rattle.servoslot.specs.Promises.{Fits}
+use Rattle.servoslot.proofs.Within.{kept}
 use Rattle.modules.specs.Types.{Module, slots}
 use Rattle.network.specs.Record.{recordSize, netIn}
 use Rattle.network.specs.Calls.{setUp}

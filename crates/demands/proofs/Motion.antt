@@ -42,9 +42,9 @@ use Rattle.servo.proofs.Shifting.{resets-position}
 use Rattle.servo.proofs.Ends.{ends}
 use Rattle.servo.proofs.AtRest.{stays-resting}
 use Rattle.servo.proofs.Placing.{only-here}
-use Rattle.positioner.specs.Promises.{Fits}
-use Rattle.positioner.proofs.Good.{InMode, good}
-use Rattle.positioner.proofs.Within.{kept}
+use Rattle.servoslot.specs.Promises.{Fits}
+use Rattle.servoslot.proofs.Good.{InMode, good}
+use Rattle.servoslot.proofs.Within.{kept}
 use Rattle.demands.specs.Motion.{Moves, Bound, RestIs, Begins, moving, bound, put, Starts, byStart, byLoad, byStopHere, FrameStarts, StartsAreExecuted, TickStarts, Met, frame, sampling, tick, meets, after, Handed, StartedIn, Never}
 use Rattle.demands.proofs.Asking.{Evident, evident}
 

@@ -10,7 +10,7 @@ use Rattle.servo.specs.Servo.{started}
 use Rattle.servo.specs.Orders.{withCause, execute}
 use Rattle.servo.specs.Tick.{ticked}
 use Rattle.servo.specs.RestPromises.{Resting}
-use Rattle.positioner.specs.Promises.{Fits}
+use Rattle.servoslot.specs.Promises.{Fits}
 use Rattle.modules.specs.Types.{slots}
 use Rattle.network.specs.Record.{recordSize, netIn}
 use Rattle.doljurven.specs.Calls.{setupRecord}

@@ -30,8 +30,8 @@ use Rattle.servo.specs.Orders.{execute}
 use Rattle.servo.specs.Tick.{ticked}
 use Rattle.servo.specs.LoadPromises.{Ready, Startable}
 use Rattle.servo.specs.RestPromises.{Resting, following}
-use Rattle.positioner.specs.Slot.{sample}
-use Rattle.positioner.specs.Promises.{Fits}
+use Rattle.servoslot.specs.Slot.{sample}
+use Rattle.servoslot.specs.Promises.{Fits}
 use Rattle.modules.specs.Types.{Module, kind, slots}
 use Rattle.network.specs.Record.{netIn}
 use Rattle.network.specs.Calls.{byteOf}

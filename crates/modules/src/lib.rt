@@ -30,7 +30,7 @@ pub fn is_ok(s: &[u8]) -> bool
     ensures { λ r. ⌜ r ≡ slots .ok (now (s .entry)) ⌝ }
 {
     if s[0] == 0 {
-        return positioner::is_ok(s);
+        return servolist::is_ok(s);
     }
     inout::is_ok(s)
 }
@@ -41,7 +41,7 @@ pub fn power_up(s: &mut [u8], t: u8)
     ensures { λ _. ⌜ now (s .exit) ≡ pasted 0 (slots .enc (powered t)) (now (s .entry)) ⌝ }
 {
     if t == 0 {
-        positioner::put(s, commands::power_up());
+        servoslot::put(s, commands::power_up());
     } else {
         inout::put(s, Io::power_up());
     }
