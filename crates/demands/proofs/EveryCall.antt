@@ -24,7 +24,7 @@ use Rattle.servo.specs.Orders.{execute}
 use Rattle.servo.specs.Tick.{ticked}
 use Rattle.servo.specs.RestPromises.{Resting}
 use Rattle.servo.proofs.AtRest.{stays-resting}
-use Rattle.positioner.specs.Promises.{Fits}
+use Rattle.servoslot.specs.Promises.{Fits}
 use Rattle.modules.specs.Types.{Module, AnySample, kind, slots, powered}
 use Rattle.modules.proofs.Laws.{lawful}
 use Rattle.network.specs.Record.{netIn}

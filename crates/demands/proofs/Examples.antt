@@ -28,8 +28,8 @@ use Rattle.servo.specs.Loads.{wayOf, loadOf, ratesOf, loaded, beginning, movabl
 use Rattle.servo.specs.Orders.{holding, stopped, withCause, execute}
 use Rattle.servo.specs.Tick.{advanced, servoed, ticked}
 use Rattle.servo.specs.RestPromises.{following}
-use Rattle.positioner.specs.Promises.{Fits}
-use Rattle.positioner.proofs.Within.{kept}
+use Rattle.servoslot.specs.Promises.{Fits}
+use Rattle.servoslot.proofs.Within.{kept}
 use Rattle.modules.specs.Types.{Module, AnySample, kind, slots}
 use Rattle.network.specs.Record.{recordSize, netIn}
 use Rattle.network.specs.Calls.{setUp, ofType}

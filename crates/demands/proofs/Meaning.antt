@@ -32,8 +32,8 @@ use Rattle.servo.specs.TickPromises.{Ticking, followed}
 use Rattle.servo.proofs.Keeping.{distinct}
 use Rattle.servo.proofs.Ends.{ends}
 use Rattle.servo.proofs.Ticking.{ticks}
-use Rattle.positioner.specs.Promises.{Fits}
-use Rattle.positioner.proofs.Good.{InMode, good}
+use Rattle.servoslot.specs.Promises.{Fits}
+use Rattle.servoslot.proofs.Good.{InMode, good}
 use Rattle.host.proofs.Sent.{sent}
 use Rattle.doljurven.proofs.Status.{status-read}
 use Rattle.modules.specs.Types.{kind}

@@ -43,8 +43,8 @@ use Rattle.servo.proofs.Shifting.{resets-position}
 use Rattle.servo.proofs.Ends.{ends}
 use Rattle.servo.proofs.AtRest.{stays-resting}
 use Rattle.servo.proofs.Placing.{only-here}
-use Rattle.positioner.specs.Promises.{Fits}
-use Rattle.positioner.proofs.Good.{InMode, good}
+use Rattle.servoslot.specs.Promises.{Fits}
+use Rattle.servoslot.proofs.Good.{InMode, good}
 use Rattle.demands.specs.Motion.{Moves, Bound, AtRest, Begins, moving, bound, put, Asks, Starts, byStart, byLoad, byStopHere, StartsAreExecuted}
 use Rattle.demands.proofs.Asking.{Evident, evident}
 

@@ -22,7 +22,7 @@ use Rattle.servo.specs.Servo.{started}
 use Rattle.servo.specs.Orders.{execute}
 use Rattle.servo.specs.Tick.{ticked}
 use Rattle.servo.specs.StopPromises.{Released}
-use Rattle.positioner.specs.Promises.{Fits}
+use Rattle.servoslot.specs.Promises.{Fits}
 use Rattle.modules.specs.Types.{Module, kind}
 use Rattle.network.specs.Calls.{setUp}
 use Rattle.host.specs.Writing.{writtenOf, roomAfter}

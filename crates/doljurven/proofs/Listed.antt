@@ -17,8 +17,8 @@ use Rattle.modules.specs.Types.{slots}
 use Rattle.inout.specs.Slot.{slot, decodeOf, okOf}
 use Rattle.inout.specs.Promises.{Lines}
 use Rattle.inout.proofs.Listed as Slot
-use Rattle.positioner.specs.Slot as Positioner
-use Rattle.positioner.proofs.Listed as Servo
+use Rattle.servoslot.specs.Slot as Positioner
+use Rattle.servoslot.proofs.Listed as Servo
 use Rattle.network.specs.Record.{slotsAt, blank, okReceiver, okSlots, valid}
 use Rattle.network.proofs.Tests.{and-true}
 use Rattle.network.proofs.Head.{told}

@@ -18,9 +18,9 @@ use Rattle.inout.proofs.Within as Inouts
 use Rattle.servo.specs.declared.Servo.{Servo}
 use Rattle.servo.specs.Answers as ServoAnswers
 use Rattle.servo.proofs.Reply as ServoReply
-use Rattle.positioner.specs.Promises as ServoPromises
-use Rattle.positioner.proofs.Good.{good}
-use Rattle.positioner.proofs.Within as Servos
+use Rattle.servoslot.specs.Promises as ServoPromises
+use Rattle.servoslot.proofs.Good.{good}
+use Rattle.servoslot.proofs.Within as Servos
 use Rattle.host.specs.Reading.{statusOf}
 use Rattle.host.specs.Promises.{ThereIs}
 use Rattle.host.specs.Reading.{sizesOf}

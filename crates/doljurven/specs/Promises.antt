@@ -16,8 +16,8 @@ use Rattle.inout.specs.Module as Inout
 use Rattle.inout.specs.Promises as InoutPromises
 use Rattle.servo.specs.declared.Servo.{Servo}
 use Rattle.servo.specs.Answers as ServoAnswers
-use Rattle.positioner.specs.Slot.{decodeOf}
-use Rattle.positioner.specs.Promises as ServoPromises
+use Rattle.servoslot.specs.Slot.{decodeOf}
+use Rattle.servoslot.specs.Promises as ServoPromises
 use Rattle.network.specs.Record.{netIn, valid}
 use Rattle.network.specs.Calls.{setUp, tickStep, sampleStep}
 use Rattle.network.specs.Promises.{There, Back}

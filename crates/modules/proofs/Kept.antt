@@ -11,8 +11,8 @@ use Rattle.inout.specs.Slot as InoutSlot
 use Rattle.inout.proofs.Within as Inouts
 use Rattle.servo.specs.Servo as ServoState
 use Rattle.servo.specs.Answers as ServoAnswers
-use Rattle.positioner.specs.Slot as ServoSlot
-use Rattle.positioner.proofs.Within as Servos
+use Rattle.servoslot.specs.Slot as ServoSlot
+use Rattle.servoslot.proofs.Within as Servos
 use Rattle.modules.specs.Types.{kind, servoSlots, inoutSlots, slots, known, powered, Good}
 
 servo-preserves : Preserves ServoAnswers.servo servoSlots (ServoSlot.sample .codec .fits)

@@ -26,7 +26,7 @@ use Rattle.inout.specs.Slot as Inout
 use Rattle.inout.proofs.Reply as Inouts
 use Rattle.servo.specs.declared.Servo.{Servo}
 use Rattle.servo.proofs.Reply as Servos
-use Rattle.positioner.specs.Slot as Positioner
+use Rattle.servoslot.specs.Slot as Positioner
 use Rattle.modules.specs.Types.{Module, kind, servoSlots, inoutSlots, slots, typeOf}
 
 -- a list's own beginning put at its start

@@ -15,7 +15,7 @@ use Rattle.servo.specs.declared.Servo.{Servo}
 use Rattle.servo.specs.declared.Sample as Servos
 use Rattle.servo.specs.Servo as ServoState
 use Rattle.servo.specs.Answers as ServoAnswers
-use Rattle.positioner.specs.Slot as ServoSlot
+use Rattle.servoslot.specs.Slot as ServoSlot
 use Rattle.modules.specs.declared.Measured.{Measured}
 
 -- a module of any type, and a sample for it

@@ -9,7 +9,6 @@ ghost use Rattle.station.specs.Touch.{frameOf};
 ghost use Rattle.chain.specs.Chain.{executed, replied};
 ghost use Rattle.chain.specs.Slots.{slotSize};
 ghost use Rattle.modules.specs.Types.{kind, slots, known, powered, measured, outputs};
-use servo::Servo;
 use station::Head;
 
 // A sample, as it was measured for a module of either type.
@@ -30,7 +29,7 @@ pub fn is_ok(s: &[u8]) -> bool
     ensures { λ r. ⌜ r ≡ slots .ok (now (s .entry)) ⌝ }
 {
     if s[0] == 0 {
-        return positioner::is_ok(s);
+        return servolist::is_ok(s);
     }
     ioslot::is_ok(s)
 }
@@ -41,7 +40,7 @@ pub fn power_up(s: &mut [u8], t: u8)
     ensures { λ _. ⌜ now (s .exit) ≡ pasted 0 (slots .enc (powered t)) (now (s .entry)) ⌝ }
 {
     if t == 0 {
-        positioner::put(s, Servo::power_up());
+        servoslot::put(s, commands::power_up());
     } else {
         ioslot::put(s, terminal::power_up());
     }

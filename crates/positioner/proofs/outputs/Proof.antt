@@ -1,5 +1,5 @@
 -- `positioner::outputs` meets its contract. Assumes nothing.
-use Rattle.positioner.proofs.Tested.{output-in}
+use Rattle.servoslot.proofs.Tested.{output-in}
 use native.Mathlib.Omega.{arith}
 use borrow.Author.Needs.{needs}
 use Rattle.positioner.proofs.outputs.Statement.{statement}

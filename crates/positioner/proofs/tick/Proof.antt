@@ -1,5 +1,5 @@
 -- `positioner::tick` meets its contract. Assumes nothing.
-use Rattle.positioner.proofs.Tested.{steady-in}
+use Rattle.servoslot.proofs.Tested.{steady-in}
 use native.Mathlib.Omega.{arith}
 use borrow.Author.Needs.{needs}
 use Rattle.positioner.proofs.tick.Statement.{statement}

@@ -1,9 +1,9 @@
 -- `positioner::touch` meets its contract. Assumes nothing.
-use Rattle.positioner.specs.Slot.{encodeOf, decodeOf}
+use Rattle.servoslot.specs.Slot.{encodeOf, decodeOf}
 use Rattle.servo.specs.Answers.{servo}
 use Rattle.station.specs.Touch.{frameOf}
 use Rattle.chain.proofs.Slotted.{spoken, silent}
-use Rattle.positioner.proofs.Tested.{steady-in, ranged-after}
+use Rattle.servoslot.proofs.Tested.{steady-in, ranged-after}
 use native.Mathlib.Omega.{arith}
 use borrow.Author.Needs.{needs}
 use Rattle.positioner.proofs.touch.Statement.{statement}

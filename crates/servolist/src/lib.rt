@@ -1,0 +1,156 @@
+// Whether a slot holds a valid servo: the tests of the list.
+ghost use mathlib.Core.Path.{_≡_};
+ghost use Prim.Native.Nat.{_≤_};
+ghost use lib.IntN.{pos};
+ghost use lib.ListN.{length};
+ghost use Rattle.layout.specs.Every.{every, everyFrom};
+ghost use Rattle.integers.specs.Whole.{same};
+ghost use Rattle.motion.specs.Profile.{Ranged};
+ghost use Rattle.servoslot.specs.List.{ratesFit, memoryFits, driveFits, emptied, live, modeFits, sound};
+ghost use Rattle.servoslot.specs.Slot.{okOf};
+ghost use Rattle.servoslot.specs.Parts.{frontTests, loadTests, motionTests};
+use filter::Memory;
+use motion::Profile;
+use servo::Drive;
+use servo::Mode;
+use servo::Rates;
+use servo::Servo;
+
+fn do_rates_fit(r: Rates) -> bool
+    ensures { λ q. ⌜ q ≡ ratesFit r ⌝ }
+{
+    (r.velocity <= 83_886_080)
+        & (r.acceleration <= 83_886_080)
+        & (!r.ramped | (1 <= r.acceleration))
+}
+
+fn does_memory_fit(y: Memory) -> bool
+    ensures { λ r. ⌜ r ≡ memoryFits y ⌝ }
+{
+    integers::is_within(32767, y.integral) & integers::is_within(16383, y.previous)
+}
+
+fn does_drive_fit(d: Drive) -> bool
+    ensures { λ r. ⌜ r ≡ driveFits d ⌝ }
+{
+    integers::is_within(255, d.pulse) & integers::is_within(255, d.output)
+}
+
+fn is_emptied(y: Memory) -> bool
+    ensures { λ r. ⌜ r ≡ emptied y ⌝ }
+{
+    integers::is_same(y.integral, 0) & integers::is_same(y.previous, 0)
+}
+
+fn is_silent(d: Drive) -> bool
+    ensures { λ r. ⌜ r ≡ same (d .output) (pos 0) ⌝ }
+{
+    integers::is_same(d.output, 0)
+}
+
+fn is_unpulsed(d: Drive) -> bool
+    ensures { λ r. ⌜ r ≡ same (d .pulse) (pos 0) ⌝ }
+{
+    integers::is_same(d.pulse, 0)
+}
+
+fn is_at_rest(p: Profile) -> bool
+    ensures { λ r. ⌜ r ≡ same (p .speed) (pos 0) ⌝ }
+{
+    integers::is_same(p.speed, 0)
+}
+
+fn is_live(m: Servo) -> bool
+    ensures { λ r. ⌜ r ≡ live m ⌝ }
+{
+    !m.drive.error & !(m.latched.power == 0)
+}
+
+// What the mode asks.
+fn does_mode_fit(mode: Mode, m: Servo) -> bool
+    requires { ⌜ Ranged (m .profile) ⌝ }
+    ensures { λ r. ⌜ r ≡ modeFits mode m ⌝ }
+{
+    let p = m.profile;
+    let y = m.memory;
+    let d = m.drive;
+    match mode {
+        Mode::Off => is_at_rest(p) & is_silent(d) & is_emptied(y) & is_unpulsed(d),
+        Mode::Pwm => is_at_rest(p) & is_emptied(y) & is_live(m),
+        Mode::Hold => is_at_rest(p) & is_unpulsed(d) & is_live(m),
+        Mode::Velocity => is_unpulsed(d) & is_live(m),
+        Mode::Trapezoid => is_unpulsed(d) & is_live(m) & p.is_running(),
+    }
+}
+
+fn is_sound(m: Servo) -> bool
+    requires { ⌜ Ranged (m .profile) ⌝ }
+    ensures { λ r. ⌜ r ≡ sound m ⌝ }
+{
+    let d = m.drive;
+    let mode = d.mode;
+    ((m.latched.power == 1) | is_silent(d)) & does_mode_fit(mode, m)
+}
+
+// The tests of the bytes up to place 38: type, station, both powers, gains and limits.
+fn is_front_ok(s: &[u8]) -> bool
+    requires { ⌜ 106 ≤ length (now s) ⌝ }
+    ensures { λ r. ⌜ r ≡ every (frontTests (now (s .entry))) ⌝ }
+{
+    (s[0] == 0)
+        & (s[3] <= 1)
+        & (s[4] <= 1)
+        & (s[5] <= 3)
+        & (s[12] <= 2)
+        & (s[18] <= 2)
+        & (s[29] <= 127)
+        & (s[31] <= 127)
+        & (s[33] <= 127)
+        & (s[35] <= 127)
+        & (s[38] <= 63)
+}
+
+// What was tested so far, and the tests of rates and load.
+fn is_load_ok(ok: bool, s: &[u8], r: Rates) -> bool
+    requires { ⌜ 106 ≤ length (now s) ⌝ }
+    ensures { λ q. ⌜ q ≡ everyFrom ok (loadTests r (now (s .entry))) ⌝ }
+{
+    ok
+        & (s[49] <= 1)
+        & (s[50] <= 1)
+        & do_rates_fit(r)
+        & (s[51] <= 1)
+        & (s[52] <= 2)
+        & (s[53] <= 1)
+        & (s[58] <= 1)
+        & (s[60] <= 1)
+}
+
+// What was tested so far, and the tests of what runs.
+fn is_motion_ok(ok: bool, s: &[u8], m: Servo) -> bool
+    requires { ⌜ 106 ≤ length (now s) ⌝ }
+    ensures { λ q. ⌜ q ≡ everyFrom ok (motionTests m (now (s .entry))) ⌝ }
+{
+    let p = m.profile;
+    ok
+        & p.is_in_range()
+        & does_memory_fit(m.memory)
+        & (s[95] <= 4)
+        & (s[104] <= 1)
+        & (s[105] <= 1)
+        & does_drive_fit(m.drive)
+}
+
+// Whether a slot holds a valid servo.
+pub fn is_ok(s: &[u8]) -> bool
+    requires { ⌜ 106 ≤ length (now s) ⌝ }
+    ensures { λ r. ⌜ r ≡ okOf (now (s .entry)) ⌝ }
+{
+    let m = servoslot::decode(s);
+    let front = is_front_ok(s);
+    let load = is_load_ok(front, s, m.rates);
+    if is_motion_ok(load, s, m) {
+        return is_sound(m);
+    }
+    false
+}

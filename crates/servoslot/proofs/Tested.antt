@@ -1,0 +1,51 @@
+-- The tests of a slot are its list, and what a valid slot gives to the calls on it. Assumes nothing.
+use mathlib.Core.Path.{_≡_, sym, ap, _∙_}
+use mathlib.Core.List.{List, _∷_}
+use mathlib.Core.Bool.{Bool, true, _&&_}
+use Prim.Native.Nat.{ℕ, _<_}
+use native.Mathlib.Omega.{arith}
+use lib.IntN.{natAbs}
+use Rattle.layout.specs.Bytes.{Bytes}
+use Rattle.layout.specs.Every.{every, everyFrom}
+use Rattle.layout.proofs.Codec.{head-sound}
+use Rattle.layout.proofs.Every.{every-hold}
+use Rattle.line.specs.Frames.{Frame}
+use Rattle.motion.specs.Profile.{Ranged, inRange}
+use Rattle.motion.proofs.Tests.{in-ranges}
+use Rattle.servo.specs.declared.Servo.{Servo}
+use Rattle.servo.specs.Orders.{execute}
+use Rattle.servo.specs.Tick.{Steady}
+use Rattle.servoslot.specs.List.{sound}
+use Rattle.servoslot.specs.Slot.{slot, profile, decodeOf, okOf}
+use Rattle.servoslot.specs.Parts.{frontTests, loadTests, motionTests}
+use Rattle.servoslot.specs.Promises.{Fits}
+use Rattle.servoslot.proofs.Good.{good}
+use Rattle.servoslot.proofs.Within.{kept, defined}
+
+module _ (s : List ℕ) {m : Servo} {front load run : Bool} (em : m ≡ decodeOf s) (ef : front ≡ every (frontTests s))
+    (el : load ≡ everyFrom front (loadTests (m .rates) s)) (er : run ≡ everyFrom load (motionTests m s)) where
+  pub ok-is : okOf s ≡ (run && sound m)
+  unfolding okOf decodeOf
+  ok-is = rw (er, el, ef, em)
+
+  -- the last test is only made where the profile is in range
+  pub ranged-in : Bytes s → run ≡ true → Ranged (m .profile)
+  unfolding decodeOf
+  ranged-in bytes e =
+      let h = every-hold (load ∷ motionTests m s) (sym er ∙ e) .1 .0 in
+      let t = profile .lawful .sound 61 s bytes (ap (λ (x : Servo). inRange (x .profile)) (sym em) ∙ h, tt) in
+      rw em (in-ranges (decodeOf s .profile) (t .0 .0) (t .0 .1 .1 .0) .0 (t .1))
+
+module _ (s : List ℕ) (bytes : Bytes s) (ok : okOf s ≡ true) where
+  fits-in : Fits (decodeOf s)
+  unfolding decodeOf okOf
+  fits-in = head-sound (slot .lawful) s bytes ok
+
+  pub steady-in : Steady (decodeOf s)
+  steady-in = defined (decodeOf s) fits-in
+
+  pub output-in : natAbs (decodeOf s .drive .output) < 256
+  output-in = omega (arith, good (decodeOf s) fits-in .sane .output)
+
+  pub ranged-after : (f : Frame) (alone : Bool) → Bytes (f .content) → Ranged (execute f alone (decodeOf s) .profile)
+  ranged-after f alone b = defined (execute f alone (decodeOf s)) (kept .frame f alone (decodeOf s) b fits-in) .profile

@@ -1,0 +1,429 @@
+// How a servo stands in a slot of the record: its 106 bytes, and the list that they satisfy.
+ghost use mathlib.Core.Path.{_≡_};
+ghost use Prim.Native.Nat.{_+_, _≤_};
+ghost use mathlib.Core.List.{[], _∷_, _++_};
+ghost use lib.ListN.{length};
+ghost use Rattle.layout.specs.Bytes.{le, pasted};
+ghost use Rattle.layout.specs.Codec.{bit};
+ghost use Rattle.station.specs.Slot.{station};
+ghost use Rattle.servoslot.specs.Slot.{wayByte, wayIn, modeByte, modeIn, sample, counts, gains, tuning, rates, load, profile, memory, drive, encodeOf, decodeOf};
+ghost use Rattle.servoslot.specs.Parts.{frontOf, backOf};
+use filter::Gains;
+use filter::Memory;
+use motion::Profile;
+use orders::Tuning;
+use servo::Counts;
+use servo::Drive;
+use servo::Load;
+use servo::Mode;
+use servo::Rates;
+use servo::Sample;
+use servo::Servo;
+use servo::Way;
+use station::Station;
+
+fn way_in(b: u8) -> Way
+    ensures { λ r. ⌜ r ≡ wayIn b ⌝ }
+{
+    match b {
+        0 => Way::Pulse,
+        1 => Way::Speed,
+        _ => Way::Move,
+    }
+}
+
+fn way_byte(w: Way) -> u8
+    ensures { λ r. ⌜ r ≡ wayByte w ⌝ }
+{
+    match w {
+        Way::Pulse => 0,
+        Way::Speed => 1,
+        Way::Move => 2,
+    }
+}
+
+fn mode_in(b: u8) -> Mode
+    ensures { λ r. ⌜ r ≡ modeIn b ⌝ }
+{
+    match b {
+        0 => Mode::Off,
+        1 => Mode::Pwm,
+        2 => Mode::Hold,
+        3 => Mode::Velocity,
+        _ => Mode::Trapezoid,
+    }
+}
+
+fn mode_byte(m: Mode) -> u8
+    ensures { λ r. ⌜ r ≡ modeByte m ⌝ }
+{
+    match m {
+        Mode::Off => 0,
+        Mode::Pwm => 1,
+        Mode::Hold => 2,
+        Mode::Velocity => 3,
+        Mode::Trapezoid => 4,
+    }
+}
+
+fn sample_in(s: &[u8], at: usize) -> Sample
+    requires { ⌜ at + 6 ≤ length (now s) ⌝ }
+    ensures { λ r. ⌜ r ≡ sample .codec .dec at (now (s .entry)) ⌝ }
+{
+    let a = at + 4;
+    Sample {
+        raw: layout::get4(s, at),
+        power: s[a],
+        ad: s[a + 1],
+    }
+}
+
+fn counts_in(s: &[u8]) -> Counts
+    requires { ⌜ 106 ≤ length (now s) ⌝ }
+    ensures { λ r. ⌜ r ≡ counts .codec .dec 20 (now (s .entry)) ⌝ }
+{
+    Counts {
+        offset: layout::get4(s, 20),
+        last: layout::get4(s, 24),
+    }
+}
+
+fn gains_in(s: &[u8]) -> Gains
+    requires { ⌜ 106 ≤ length (now s) ⌝ }
+    ensures { λ r. ⌜ r ≡ gains .codec .dec 28 (now (s .entry)) ⌝ }
+{
+    Gains {
+        kp: layout::get2(s, 28),
+        kd: layout::get2(s, 30),
+        ki: layout::get2(s, 32),
+        il: layout::get2(s, 34),
+        ol: s[36],
+        el: layout::get2(s, 37),
+    }
+}
+
+fn tuning_in(s: &[u8]) -> Tuning
+    requires { ⌜ 106 ≤ length (now s) ⌝ }
+    ensures { λ r. ⌜ r ≡ tuning .codec .dec 28 (now (s .entry)) ⌝ }
+{
+    Tuning {
+        gains: gains_in(s),
+        cl: s[39],
+        sm: s[40],
+    }
+}
+
+fn rates_in(s: &[u8]) -> Rates
+    requires { ⌜ 106 ≤ length (now s) ⌝ }
+    ensures { λ r. ⌜ r ≡ rates .codec .dec 41 (now (s .entry)) ⌝ }
+{
+    Rates {
+        velocity: layout::get4(s, 41),
+        acceleration: layout::get4(s, 45),
+        paced: s[49] == 1,
+        ramped: s[50] == 1,
+    }
+}
+
+fn load_in(s: &[u8]) -> Load
+    requires { ⌜ 106 ≤ length (now s) ⌝ }
+    ensures { λ r. ⌜ r ≡ load .codec .dec 51 (now (s .entry)) ⌝ }
+{
+    Load {
+        waits: s[51] == 1,
+        way: way_in(s[52]),
+        placed: s[53] == 1,
+        place: layout::get4(s, 54),
+        pulsed: s[58] == 1,
+        pulse: s[59],
+        reverse: s[60] == 1,
+    }
+}
+
+fn profile_in(s: &[u8]) -> Profile
+    requires { ⌜ 106 ≤ length (now s) ⌝ }
+    ensures { λ r. ⌜ r ≡ profile .codec .dec 61 (now (s .entry)) ⌝ }
+{
+    Profile {
+        setpoint: layout::get6(s, 61),
+        speed: layout::get_whole(s, 67),
+        goal: layout::get4(s, 71),
+        aim: layout::get_whole(s, 75),
+        acceleration: layout::get4(s, 79),
+        top: layout::get4(s, 83),
+    }
+}
+
+fn memory_in(s: &[u8]) -> Memory
+    requires { ⌜ 106 ≤ length (now s) ⌝ }
+    ensures { λ r. ⌜ r ≡ memory .codec .dec 87 (now (s .entry)) ⌝ }
+{
+    Memory {
+        integral: layout::get_whole(s, 87),
+        previous: layout::get_whole(s, 91),
+    }
+}
+
+fn drive_in(s: &[u8]) -> Drive
+    requires { ⌜ 106 ≤ length (now s) ⌝ }
+    ensures { λ r. ⌜ r ≡ drive .codec .dec 95 (now (s .entry)) ⌝ }
+{
+    Drive {
+        mode: mode_in(s[95]),
+        pulse: layout::get_whole(s, 96),
+        output: layout::get_whole(s, 100),
+        error: s[104] == 1,
+        amplifier: s[105] == 1,
+    }
+}
+
+// The servo in a slot.
+pub fn decode(s: &[u8]) -> Servo
+    requires { ⌜ 106 ≤ length (now s) ⌝ }
+    ensures { λ r. ⌜ r ≡ decodeOf (now (s .entry)) ⌝ }
+{
+    Servo {
+        station: Station::in_slot(s),
+        waiting: sample_in(s, 8),
+        latched: sample_in(s, 14),
+        counts: counts_in(s),
+        tuning: tuning_in(s),
+        rates: rates_in(s),
+        load: load_in(s),
+        profile: profile_in(s),
+        memory: memory_in(s),
+        drive: drive_in(s),
+    }
+}
+
+// A slot begins with the type and the station.
+fn head_bytes(s: Station) -> [u8; 8]
+    ensures { λ r. ⌜ r ≡ 0 ∷ station .codec .enc s ⌝ }
+{
+    [
+        0,
+        s.address.individual,
+        s.address.group,
+        s.address.leader as u8,
+        s.address.low as u8,
+        s.cause,
+        s.items,
+        s.baud,
+    ]
+}
+
+fn sample_bytes(x: Sample) -> [u8; 6]
+    ensures { λ r. ⌜ r ≡ sample .codec .enc x ⌝ }
+{
+    [
+        (x.raw % 256) as u8,
+        (x.raw / 256 % 256) as u8,
+        (x.raw / 256 / 256 % 256) as u8,
+        (x.raw / 256 / 256 / 256 % 256) as u8,
+        x.power,
+        x.ad,
+    ]
+}
+
+// Two numbers of four bytes.
+fn pair_bytes(a: u32, b: u32) -> [u8; 8]
+    ensures { λ r. ⌜ r ≡ le 4 a ++ le 4 b ⌝ }
+{
+    [
+        (a % 256) as u8,
+        (a / 256 % 256) as u8,
+        (a / 256 / 256 % 256) as u8,
+        (a / 256 / 256 / 256 % 256) as u8,
+        (b % 256) as u8,
+        (b / 256 % 256) as u8,
+        (b / 256 / 256 % 256) as u8,
+        (b / 256 / 256 / 256 % 256) as u8,
+    ]
+}
+
+fn tuning_bytes(t: Tuning) -> [u8; 13]
+    ensures { λ r. ⌜ r ≡ tuning .codec .enc t ⌝ }
+{
+    let g = t.gains;
+    [
+        (g.kp % 256) as u8,
+        (g.kp / 256 % 256) as u8,
+        (g.kd % 256) as u8,
+        (g.kd / 256 % 256) as u8,
+        (g.ki % 256) as u8,
+        (g.ki / 256 % 256) as u8,
+        (g.il % 256) as u8,
+        (g.il / 256 % 256) as u8,
+        g.ol,
+        (g.el % 256) as u8,
+        (g.el / 256 % 256) as u8,
+        t.cl,
+        t.sm,
+    ]
+}
+
+fn rates_bytes(r: Rates) -> [u8; 10]
+    ensures { λ q. ⌜ q ≡ rates .codec .enc r ⌝ }
+{
+    [
+        (r.velocity % 256) as u8,
+        (r.velocity / 256 % 256) as u8,
+        (r.velocity / 256 / 256 % 256) as u8,
+        (r.velocity / 256 / 256 / 256 % 256) as u8,
+        (r.acceleration % 256) as u8,
+        (r.acceleration / 256 % 256) as u8,
+        (r.acceleration / 256 / 256 % 256) as u8,
+        (r.acceleration / 256 / 256 / 256 % 256) as u8,
+        r.paced as u8,
+        r.ramped as u8,
+    ]
+}
+
+fn load_bytes(l: Load) -> [u8; 10]
+    ensures { λ r. ⌜ r ≡ load .codec .enc l ⌝ }
+{
+    let w = l.way;
+    let way = way_byte(w);
+    [
+        l.waits as u8,
+        way,
+        l.placed as u8,
+        (l.place % 256) as u8,
+        (l.place / 256 % 256) as u8,
+        (l.place / 256 / 256 % 256) as u8,
+        (l.place / 256 / 256 / 256 % 256) as u8,
+        l.pulsed as u8,
+        l.pulse,
+        l.reverse as u8,
+    ]
+}
+
+fn setpoint_bytes(x: u64) -> [u8; 6]
+    ensures { λ r. ⌜ r ≡ le 6 x ⌝ }
+{
+    [
+        (x % 256) as u8,
+        (x / 256 % 256) as u8,
+        (x / 256 / 256 % 256) as u8,
+        (x / 256 / 256 / 256 % 256) as u8,
+        (x / 256 / 256 / 256 / 256 % 256) as u8,
+        (x / 256 / 256 / 256 / 256 / 256 % 256) as u8,
+    ]
+}
+
+// What stands after the setpoint: five numbers of four bytes.
+fn course_bytes(speed: u32, goal: u32, aim: u32, acceleration: u32, top: u32) -> [u8; 20]
+    ensures { λ r. ⌜ r ≡ le 4 speed ++ le 4 goal ++ le 4 aim ++ le 4 acceleration ++ le 4 top ⌝ }
+{
+    [
+        (speed % 256) as u8,
+        (speed / 256 % 256) as u8,
+        (speed / 256 / 256 % 256) as u8,
+        (speed / 256 / 256 / 256 % 256) as u8,
+        (goal % 256) as u8,
+        (goal / 256 % 256) as u8,
+        (goal / 256 / 256 % 256) as u8,
+        (goal / 256 / 256 / 256 % 256) as u8,
+        (aim % 256) as u8,
+        (aim / 256 % 256) as u8,
+        (aim / 256 / 256 % 256) as u8,
+        (aim / 256 / 256 / 256 % 256) as u8,
+        (acceleration % 256) as u8,
+        (acceleration / 256 % 256) as u8,
+        (acceleration / 256 / 256 % 256) as u8,
+        (acceleration / 256 / 256 / 256 % 256) as u8,
+        (top % 256) as u8,
+        (top / 256 % 256) as u8,
+        (top / 256 / 256 % 256) as u8,
+        (top / 256 / 256 / 256 % 256) as u8,
+    ]
+}
+
+// Puts a profile into a slot.
+fn put_profile(s: &mut [u8], p: Profile)
+    requires { ⌜ 106 ≤ length (now s) ⌝ }
+    ensures { λ _. ⌜ now (s .exit) ≡ pasted 61 (profile .codec .enc p) (now (s .entry)) ⌝ }
+{
+    let speed = integers::word(p.speed);
+    let aim = integers::word(p.aim);
+    let setpoint = setpoint_bytes(p.setpoint);
+    let course = course_bytes(speed, p.goal, aim, p.acceleration, p.top);
+    layout::put_all(s, 61, &setpoint);
+    layout::put_all(s, 67, &course);
+}
+
+fn memory_bytes(y: Memory) -> [u8; 8]
+    ensures { λ r. ⌜ r ≡ memory .codec .enc y ⌝ }
+{
+    pair_bytes(integers::word(y.integral), integers::word(y.previous))
+}
+
+// The mode's number, the two numbers as words and the two bits of a drive.
+fn drive_parts_bytes(mode: u8, pulse: u32, output: u32, error: bool, amplifier: bool) -> [u8; 11]
+    ensures { λ r. ⌜ r ≡ mode ∷ le 4 pulse ++ le 4 output ++ bit error ∷ bit amplifier ∷ [] ⌝ }
+{
+    [
+        mode,
+        (pulse % 256) as u8,
+        (pulse / 256 % 256) as u8,
+        (pulse / 256 / 256 % 256) as u8,
+        (pulse / 256 / 256 / 256 % 256) as u8,
+        (output % 256) as u8,
+        (output / 256 % 256) as u8,
+        (output / 256 / 256 % 256) as u8,
+        (output / 256 / 256 / 256 % 256) as u8,
+        error as u8,
+        amplifier as u8,
+    ]
+}
+
+fn drive_bytes(d: Drive) -> [u8; 11]
+    ensures { λ r. ⌜ r ≡ drive .codec .enc d ⌝ }
+{
+    let mode = d.mode;
+    let pulse = integers::word(d.pulse);
+    let output = integers::word(d.output);
+    drive_parts_bytes(mode_byte(mode), pulse, output, d.error, d.amplifier)
+}
+
+// Puts the first 41 bytes.
+fn put_front(s: &mut [u8], m: Servo)
+    requires { ⌜ 106 ≤ length (now s) ⌝ }
+    ensures { λ _. ⌜ now (s .exit) ≡ pasted 0 (frontOf m) (now (s .entry)) ⌝ }
+{
+    let head = head_bytes(m.station);
+    let waiting = sample_bytes(m.waiting);
+    let latched = sample_bytes(m.latched);
+    let counts = pair_bytes(m.counts.offset, m.counts.last);
+    let tuning = tuning_bytes(m.tuning);
+    layout::put_all(s, 0, &head);
+    layout::put_all(s, 8, &waiting);
+    layout::put_all(s, 14, &latched);
+    layout::put_all(s, 20, &counts);
+    layout::put_all(s, 28, &tuning);
+}
+
+// Puts the other 65 bytes.
+fn put_back(s: &mut [u8], m: Servo)
+    requires { ⌜ 106 ≤ length (now s) ⌝ }
+    ensures { λ _. ⌜ now (s .exit) ≡ pasted 41 (backOf m) (now (s .entry)) ⌝ }
+{
+    let rates = rates_bytes(m.rates);
+    let load = load_bytes(m.load);
+    let memory = memory_bytes(m.memory);
+    let drive = drive_bytes(m.drive);
+    layout::put_all(s, 41, &rates);
+    layout::put_all(s, 51, &load);
+    put_profile(s, m.profile);
+    layout::put_all(s, 87, &memory);
+    layout::put_all(s, 95, &drive);
+}
+
+// Puts a servo into a slot, from the slot's start on.
+pub fn put(s: &mut [u8], m: Servo)
+    requires { ⌜ 106 ≤ length (now s) ⌝ }
+    ensures { λ _. ⌜ now (s .exit) ≡ pasted 0 (encodeOf m) (now (s .entry)) ⌝ }
+{
+    put_front(s, m);
+    put_back(s, m);
+}
