@@ -126,12 +126,12 @@ fn take_module(at: Place, t: u8, types: &mut [u8], net: &mut [u8], out: &mut [u8
     ensures { λ _. ⌜ now (out .exit) ≡ pasted 0 (textAfter (moduleRecord (stageIn at (now (types .entry)) (now (net .entry))) t) (at .offset)) (now (out .entry)) ⌝ }
 {
     let n = at.count;
-    if at.running | (32 <= n) | !modules::is_known(t) {
+    if at.running | (32 <= n) | !dispatch::is_known(t) {
         return at.bad(out);
     }
     types[n] = t;
     let count = n + 1;
-    network::set_up(net, &types[..count]);
+    record::set_up(net, &types[..count]);
     Turned {
         next: Place {
             offset: at.offset + 2,
@@ -159,7 +159,7 @@ fn take_byte(at: Place, body: &[u8], net: &mut [u8], out: &mut [u8]) -> Turned
         return at.bad(out);
     }
     let mut room = [0u8; 608];
-    let called = network::byte(net, value, mark == 1, &mut room);
+    let called = traffic::byte(net, value, mark == 1, &mut room);
     let lengths = called.lengths;
     let wrote = printing::put_replies(lengths, &room, out);
     at.went(3, wrote)
@@ -207,8 +207,8 @@ fn take_sample(
     ensures { λ _. ⌜ now (out .exit) ≡ pasted 0 (textAfter (sampleRecord t fine (measured x) place (netIn slots (now (net .entry)))) (at .offset)) (now (out .entry)) ⌝ }
 {
     let i = place as usize;
-    if network::is_of_type(net, i, t) & fine {
-        network::put_sample(net, i, x);
+    if record::is_of_type(net, i, t) & fine {
+        record::put_sample(net, i, x);
         return at.went(size, 0);
     }
     at.bad(out)
@@ -245,7 +245,7 @@ fn take_tick(at: Place, net: &mut [u8]) -> Turned
     ensures { λ r. ⌜ r ≡ turned 1 (goes (running (tickStep (netIn slots (now (net .entry))))) []) at ⌝ }
     ensures { λ _. ⌜ now (net .exit) ≡ stored slots (tickStep (netIn slots (now (net .entry)))) (now (net .entry)) ⌝ }
 {
-    network::tick(net);
+    traffic::tick(net);
     at.went(1, 0)
 }
 

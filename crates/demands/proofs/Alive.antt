@@ -29,8 +29,8 @@ use Rattle.servo.specs.Answers as Answers
 use Rattle.modules.specs.Types.{Module, AnySample, kind, slots}
 use Rattle.network.specs.Record.{recordSize, netIn}
 use Rattle.network.specs.Calls.{byteOf, setUp}
-use Rattle.doljurven.specs.Calls.{setupRecord}
-use Rattle.doljurven.specs.Promises.{ValidRecord}
+use Rattle.calls.specs.Calls.{setupRecord}
+use Rattle.calls.specs.Promises.{ValidRecord}
 use Rattle.histories.specs.Events.{Event, sent, sampled, ticked, run, Reads, Harmless, Ordinary, metBy}
 use Rattle.histories.specs.Calls.{leftBy}
 use Rattle.demands.specs.Motion.{fed}

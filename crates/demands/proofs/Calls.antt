@@ -6,9 +6,9 @@ use Prim.Native.Nat.{ℕ}
 use Rattle.chain.specs.Chain.{Net, Reply, flat}
 use Rattle.modules.specs.Types.{Module, AnySample, kind, slots}
 use Rattle.network.specs.Record.{netIn}
-use Rattle.doljurven.specs.Promises.{ValidRecord, Refuses, Passes}
-use Rattle.doljurven.proofs.Kept.{kept, holds}
-use Rattle.doljurven.proofs.Refused.{refused, done}
+use Rattle.calls.specs.Promises.{ValidRecord, Refuses, Passes}
+use Rattle.calls.proofs.Kept.{kept, holds}
+use Rattle.calls.proofs.Refused.{refused, done}
 use Rattle.histories.specs.Events.{Event, event, run}
 use Rattle.histories.specs.Calls.{Call, AllHanded, refusals, leaves, leftBy, writes, writtenBy, does, doneBy}
 use Rattle.histories.proofs.Calls.{passes?, call-kept, refused-leaves, refused-writes, passed-leaves, passed-writes}

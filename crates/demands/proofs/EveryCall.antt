@@ -31,9 +31,9 @@ use Rattle.network.specs.Record.{netIn}
 use Rattle.network.specs.Calls.{byteOf, sampleStep}
 use Rattle.network.specs.Promises.{Each}
 use Rattle.network.proofs.Stored as Stored
-use Rattle.doljurven.specs.Calls.{servoSampleOf, ioSampleOf}
-use Rattle.doljurven.specs.Promises.{ValidRecord, Refuses, Passes}
-use Rattle.doljurven.proofs.Kept.{holds}
+use Rattle.calls.specs.Calls.{servoSampleOf, ioSampleOf}
+use Rattle.calls.specs.Promises.{ValidRecord, Refuses, Passes}
+use Rattle.calls.proofs.Kept.{holds}
 use Rattle.histories.specs.Events.{event}
 use Rattle.histories.specs.Calls.{Call, byte, servoSample, ioSample, tick, Handed, AllHanded, refusals, leaves, leftBy, does}
 use Rattle.histories.proofs.Events.{changed-at, map-at}

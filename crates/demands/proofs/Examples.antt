@@ -34,9 +34,9 @@ use Rattle.modules.specs.Types.{Module, AnySample, kind, slots}
 use Rattle.network.specs.Record.{recordSize, netIn}
 use Rattle.network.specs.Calls.{setUp, ofType}
 use Rattle.host.specs.Writing.{writtenOf}
-use Rattle.doljurven.specs.Table.{setupTable}
-use Rattle.doljurven.specs.Calls.{setupRecord, servoSampleOf}
-use Rattle.doljurven.specs.Promises.{Passes, Refuses, ValidRecord}
+use Rattle.calls.specs.Table.{setupTable}
+use Rattle.calls.specs.Calls.{setupRecord, servoSampleOf}
+use Rattle.calls.specs.Promises.{Passes, Refuses, ValidRecord}
 use Rattle.histories.specs.Events.{Event, sent, run, singly, Reads}
 use Rattle.histories.specs.Events as Events
 use Rattle.histories.specs.Calls.{Call, byte, servoSample, tick, AllHanded, refusals, leaves, leftBy, doneBy}

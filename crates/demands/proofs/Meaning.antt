@@ -35,7 +35,7 @@ use Rattle.servo.proofs.Ticking.{ticks}
 use Rattle.servoslot.specs.Promises.{Fits}
 use Rattle.servoslot.proofs.Good.{InMode, good}
 use Rattle.host.proofs.Sent.{sent}
-use Rattle.doljurven.proofs.Status.{status-read}
+use Rattle.calls.proofs.Status.{status-read}
 use Rattle.modules.specs.Types.{kind}
 use Rattle.histories.proofs.Events.{whole-event}
 use Rattle.demands.specs.Meaning.{ReadBack, Speeds, Meaning}

@@ -20,7 +20,7 @@ use Rattle.servo.specs.Orders.{withCause, execute}
 use Rattle.modules.specs.Types.{Module, AnySample, kind, slots}
 use Rattle.network.specs.Record.{netIn, valid}
 use Rattle.network.specs.Calls.{byteOf}
-use Rattle.doljurven.specs.Promises.{ValidRecord, Passes}
+use Rattle.calls.specs.Promises.{ValidRecord, Passes}
 use Rattle.histories.specs.Events.{Event, sent, Outcome, taking, run, Reads, singly}
 use Rattle.histories.specs.Calls.{Call, byte, AllHanded, refusals, leaves, leftBy, doneBy}
 use Rattle.histories.proofs.Events.{whole-event, event-idle}

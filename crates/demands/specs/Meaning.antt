@@ -26,7 +26,7 @@ use Rattle.servoslot.specs.Promises.{Fits}
 use Rattle.modules.specs.Types.{Module, kind}
 use Rattle.network.specs.Calls.{setUp}
 use Rattle.host.specs.Writing.{writtenOf, roomAfter}
-use Rattle.doljurven.specs.Promises.{StatusRead}
+use Rattle.calls.specs.Promises.{StatusRead}
 use Rattle.histories.specs.Events.{Outcome, taking}
 
 -- an undamaged frame

@@ -30,9 +30,9 @@ use Rattle.servo.specs.RestPromises.{following}
 use Rattle.modules.specs.Types.{Module, kind, slots}
 use Rattle.network.specs.Record.{netIn}
 use Rattle.network.specs.Calls.{byteOf, setUp}
-use Rattle.doljurven.specs.Table.{setupTable}
-use Rattle.doljurven.specs.Calls.{setupRecord}
-use Rattle.doljurven.specs.Promises.{Passes, Refuses, ValidRecord}
+use Rattle.calls.specs.Table.{setupTable}
+use Rattle.calls.specs.Calls.{setupRecord}
+use Rattle.calls.specs.Promises.{Passes, Refuses, ValidRecord}
 use Rattle.histories.specs.Events.{run, Reads}
 use Rattle.histories.specs.Calls.{Call, byte, servoSample, ioSample, tick, Handed, AllHanded, refusals, leaves, leftBy, writtenBy, doneBy}
 

@@ -11,7 +11,7 @@ use Rattle.chain.specs.Chain.{Kind, Net, repliesOf, addresses}
 use Rattle.modules.specs.Types.{Module, AnySample, kind, slots}
 use Rattle.network.specs.Record.{netIn}
 use Rattle.network.specs.Calls.{outputsAt}
-use Rattle.doljurven.specs.Promises.{ValidRecord}
+use Rattle.calls.specs.Promises.{ValidRecord}
 use Rattle.histories.specs.Events.{Event, Outcome, run, Harmless, Whole, Ordinary, singly, metBy, metInTurn, alone, aloneReplies}
 use Rattle.histories.specs.Calls.{Call, AllHanded, leftBy, doneBy}
 

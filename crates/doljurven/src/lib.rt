@@ -4,25 +4,10 @@ ghost use lib.ListN.{length};
 ghost use Rattle.layout.specs.Bytes.{pasted};
 ghost use Rattle.host.specs.Writing.{writtenOf, roomAfter};
 ghost use Rattle.host.specs.Reading.{statusOf};
-ghost use Rattle.doljurven.specs.Table.{first, setupTable, byteTable, sampleTable, servoSampleTable, ioSampleTable, tickTable, outputsTable};
-ghost use Rattle.doljurven.specs.Calls.{setupRecord, byteNumber, byteRecord, byteRoom, byteWritten, servoSampleOf, ioSampleOf, sampleRecord, tickRecord, outputsBytes, numbersBytes, readingBytes};
+ghost use Rattle.calls.specs.Table.{first, setupTable, servoSampleTable, ioSampleTable, tickTable, outputsTable};
+ghost use Rattle.calls.specs.Calls.{setupRecord, byteNumber, byteRecord, byteRoom, byteWritten, servoSampleOf, ioSampleOf, sampleRecord, tickRecord, outputsBytes, numbersBytes, readingBytes};
 use host::Reading;
 use modules::Measured;
-
-fn setup_refusal(net: &[u8], types: &[u8]) -> u32
-    ensures { λ r. ⌜ r ≡ first (setupTable (now (net .entry)) (now (types .entry))) ⌝ }
-{
-    if net.len() != 4116 {
-        return 16;
-    }
-    if (types.len() == 0) | (32 < types.len()) {
-        return 11;
-    }
-    if !network::is_all_known(types) {
-        return 12;
-    }
-    0
-}
 
 // A network of the given types at power-up: 0, or 16, 11, 12.
 #[no_mangle]
@@ -30,26 +15,11 @@ pub extern "C" fn nmc_setup(net: &mut [u8], types: &[u8]) -> u32
     ensures { λ r. ⌜ r ≡ first (setupTable (now (net .entry)) (now (types .entry))) ⌝ }
     ensures { λ _. ⌜ now (net .exit) ≡ setupRecord (now (net .entry)) (now (types .entry)) ⌝ }
 {
-    let number = setup_refusal(net, types);
+    let number = refusals::setup_refusal(net, types);
     if number != 0 {
         return number;
     }
-    network::set_up(net, types);
-    0
-}
-
-fn byte_refusal(net: &[u8], mark: u32, room: &[u8]) -> u32
-    ensures { λ r. ⌜ r ≡ first (byteTable (now (net .entry)) mark (now (room .entry))) ⌝ }
-{
-    if !network::is_valid(net) {
-        return 16;
-    }
-    if 1 < mark {
-        return 14;
-    }
-    if room.len() < 608 {
-        return 15;
-    }
+    record::set_up(net, types);
     0
 }
 
@@ -67,30 +37,14 @@ pub extern "C" fn nmc_byte(
     ensures { λ _. ⌜ now (room .exit) ≡ byteRoom (now (net .entry)) mark byte (now (room .entry)) ⌝ }
     ensures { λ _. ⌜ now (written .exit) ≡ byteWritten (now (net .entry)) mark byte (now (room .entry)) ⌝ }
 {
-    let number = byte_refusal(net, mark, room);
+    let number = refusals::byte_refusal(net, mark, room);
     if number != 0 {
         *written = 0;
         return number;
     }
-    let called = network::byte(net, byte, mark == 1, room);
+    let called = traffic::byte(net, byte, mark == 1, room);
     *written = called.written;
     called.number
-}
-
-// A sample for a module of type t at a place; far says that a field is out of range.
-fn sample_refusal(net: &[u8], place: u32, t: u8, far: bool) -> u32
-    ensures { λ r. ⌜ r ≡ first (sampleTable t (now (net .entry)) place far) ⌝ }
-{
-    if !network::is_valid(net) {
-        return 16;
-    }
-    if !network::is_of_type(net, place as usize, t) {
-        return 13;
-    }
-    if far {
-        return 14;
-    }
-    0
 }
 
 // A sample for the servo at a place, which takes effect at the next tick: 0, or 16, 13, 14.
@@ -99,7 +53,7 @@ pub extern "C" fn nmc_servo_sample(net: &mut [u8], place: u32, raw: u32, power: 
     ensures { λ r. ⌜ r ≡ first (servoSampleTable (now (net .entry)) place power) ⌝ }
     ensures { λ _. ⌜ now (net .exit) ≡ sampleRecord (servoSampleTable (now (net .entry)) place power) (now (net .entry)) place (servoSampleOf raw power ad) ⌝ }
 {
-    let number = sample_refusal(net, place, 0, 2 < power);
+    let number = refusals::sample_refusal(net, place, 0, 2 < power);
     if number != 0 {
         return number;
     }
@@ -108,7 +62,7 @@ pub extern "C" fn nmc_servo_sample(net: &mut [u8], place: u32, raw: u32, power: 
         power: power as u8,
         ad,
     };
-    network::put_sample(net, place as usize, Measured::Servo(x));
+    record::put_sample(net, place as usize, Measured::Servo(x));
     0
 }
 
@@ -126,7 +80,7 @@ pub extern "C" fn nmc_io_sample(
     ensures { λ r. ⌜ r ≡ first (ioSampleTable (now (net .entry)) place inputs) ⌝ }
     ensures { λ _. ⌜ now (net .exit) ≡ sampleRecord (ioSampleTable (now (net .entry)) place inputs) (now (net .entry)) place (ioSampleOf inputs ad1 ad2 ad3 counter) ⌝ }
 {
-    let number = sample_refusal(net, place, 2, 4095 < inputs);
+    let number = refusals::sample_refusal(net, place, 2, 4095 < inputs);
     if number != 0 {
         return number;
     }
@@ -137,7 +91,7 @@ pub extern "C" fn nmc_io_sample(
         ad3,
         counter,
     };
-    network::put_sample(net, place as usize, Measured::Io(x));
+    record::put_sample(net, place as usize, Measured::Io(x));
     0
 }
 
@@ -147,22 +101,10 @@ pub extern "C" fn nmc_tick(net: &mut [u8]) -> u32
     ensures { λ r. ⌜ r ≡ first (tickTable (now (net .entry))) ⌝ }
     ensures { λ _. ⌜ now (net .exit) ≡ tickRecord (now (net .entry)) ⌝ }
 {
-    if !network::is_valid(net) {
+    if !record::is_valid(net) {
         return 16;
     }
-    network::tick(net);
-    0
-}
-
-fn outputs_refusal(net: &[u8], place: u32) -> u32
-    ensures { λ r. ⌜ r ≡ first (outputsTable (now (net .entry)) place) ⌝ }
-{
-    if !network::is_valid(net) {
-        return 16;
-    }
-    if !(place < network::chain_len(net) as u32) {
-        return 13;
-    }
+    traffic::tick(net);
     0
 }
 
@@ -172,11 +114,11 @@ pub extern "C" fn nmc_outputs(net: &[u8], place: u32, outputs: &mut [u8; 8]) -> 
     ensures { λ r. ⌜ r ≡ first (outputsTable (now (net .entry)) place) ⌝ }
     ensures { λ _. ⌜ now (outputs .exit) ≡ outputsBytes (now (net .entry)) place (now (outputs .entry)) ⌝ }
 {
-    let number = outputs_refusal(net, place);
+    let number = refusals::outputs_refusal(net, place);
     if number != 0 {
         return number;
     }
-    *outputs = network::outputs(net, place as usize);
+    *outputs = record::outputs(net, place as usize);
     0
 }
 

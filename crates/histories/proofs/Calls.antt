@@ -10,12 +10,12 @@ use lib.Dec.{eqb}
 use Rattle.chain.specs.Chain.{Kind, Net, Reply, flat}
 use Rattle.modules.specs.Types.{Module, AnySample, kind, slots}
 use Rattle.network.specs.Record.{netIn}
-use Rattle.doljurven.specs.Table.{Line, first}
-use Rattle.doljurven.specs.Calls.{unless, stepOf}
-use Rattle.doljurven.specs.Promises.{ValidRecord, Refuses, Passes}
-use Rattle.doljurven.proofs.Kept.{kept, holds}
-use Rattle.doljurven.proofs.Unchanged.{unchanged}
-use Rattle.doljurven.proofs.Room.{written-room}
+use Rattle.calls.specs.Table.{Line, first}
+use Rattle.calls.specs.Calls.{unless, stepOf}
+use Rattle.calls.specs.Promises.{ValidRecord, Refuses, Passes}
+use Rattle.calls.proofs.Kept.{kept, holds}
+use Rattle.calls.proofs.Unchanged.{unchanged}
+use Rattle.calls.proofs.Room.{written-room}
 use Rattle.histories.specs.Events.{Event, Outcome, after, event, run}
 use Rattle.histories.specs.Calls.{Call, byte, servoSample, ioSample, tick, Handed, AllHanded, refusals, leaves, leftBy, writes, writtenBy, does, doneBy}
 

@@ -5,9 +5,9 @@ use lib.ListN.{take}
 use lib.Dec.{eqb}
 use Rattle.modules.specs.Types.{AnySample}
 use Rattle.network.specs.Calls.{byteOf}
-use Rattle.doljurven.specs.Table.{Line, byteTable, servoSampleTable, ioSampleTable, tickTable}
-use Rattle.doljurven.specs.Calls.{unless, byteRecord, byteRoom, byteWritten, servoSampleOf, ioSampleOf, sampleRecord, tickRecord}
-use Rattle.doljurven.specs.Promises.{ServoHanded, IoHanded}
+use Rattle.calls.specs.Table.{Line, byteTable, servoSampleTable, ioSampleTable, tickTable}
+use Rattle.calls.specs.Calls.{unless, byteRecord, byteRoom, byteWritten, servoSampleOf, ioSampleOf, sampleRecord, tickRecord}
+use Rattle.calls.specs.Promises.{ServoHanded, IoHanded}
 use Rattle.histories.specs.Events.{Event, sent, sampled, ticked}
 
 -- the exported calls that change a network, with what C hands over beside the record: mark, byte and room; place, raw count, power and A/D

@@ -1,8 +1,8 @@
 -- `doljurven::nmc_io_sample` meets its contract. Assumes nothing.
 use borrow.Author.Needs.{needs}
-use Rattle.doljurven.proofs.Refused.{sample-passes, sample-refused, sample-done}
-use Rattle.doljurven.specs.Calls.{ioSampleOf}
-use Rattle.doljurven.specs.Table.{ioSampleTable}
+use Rattle.calls.proofs.Refused.{sample-passes, sample-refused, sample-done}
+use Rattle.calls.specs.Calls.{ioSampleOf}
+use Rattle.calls.specs.Table.{ioSampleTable}
 use Rattle.network.specs.Record.{netIn, valid}
 use Rattle.modules.specs.Types.{slots}
 use lib.Dec.{ltb}

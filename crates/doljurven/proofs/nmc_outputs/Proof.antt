@@ -1,9 +1,9 @@
-use Rattle.doljurven.proofs.Refused.{refused, done, outputs-passes}
+use Rattle.calls.proofs.Refused.{refused, done, outputs-passes}
 use Rattle.network.specs.Calls.{outputsAt}
 use Rattle.network.specs.Record.{netIn}
 use Rattle.modules.specs.Types.{slots}
-use Rattle.doljurven.specs.Calls.{outputsBytes}
-use Rattle.doljurven.specs.Table.{outputsTable}
+use Rattle.calls.specs.Calls.{outputsBytes}
+use Rattle.calls.specs.Table.{outputsTable}
 use mathlib.Core.Path.{sym, _∙_}
 use native.Mathlib.Omega.{arith}
 use borrow.Author.Needs.{needs}
@@ -11,8 +11,8 @@ use Rattle.doljurven.proofs.nmc_outputs.Statement.{statement}
 use Rattle.doljurven.proofs.nmc_outputs.Tie as tie
 use Rattle.doljurven.proofs.nmc_outputs.Reads as reads
 use Rattle.doljurven.proofs.nmc_outputs.Lts as lts
-use Rattle.doljurven.proofs.outputs_refusal.Reads as outputs-refusal-reads
-use Rattle.network.proofs.outputs.Reads as outputs-reads
+use Rattle.refusals.proofs.outputs_refusal.Reads as outputs-refusal-reads
+use Rattle.record.proofs.outputs.Reads as outputs-reads
 
 outputs-refusal-requires : tie.Need-outputs-refusal-requires
 outputs-refusal-requires c κs = search needs

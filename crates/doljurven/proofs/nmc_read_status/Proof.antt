@@ -1,4 +1,4 @@
-use Rattle.doljurven.specs.Calls.{readingBytes}
+use Rattle.calls.specs.Calls.{readingBytes}
 use Rattle.host.specs.declared.Answered.{Answered}
 use mathlib.Core.Path.{sym, ap, _∙_}
 use borrow.Author.Needs.{needs}

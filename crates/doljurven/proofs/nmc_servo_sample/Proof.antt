@@ -1,8 +1,8 @@
 -- `doljurven::nmc_servo_sample` meets its contract. Assumes nothing.
 use borrow.Author.Needs.{needs}
-use Rattle.doljurven.proofs.Refused.{sample-passes, sample-refused, sample-done}
-use Rattle.doljurven.specs.Calls.{servoSampleOf}
-use Rattle.doljurven.specs.Table.{servoSampleTable}
+use Rattle.calls.proofs.Refused.{sample-passes, sample-refused, sample-done}
+use Rattle.calls.specs.Calls.{servoSampleOf}
+use Rattle.calls.specs.Table.{servoSampleTable}
 use Rattle.network.specs.Record.{netIn, valid}
 use Rattle.modules.specs.Types.{slots}
 use lib.Dec.{ltb}

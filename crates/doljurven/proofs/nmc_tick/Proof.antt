@@ -1,4 +1,4 @@
-use Rattle.doljurven.specs.Calls.{tickRecord}
+use Rattle.calls.specs.Calls.{tickRecord}
 use borrow.Author.Tests.{not-true, not-false}
 use mathlib.Core.Path.{sym, refl, _∙_}
 use borrow.Author.Needs.{needs}
@@ -6,8 +6,8 @@ use Rattle.doljurven.proofs.nmc_tick.Statement.{statement}
 use Rattle.doljurven.proofs.nmc_tick.Tie as tie
 use Rattle.doljurven.proofs.nmc_tick.Reads as reads
 use Rattle.doljurven.proofs.nmc_tick.Lts as lts
-use Rattle.network.proofs.is_valid.Reads as is-valid-reads
-use Rattle.network.proofs.tick.Reads as tick-reads
+use Rattle.record.proofs.is_valid.Reads as is-valid-reads
+use Rattle.traffic.proofs.tick.Reads as tick-reads
 
 is-valid-requires : tie.Need-is-valid-requires
 is-valid-requires c κs = search needs

@@ -6,8 +6,8 @@ use borrow.Author.Needs.{needs}
 use lib.ListN.{length}
 use Rattle.layout.specs.Bytes.{pasted}
 use Rattle.layout.proofs.Pasted.{pasted-none}
-use Rattle.doljurven.specs.Calls.{numbersBytes}
-use Rattle.doljurven.proofs.Numbers.{numbers-turn}
+use Rattle.calls.specs.Calls.{numbersBytes}
+use Rattle.calls.proofs.Numbers.{numbers-turn}
 use Rattle.doljurven.proofs.put_numbers.Statement.{statement}
 use Rattle.doljurven.proofs.put_numbers.Tie as tie
 

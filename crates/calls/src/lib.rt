@@ -1,0 +1,1 @@
+// What each exported call gives back and leaves behind. Definitions and promises; no function.

@@ -1,0 +1,23 @@
+-- `network::set_up` meets its contract. Assumes nothing.
+use Rattle.network.proofs.Calls.{set-up-is}
+use Rattle.network.specs.Record.{receiverBytes}
+use borrow.Author.Needs.{needs}
+use Rattle.record.proofs.set_up.Statement.{statement}
+use Rattle.record.proofs.set_up.Tie as tie
+
+returns : tie.Need-returns
+unfolding receiverBytes
+returns c = let a = c .before .before .before .before .before .before .before .before .before .before .before .before .before .before .before in set-up-is (a .args .net .now) (a .args .types .now) (a .pre .0) (c .before .before .before .before .before .before .before .before .before .before .before .clear .ensures) (c .before .before .before .before .before .before .put-all .ensures) (c .before .before .power-up-each .ensures)
+
+pub set-up-spec : {M : Type 1} → statement M
+set-up-spec =
+    tie.close
+    (tie.spec
+    (λ c κs. search needs)
+    (λ c. search needs)
+    (λ c. search needs)
+    (λ c. search needs)
+    (λ c κs. search needs)
+    (λ c κs. search needs)
+    (λ c. search needs)
+    returns)

@@ -1,0 +1,215 @@
+// The lent record: whether it is valid, what it holds of the receiver and the chain, setup, samples and outputs.
+ghost use mathlib.Core.Path.{_≡_};
+ghost use mathlib.Core.Bool.{true};
+ghost use mathlib.Core.List.{map};
+ghost use Prim.Native.Nat.{_+_, _*_, _≤_, _<_};
+ghost use lib.ListN.{length, replicate, drop};
+ghost use Rattle.line.specs.declared.Answer;
+ghost use Rattle.chain.specs.Slots.{slotSize};
+ghost use Rattle.modules.specs.Types.{slots, powered, measured, outputs};
+ghost use Rattle.network.specs.Record.{recordSize, slotsAt, receiverIn, receiverBytes, okReceiver, blank, okSlots, netIn, putModules, stored, valid};
+ghost use Rattle.network.specs.Calls.{allKnown, fresh, sampleStep, ofType, outputsAt};
+use line::Receiver;
+use modules::Measured;
+
+pub fn receiver_in(s: &[u8]) -> Receiver
+    requires { ⌜ 19 ≤ length (now s) ⌝ }
+    ensures { λ r. ⌜ r ≡ receiverIn (now (s .entry)) ⌝ }
+{
+    Receiver {
+        bytes: [
+            s[0],
+            s[1],
+            s[2],
+            s[3],
+            s[4],
+            s[5],
+            s[6],
+            s[7],
+            s[8],
+            s[9],
+            s[10],
+            s[11],
+            s[12],
+            s[13],
+            s[14],
+        ],
+        address: s[15],
+        command: s[16],
+        fill: s[17],
+        marked: s[18] == 1,
+    }
+}
+
+pub fn receiver_bytes(r: Receiver) -> [u8; 19]
+    ensures { λ s. ⌜ s ≡ receiverBytes r ⌝ }
+{
+    let b = r.bytes;
+    [
+        b[0],
+        b[1],
+        b[2],
+        b[3],
+        b[4],
+        b[5],
+        b[6],
+        b[7],
+        b[8],
+        b[9],
+        b[10],
+        b[11],
+        b[12],
+        b[13],
+        b[14],
+        r.address,
+        r.command,
+        r.fill,
+        r.marked as u8,
+    ]
+}
+
+fn is_blank(s: &[u8]) -> bool
+    ensures { λ r. ⌜ r ≡ blank (now (s .entry)) ⌝ }
+{
+    let mut i = 0;
+    while i < s.len() {
+        if s[i] != 0 {
+            return false;
+        }
+        i += 1;
+    }
+    true
+}
+
+fn is_receiver_ok(s: &[u8]) -> bool
+    requires { ⌜ 19 ≤ length (now s) ⌝ }
+    ensures { λ r. ⌜ r ≡ okReceiver (now (s .entry)) ⌝ }
+{
+    if s[17] == 0 {
+        return is_blank(&s[..17]) & (s[18] == 0);
+    }
+    (s[17] <= 3 + s[16] / 16) & (s[18] <= 1)
+}
+
+// Whether the n slots from place 20 on are valid.
+fn is_each_ok(net: &[u8], n: usize) -> bool
+    requires { ⌜ slotsAt + slotSize * n ≤ length (now net) ⌝ }
+    ensures { λ r. ⌜ r ≡ okSlots slots n (drop slotsAt (now (net .entry))) ⌝ }
+{
+    let mut at: usize = 20;
+    let mut left = n;
+    while 0 < left {
+        let end = at + 128;
+        if !dispatch::is_ok(&net[at..end]) {
+            return false;
+        }
+        at = end;
+        left -= 1;
+    }
+    true
+}
+
+// Whether a record is valid: the list for refusal 16.
+pub fn is_valid(net: &[u8]) -> bool
+    ensures { λ r. ⌜ r ≡ valid slots (now (net .entry)) ⌝ }
+{
+    if net.len() != 4116 {
+        return false;
+    }
+    let n = net[19];
+    if (1 <= n) & (n <= 32) {
+        return is_receiver_ok(net) & is_each_ok(net, n as usize);
+    }
+    false
+}
+
+// How many modules the chain has.
+pub fn chain_len(net: &[u8]) -> u8
+    requires { ⌜ valid slots (now net) ≡ true ⌝ }
+    ensures { λ r. ⌜ r ≡ length (netIn slots (now (net .entry)) .modules) ⌝ }
+{
+    net[19]
+}
+
+// Whether the module at a place is of this type, which its slot's first byte tells; beyond the chain there is none.
+pub fn is_of_type(net: &[u8], place: usize, t: u8) -> bool
+    requires { ⌜ valid slots (now net) ≡ true ⌝ }
+    ensures { λ r. ⌜ r ≡ ofType t (netIn slots (now (net .entry))) place ⌝ }
+{
+    let n = chain_len(net) as usize;
+    if place < n {
+        return net[20 + 128 * place] == t;
+    }
+    false
+}
+
+// A sample for the module at a place; one for another type changes nothing.
+pub fn put_sample(net: &mut [u8], place: usize, x: Measured)
+    requires { ⌜ (valid slots (now net) ≡ true) × (place < length (netIn slots (now net) .modules)) ⌝ }
+    ensures { λ _. ⌜ now (net .exit) ≡ stored slots (sampleStep place (measured x) (netIn slots (now (net .entry)))) (now (net .entry)) ⌝ }
+{
+    let at = 20 + 128 * place;
+    let end = at + 128;
+    dispatch::put_sample(&mut net[at..end], x);
+}
+
+// What the board drives for the module at a place.
+pub fn outputs(net: &[u8], place: usize) -> [u8; 8]
+    requires { ⌜ (valid slots (now net) ≡ true) × (place < length (netIn slots (now net) .modules)) ⌝ }
+    ensures { λ r. ⌜ r ≡ outputsAt (netIn slots (now (net .entry))) place ⌝ }
+{
+    let at = 20 + 128 * place;
+    let end = at + 128;
+    dispatch::outputs(&net[at..end])
+}
+
+// Whether all types are known.
+pub fn is_all_known(types: &[u8]) -> bool
+    ensures { λ r. ⌜ r ≡ allKnown (now (types .entry)) ⌝ }
+{
+    let mut i = 0;
+    while i < types.len() {
+        if !dispatch::is_known(types[i]) {
+            return false;
+        }
+        i += 1;
+    }
+    true
+}
+
+fn clear(s: &mut [u8])
+    ensures { λ _. ⌜ now (s .exit) ≡ replicate (length (now (s .entry))) 0 ⌝ }
+{
+    let mut i = 0;
+    while i < s.len() {
+        s[i] = 0;
+        i += 1;
+    }
+}
+
+// Modules of the given types at power-up, put into the slots from place 20 on.
+fn power_up_each(net: &mut [u8], types: &[u8])
+    requires { ⌜ (slotsAt + slotSize * length (now types) ≤ length (now net)) × (allKnown (now types) ≡ true) ⌝ }
+    ensures { λ _. ⌜ now (net .exit) ≡ putModules slots (map powered (now (types .entry))) slotsAt (now (net .entry)) ⌝ }
+{
+    let mut at: usize = 20;
+    let mut i = 0;
+    while i < types.len() {
+        let end = at + 128;
+        dispatch::power_up(&mut net[at..end], types[i]);
+        at = end;
+        i += 1;
+    }
+}
+
+// Setup: an idle receiver and a chain of the given types, whatever the record held before.
+pub fn set_up(net: &mut [u8], types: &[u8])
+    requires { ⌜ (length (now net) ≡ recordSize) × (length (now types) ≤ 32) × (allKnown (now types) ≡ true) ⌝ }
+    ensures { λ _. ⌜ now (net .exit) ≡ fresh (now (types .entry)) ⌝ }
+{
+    clear(net);
+    let mut head = [0u8; 20];
+    head[19] = types.len() as u8;
+    layout::put_all(net, 0, &head);
+    power_up_each(net, types);
+}

@@ -1,0 +1,156 @@
+// What bytes and ticks do to a valid record: a frame that has ended is handed along the chain.
+ghost use mathlib.Core.Path.{_≡_};
+ghost use mathlib.Core.Bool.{true};
+ghost use Prim.Native.Nat.{_+_, _*_, _≤_, _<_};
+ghost use lib.ListN.{length, getD, take, drop};
+ghost use Rattle.layout.specs.Bytes.{pasted};
+ghost use Rattle.line.specs.Receive.{numberOf};
+ghost use Rattle.line.specs.Frames.{frameIn};
+ghost use Rattle.line.specs.declared.Answer;
+ghost use Rattle.station.specs.Touch.{frameOf};
+ghost use Rattle.chain.specs.Chain.{join, flat, byteStep};
+ghost use Rattle.chain.specs.Slots.{slotSize};
+ghost use Rattle.modules.specs.Types.{kind, slots};
+ghost use Rattle.network.specs.Record.{recordSize, slotsAt, countAt, okSlots, netIn, stored, valid};
+ghost use Rattle.network.specs.Walk.{turned, wordsAt, walked, speech, ticked};
+ghost use Rattle.network.specs.Calls.{tickStep, calledBy, turnOf, walkOf, endedOf, byteOf};
+use line::Answer;
+use line::Receiver;
+use network::Called;
+use network::Turn;
+use network::Walked;
+use station::Address;
+use station::Head;
+
+// The frame at the module in the slot at place at; a module that is not touched is neither decoded nor written.
+fn take_turn(
+    net: &mut [u8],
+    at: usize,
+    enabled: bool,
+    f: Head,
+    ds: &[u8],
+    room: &mut [u8],
+    from: usize,
+) -> Turn
+    requires { ⌜ (at + slotSize ≤ length (now net)) × (from + 19 ≤ length (now room)) × (slots .ok (take slotSize (drop at (now net))) ≡ true) ⌝ }
+    ensures { λ r. ⌜ r ≡ turnOf (frameOf f (now (ds .entry))) enabled at (now (net .entry)) ⌝ }
+    ensures { λ _. ⌜ now (net .exit) ≡ turned kind slots (frameOf f (now (ds .entry))) enabled at (now (net .entry)) ⌝ }
+    ensures { λ _. ⌜ now (room .exit) ≡ pasted from (wordsAt kind slots (frameOf f (now (ds .entry))) enabled at (now (net .entry))) (now (room .entry)) ⌝ }
+{
+    let end = at + 128;
+    let address = Address::in_slot(&net[at..end]);
+    if enabled & address.is_named(f.address) {
+        let said = dispatch::touch(&mut net[at..end], f, ds, room, from);
+        return Turn {
+            low: address.low,
+            said,
+        };
+    }
+    Turn {
+        low: address.low,
+        said: 0,
+    }
+}
+
+// The frame at the n modules from place 20 on, their replies one after another in the room.
+fn walk(net: &mut [u8], n: usize, f: Head, ds: &[u8], room: &mut [u8]) -> Walked
+    requires { ⌜ (slotsAt + slotSize * n ≤ length (now net)) × (19 * n ≤ length (now room)) × (n ≤ 32) × (okSlots slots n (drop slotsAt (now net)) ≡ true) ⌝ }
+    ensures { λ r. ⌜ r ≡ walkOf (frameOf f (now (ds .entry))) n (now (net .entry)) ⌝ }
+    ensures { λ _. ⌜ now (net .exit) ≡ walked kind slots (frameOf f (now (ds .entry))) true n slotsAt (now (net .entry)) ⌝ }
+    ensures { λ _. ⌜ now (room .exit) ≡ pasted 0 (join (speech kind slots (frameOf f (now (ds .entry))) true n slotsAt (now (net .entry)))) (now (room .entry)) ⌝ }
+{
+    let mut lengths = [0u8; 32];
+    let mut enabled = true;
+    let mut at: usize = 20;
+    let mut place: usize = 0;
+    let mut written: usize = 0;
+    let mut left = n;
+    while 0 < left {
+        let t = take_turn(net, at, enabled, f, ds, room, written);
+        enabled = t.low;
+        lengths[place] = t.said as u8;
+        written += t.said;
+        at += 128;
+        place += 1;
+        left -= 1;
+    }
+    Walked { written, lengths }
+}
+
+fn ended_number(damaged: bool) -> u32
+    ensures { λ n. ⌜ n ≡ numberOf (Answer.Ended damaged) ⌝ }
+{
+    if damaged { 2 } else { 1 }
+}
+
+// The frame that a receiver held when its last byte came, handed to the chain.
+fn hand_on(net: &mut [u8], r: Receiver, damaged: bool, room: &mut [u8]) -> Called
+    requires { ⌜ (length (now net) ≡ recordSize) × (getD (now net) countAt 0 ≤ 32) × (608 ≤ length (now room)) × (length (r .bytes) ≡ 15) ⌝ }
+    requires { ⌜ okSlots slots (getD (now net) countAt 0) (drop slotsAt (now net)) ≡ true ⌝ }
+    ensures { λ c. ⌜ c ≡ endedOf (frameIn r damaged) (getD (now (net .entry)) countAt 0) (now (net .entry)) ⌝ }
+    ensures { λ _. ⌜ now (net .exit) ≡ walked kind slots (frameIn r damaged) true (getD (now (net .entry)) countAt 0) slotsAt (now (net .entry)) ⌝ }
+    ensures { λ _. ⌜ now (room .exit) ≡ pasted 0 (join (speech kind slots (frameIn r damaged) true (getD (now (net .entry)) countAt 0) slotsAt (now (net .entry)))) (now (room .entry)) ⌝ }
+{
+    let n = net[19] as usize;
+    let bytes = r.bytes;
+    let count = (r.command / 16) as usize;
+    let f = Head {
+        address: r.address,
+        code: r.command % 16,
+        damaged,
+    };
+    let w = walk(net, n, f, &bytes[..count], room);
+    let lengths = w.lengths;
+    Called {
+        number: ended_number(damaged),
+        written: w.written,
+        lengths,
+    }
+}
+
+// A byte of the line.
+pub fn byte(net: &mut [u8], value: u8, mark: bool, room: &mut [u8]) -> Called
+    requires { ⌜ (valid slots (now net) ≡ true) × (608 ≤ length (now room)) ⌝ }
+    ensures { λ c. ⌜ c ≡ calledBy (netIn slots (now (net .entry))) (byteOf value mark) ⌝ }
+    ensures { λ _. ⌜ now (net .exit) ≡ stored slots (byteStep kind (netIn slots (now (net .entry))) (byteOf value mark) .net) (now (net .entry)) ⌝ }
+    ensures { λ _. ⌜ now (room .exit) ≡ pasted 0 (flat (byteStep kind (netIn slots (now (net .entry))) (byteOf value mark) .replies)) (now (room .entry)) ⌝ }
+{
+    let r = record::receiver_in(net);
+    let got = r.take(value, mark);
+    let next = got.next;
+    let bytes = record::receiver_bytes(next);
+    layout::put_all(net, 0, &bytes);
+    let answer = got.answer;
+    let Answer::Ended(damaged) = answer else {
+        return Called {
+            number: 0,
+            written: 0,
+            lengths: [0u8; 32],
+        };
+    };
+    hand_on(net, r, damaged, room)
+}
+
+// A tick at the n modules from place 20 on.
+fn tick_each(net: &mut [u8], n: usize)
+    requires { ⌜ (slotsAt + slotSize * n ≤ length (now net)) × (okSlots slots n (drop slotsAt (now net)) ≡ true) ⌝ }
+    ensures { λ _. ⌜ now (net .exit) ≡ ticked kind slots n slotsAt (now (net .entry)) ⌝ }
+{
+    let mut at: usize = 20;
+    let mut left = n;
+    while 0 < left {
+        let end = at + 128;
+        dispatch::tick(&mut net[at..end]);
+        at = end;
+        left -= 1;
+    }
+}
+
+// A tick.
+pub fn tick(net: &mut [u8])
+    requires { ⌜ valid slots (now net) ≡ true ⌝ }
+    ensures { λ _. ⌜ now (net .exit) ≡ stored slots (tickStep (netIn slots (now (net .entry)))) (now (net .entry)) ⌝ }
+{
+    let n = net[19];
+    tick_each(net, n as usize);
+}
