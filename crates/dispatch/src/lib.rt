@@ -35,7 +35,7 @@ pub fn power_up(s: &mut [u8], t: u8)
     ensures { λ _. ⌜ now (s .exit) ≡ pasted 0 (slots .enc (powered t)) (now (s .entry)) ⌝ }
 {
     if t == 0 {
-        servoslot::put(s, commands::power_up());
+        servoput::put(s, commands::power_up());
     } else {
         ioslot::put(s, terminal::power_up());
     }

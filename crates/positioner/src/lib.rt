@@ -20,10 +20,10 @@ pub fn touch(s: &mut [u8], f: Head, ds: &[u8], room: &mut [u8], from: usize) -> 
     ensures { λ _. ⌜ now (s .exit) ≡ pasted 0 (encodeOf (executed servo (frameOf f (now (ds .entry))) (decodeOf (now (s .entry))))) (now (s .entry)) ⌝ }
     ensures { λ _. ⌜ now (room .exit) ≡ pasted from (replied servo (frameOf f (now (ds .entry))) (decodeOf (now (s .entry)))) (now (room .entry)) ⌝ }
 {
-    let before = servoslot::decode(s);
+    let before = servoread::decode(s);
     let address = before.station.address;
     let after = commands::execute(before, f, address.is_individually(f.address), ds);
-    servoslot::put(s, after);
+    servoput::put(s, after);
     if address.is_speaking(f.address) {
         return answers::put_reply(after, f, ds, room, from);
     }
@@ -35,8 +35,8 @@ pub fn tick(s: &mut [u8])
     requires { ⌜ (106 ≤ length (now s)) × (okOf (now s) ≡ true) ⌝ }
     ensures { λ _. ⌜ now (s .exit) ≡ pasted 0 (encodeOf (ticked (decodeOf (now (s .entry))))) (now (s .entry)) ⌝ }
 {
-    let m = servoslot::decode(s);
-    servoslot::put(s, motor::ticked(m));
+    let m = servoread::decode(s);
+    servoput::put(s, motor::ticked(m));
 }
 
 // The servo in a slot, with a sample waiting.
@@ -44,8 +44,8 @@ pub fn put_sample(s: &mut [u8], x: Sample)
     requires { ⌜ 106 ≤ length (now s) ⌝ }
     ensures { λ _. ⌜ now (s .exit) ≡ pasted 0 (encodeOf (sampled x (decodeOf (now (s .entry))))) (now (s .entry)) ⌝ }
 {
-    let m = servoslot::decode(s);
-    servoslot::put(s, motor::sampled(m, x));
+    let m = servoread::decode(s);
+    servoput::put(s, motor::sampled(m, x));
 }
 
 // What the board drives for the servo in a slot.
@@ -53,5 +53,5 @@ pub fn outputs(s: &[u8]) -> [u8; 8]
     requires { ⌜ (106 ≤ length (now s)) × (okOf (now s) ≡ true) ⌝ }
     ensures { λ r. ⌜ r ≡ outputsOf (decodeOf (now (s .entry))) ⌝ }
 {
-    answers::outputs(servoslot::decode(s))
+    answers::outputs(servoread::decode(s))
 }

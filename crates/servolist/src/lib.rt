@@ -146,7 +146,7 @@ pub fn is_ok(s: &[u8]) -> bool
     requires { ⌜ 106 ≤ length (now s) ⌝ }
     ensures { λ r. ⌜ r ≡ okOf (now (s .entry)) ⌝ }
 {
-    let m = servoslot::decode(s);
+    let m = servoread::decode(s);
     let front = is_front_ok(s);
     let load = is_load_ok(front, s, m.rates);
     if is_motion_ok(load, s, m) {

@@ -6,5 +6,4 @@ pub mod Ticks
 pub mod Within
 pub mod Passed
 pub mod Listed
-pub mod Putting
 pub mod Tested
