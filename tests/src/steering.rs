@@ -15,6 +15,8 @@ const GROUPS: &[u8] = &[0xFF, 0x7F, 0x81, 0x01, 0x82, 0x02, HEADER, 0x2A, 0x80, 
 const IO_CODES: &[u8] = &[0, 0, 1, 1, 2, 2, 3, 3, 4, 5, 5, 6, 6, 7, 7, 8, 9, 10, 10, 11, 12, 12, 13, 14, 15];
 const SERVO_CODES: &[u8] =
     &[0, 0, 1, 2, 2, 3, 3, 3, 4, 4, 4, 4, 4, 5, 5, 5, 6, 6, 7, 7, 7, 8, 9, 10, 11, 11, 12, 13, 14, 15];
+/// Control byte of a trapezoid with all that it needs.
+pub const TRAPEZOID: u8 = 0x17;
 const EDGES: &[u8] = &[0, 1, 2, 3, 4, 5, 15, 16, 31, 32, 33, 63, 64, 127, 128, HEADER, 255];
 
 pub fn data_byte(dice: &mut Dice) -> u8 {
@@ -43,7 +45,7 @@ pub fn group(dice: &mut Dice) -> u8 {
 }
 
 fn chain_length(dice: &mut Dice) -> usize {
-    match dice.below(8) {
+    match dice.below(16) {
         0 => 1,
         1 => 32,
         2 | 3 => 1 + dice.below(MOST_MODULES),
@@ -115,10 +117,10 @@ fn counts(dice: &mut Dice) -> u32 {
     match dice.below(12) {
         0 => 0,
         1 => 1,
-        2 => 1 << 31,
-        3 => dice.pick(&[(1 << 31) - 1, (1 << 31) + 1]),
-        4 => dice.throw() as u32,
-        5..=8 => dice.below(60) as u32,
+        2 | 3 => 1 << 31,
+        4 => dice.pick(&[(1 << 31) - 1, (1 << 31) + 1]),
+        5 => dice.throw() as u32,
+        6..=8 => dice.below(60) as u32,
         _ => (dice.below(60) as u32).wrapping_neg(),
     }
 }
@@ -131,19 +133,28 @@ fn where_it_is(servo: &Servo) -> u32 {
     }
 }
 
-fn load(dice: &mut Dice, servo: &Servo) -> Vec<u8> {
+/// A load's control byte. Until both rates have been loaded, often one that brings the other alone.
+fn control(dice: &mut Dice, servo: &Servo) -> u8 {
+    let fresh = !(servo.velocity_loaded && servo.acceleration_loaded);
     let mut control = match dice.below(12) {
-        0..=3 => 0x17,
+        _ if fresh && dice.percent(40) => dice.pick(&[0x13, 0x15, 0x32, 0x34]),
+        _ if servo.mode == Mode::Pwm && dice.percent(20) => 0x08,
+        0..=3 => TRAPEZOID,
         4..=6 => 0x36,
         7 => 0x11,
         8 => 0x32,
         9 | 10 => 0x08,
         _ => dice.byte(),
     };
-    control ^= dice.pick(&[0, 0x40, 0x80, 0xC0]);
     if dice.percent(15) {
         control ^= 1 << dice.below(8);
     }
+    control
+}
+
+/// A load by its control byte; reversed or not, to be started now or not.
+pub fn load(dice: &mut Dice, servo: &Servo, control: u8) -> Vec<u8> {
+    let control = control ^ dice.pick(&[0, 0x40, 0x80, 0xC0]);
     let mut data = vec![control];
     if control & 1 != 0 {
         data.extend(where_it_is(servo).wrapping_add(counts(dice)).to_le_bytes());
@@ -190,7 +201,10 @@ pub fn gains(dice: &mut Dice) -> Vec<u8> {
 pub fn servo_command(dice: &mut Dice, servo: &Servo) -> (u8, Vec<u8>) {
     let code = dice.pick(SERVO_CODES);
     let data = match code {
-        4 => load(dice, servo),
+        4 => {
+            let control = control(dice, servo);
+            load(dice, servo, control)
+        }
         6 => {
             let mut gains = gains(dice);
             if dice.percent(25) {
@@ -216,6 +230,16 @@ pub fn servo_command(dice: &mut Dice, servo: &Servo) -> (u8, Vec<u8>) {
     (code, data)
 }
 
+/// Where the counts go round, and where their sign does.
+fn seam(dice: &mut Dice) -> u32 {
+    dice.pick(&[0, 1 << 31])
+}
+
+/// Where the setpoint will be if the profile goes on as it does.
+pub fn ahead(servo: &Servo) -> u32 {
+    ((servo.setpoint + servo.speed) >> 16) as u32
+}
+
 /// A raw count for a motor that follows its setpoint more or less, with errors at the limit among them.
 pub fn following(dice: &mut Dice, servo: &Servo) -> u32 {
     let limit = u32::from(servo.gains.el);
@@ -230,9 +254,11 @@ pub fn following(dice: &mut Dice, servo: &Servo) -> u32 {
     if dice.percent(50) {
         error = error.wrapping_neg();
     }
-    // where the setpoint will be if the profile goes on as it does
-    let ahead = ((servo.setpoint + servo.speed) >> 16) as u32;
-    let base = if servo.servo_off() { servo.position() } else { ahead };
+    let base = match servo.servo_off() {
+        true if dice.percent(15) => seam(dice),
+        true => servo.position(),
+        false => ahead(servo),
+    };
     base.wrapping_add(error).wrapping_add(servo.offset)
 }
 
@@ -243,28 +269,6 @@ pub fn servo_sample(dice: &mut Dice, servo: &Servo) -> (u32, u32) {
         _ => 1,
     };
     (following(dice, servo), power)
-}
-
-/// Why a Start of the waiting load would be not now, by number.
-pub const REASONS: usize = 9;
-
-pub fn why_not_now(servo: &Servo) -> Vec<usize> {
-    let load = &servo.load;
-    let profile = load.way != Way::Pwm;
-    let trapezoid = load.way == Way::Trapezoid;
-    let away = load.position.wrapping_sub(where_it_is(servo));
-    let reasons = [
-        !load.waits,
-        servo.latched.power != 1,
-        servo.error,
-        load.waits && load.way == Way::Pwm && !load.pwm_carried,
-        load.waits && profile && !(servo.velocity_loaded && servo.acceleration_loaded),
-        trapezoid && !load.position_carried,
-        trapezoid && servo.velocity_loaded && servo.velocity == 0,
-        trapezoid && servo.speed != 0,
-        trapezoid && load.position_carried && away == 1 << 31,
-    ];
-    (0..REASONS).filter(|reason| reasons[*reason]).collect()
 }
 
 // ---------------------------------------------------------------- records
@@ -317,6 +321,9 @@ fn any_servo(dice: &mut Dice, station: Station) -> Servo {
     servo.running_acceleration = rate(dice);
     servo.top = rate(dice);
     servo.setpoint = (dice.throw() >> 16) as i64;
+    if dice.percent(30) {
+        servo.setpoint = ((i64::from(seam(dice)) << 16) + within(dice, 3 << 16)).rem_euclid(1 << 48);
+    }
     servo.latched.power = dice.pick(&[0, 1, 1, 1, 1, 1, 2]);
     servo.mode = dice.pick(&[Mode::Off, Mode::Pwm, Mode::Holding, Mode::Velocity, Mode::Velocity, Mode::Trapezoid]);
     if servo.latched.power == 0 {

@@ -1,6 +1,7 @@
 //! The I/O module, type 2 version 1.
 
 use super::station::{Device, Station, MALFORMED};
+use crate::branches::{reach, Branch};
 use crate::slips::Slip;
 
 pub const BITS: u16 = 0x0FFF;
@@ -36,6 +37,20 @@ fn twelve(low: u8, high: u8) -> u16 {
 /// `new` where the mask has ones, `old` elsewhere.
 fn blend(mask: u16, new: u16, old: u16) -> u16 {
     (new & mask) | (old & !mask)
+}
+
+/// How a command of the I/O module is malformed.
+fn malformed_as(code: u8) -> Branch {
+    match code {
+        0 => Branch::SetDirectionCount,
+        4 => Branch::SetPwmCount,
+        5 => Branch::SynchOutputCount,
+        6 => Branch::SetOutputCount,
+        7 => Branch::SetSynchOutputCount,
+        8 => Branch::SetTimerModeCount,
+        12 => Branch::SynchInputCount,
+        _ => Branch::IoUnknown,
+    }
 }
 
 impl Io {
@@ -86,6 +101,7 @@ impl Device for Io {
     fn command(&mut self, code: u8, data: &[u8], slip: Slip) -> Result<(), u8> {
         match (code, data) {
             (0, [low, high]) => {
+                reach(Branch::SetDirection);
                 self.direction = twelve(*low, *high);
                 if slip == Slip::DirectionInverted {
                     self.direction ^= BITS;
@@ -95,12 +111,14 @@ impl Device for Io {
                 }
             }
             (4, [one, two]) => {
+                reach(Branch::SetPwm);
                 self.pwm = [*one, *two];
                 if slip == Slip::PwmIntoBuffer {
                     self.synch_pwm = self.pwm;
                 }
             }
             (5, []) => {
+                reach(Branch::SynchOutput);
                 let mask = if slip == Slip::SynchOutputOnInputs { BITS } else { self.outputs_mask() };
                 self.register = blend(mask, self.synch_bits, self.register);
                 if slip != Slip::SynchOutputWithoutPwm {
@@ -112,10 +130,12 @@ impl Device for Io {
                 }
             }
             (6, [low, high]) => {
+                reach(Branch::SetOutput);
                 let mask = if slip == Slip::OutputOnInputs { BITS } else { self.outputs_mask() };
                 self.register = blend(mask, twelve(*low, *high), self.register);
             }
             (7, [low, high, one, two]) => {
+                reach(Branch::SetSynchOutput);
                 self.synch_bits = twelve(*low, *high);
                 if slip == Slip::SynchOutputMaskedEarly {
                     self.synch_bits &= self.outputs_mask();
@@ -123,11 +143,13 @@ impl Device for Io {
                 self.synch_pwm = [*one, *two];
             }
             (8, [mode]) => {
+                reach(Branch::SetTimerMode);
                 if slip != Slip::TimerModeNotStored {
                     self.timer_mode = *mode;
                 }
             }
             (12, []) => {
+                reach(Branch::SynchInput);
                 self.captured_inputs = self.read_value(slip);
                 if slip == Slip::CaptureOfSampleAlone {
                     self.captured_inputs = self.latched.inputs;
@@ -135,12 +157,16 @@ impl Device for Io {
                 self.captured_counter = self.latched.counter;
             }
             (9 | 11 | 13, _) if slip == Slip::UnknownCodeExecuted => {}
-            _ => return Err(MALFORMED),
+            _ => {
+                reach(malformed_as(code));
+                return Err(MALFORMED);
+            }
         }
         Ok(())
     }
 
     fn hard_reset(&mut self, slip: Slip) {
+        reach(Branch::IoReset);
         let before = self.clone();
         *self = Io::power_up();
         if slip != Slip::ResetDropsWaitingSample {
@@ -155,6 +181,13 @@ impl Device for Io {
     }
 
     fn item(&self, bit: usize, slip: Slip) -> Vec<u8> {
+        reach(match bit {
+            0 => Branch::IoInputs,
+            1..=3 => Branch::IoAd,
+            4 => Branch::IoCounter,
+            6 => Branch::IoCapturedInputs,
+            _ => Branch::IoCapturedCounter,
+        });
         match bit {
             0 => self.read_value(slip).to_le_bytes().to_vec(),
             1..=3 => vec![self.latched.ad[bit - 1]],
@@ -171,6 +204,7 @@ impl Device for Io {
     }
 
     fn tick(&mut self, slip: Slip) {
+        reach(Branch::IoTick);
         self.latched = self.waiting.clone();
         if slip == Slip::SampleOnce {
             self.waiting = IoSample::default();
