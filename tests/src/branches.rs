@@ -18,10 +18,21 @@ macro_rules! branches {
 
 thread_local! {
     static TIMES: [Cell<usize>; COUNT] = const { [const { Cell::new(0) }; COUNT] };
+    static COUNTING: Cell<bool> = const { Cell::new(true) };
 }
 
 pub fn reach(branch: Branch) {
-    TIMES.with(|times| times[branch as usize].set(times[branch as usize].get() + 1));
+    if COUNTING.get() {
+        TIMES.with(|times| times[branch as usize].set(times[branch as usize].get() + 1));
+    }
+}
+
+/// Something that is only found out and leaves nothing behind: no branch is reached by it.
+pub fn uncounted<T>(find_out: impl FnOnce() -> T) -> T {
+    let counting = COUNTING.replace(false);
+    let found = find_out();
+    COUNTING.set(counting);
+    found
 }
 
 /// The condition, counted by how it falls.

@@ -98,6 +98,7 @@ impl Pair<'_> {
     /// What holds after every call: a record that was taken still passes the list, the library takes it too, and the
     /// board drives the same. Of all places, and the one beyond the chain, or else of one in turn.
     fn after(&mut self, taken: bool, everywhere: bool) -> Result<Option<Network>, String> {
+        self.turn += 1;
         let network = decode(&self.net, self.model.slip);
         if taken && network.is_none() {
             return self.disagree("the record breaks the list");
@@ -175,7 +176,6 @@ impl Pair<'_> {
 
     fn tick(&mut self) -> Result<u32, String> {
         self.remember(Event::Tick);
-        self.turn += 1;
         self.seen.ticks += 1;
         let before = self.net.clone();
         let mut by_model = before.clone();

@@ -265,6 +265,31 @@ fn trapezoid_in_order(servo: &Servo, slip: Slip) -> bool {
     ])
 }
 
+fn gains(slot: &[u8]) -> Gains {
+    Gains {
+        kp: two(slot, at::KP),
+        kd: two(slot, at::KD),
+        ki: two(slot, at::KI),
+        il: two(slot, at::IL),
+        ol: slot[at::OL],
+        el: two(slot, at::EL),
+        cl: slot[at::CL],
+        sm: slot[at::SM],
+    }
+}
+
+fn load(slot: &[u8]) -> Load {
+    Load {
+        waits: slot[at::LOAD_WAITS] == 1,
+        way: [Way::Pwm, Way::Velocity, Way::Trapezoid][usize::from(slot[at::WAY])],
+        position_carried: slot[at::POSITION_CARRIED] == 1,
+        position: four(slot, at::LOAD_POSITION),
+        pwm_carried: slot[at::PWM_CARRIED] == 1,
+        pwm: slot[at::LOAD_PWM],
+        reverse: slot[at::REVERSE] == 1,
+    }
+}
+
 fn servo(slot: &[u8], slip: Slip) -> Option<Box<Servo>> {
     if !servo_in_range(slot, slip) {
         return None;
@@ -276,29 +301,12 @@ fn servo(slot: &[u8], slip: Slip) -> Option<Box<Servo>> {
         latched: servo_sample(slot, at::LATCHED),
         offset: four(slot, at::OFFSET),
         last_position: four(slot, at::LAST_POSITION),
-        gains: Gains {
-            kp: two(slot, at::KP),
-            kd: two(slot, at::KD),
-            ki: two(slot, at::KI),
-            il: two(slot, at::IL),
-            ol: slot[at::OL],
-            el: two(slot, at::EL),
-            cl: slot[at::CL],
-            sm: slot[at::SM],
-        },
+        gains: gains(slot),
         velocity: four(slot, at::VELOCITY),
         acceleration: four(slot, at::ACCELERATION),
         velocity_loaded: flag(at::VELOCITY_LOADED),
         acceleration_loaded: flag(at::ACCELERATION_LOADED),
-        load: Load {
-            waits: flag(at::LOAD_WAITS),
-            way: [Way::Pwm, Way::Velocity, Way::Trapezoid][usize::from(slot[at::WAY])],
-            position_carried: flag(at::POSITION_CARRIED),
-            position: four(slot, at::LOAD_POSITION),
-            pwm_carried: flag(at::PWM_CARRIED),
-            pwm: slot[at::LOAD_PWM],
-            reverse: flag(at::REVERSE),
-        },
+        load: load(slot),
         setpoint: i64::from(four(slot, at::SETPOINT)) | i64::from(two(slot, at::SETPOINT + 4)) << 32,
         speed: signed(slot, at::SPEED),
         goal: four(slot, at::GOAL),

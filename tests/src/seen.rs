@@ -40,6 +40,8 @@ pub type Tally = Vec<(&'static str, usize)>;
 pub struct Seen {
     /// Frames that ended, by the chain's last place.
     pub chains: [usize; MOST_MODULES],
+    /// Modules touched, by place.
+    pub places: [usize; MOST_MODULES],
     /// Modules touched, by code and cause: servos, then I/O modules.
     pub met: [[[usize; 4]; 16]; 2],
     /// Servos touched or ticked, by what came upon them, mode before and mode after.
@@ -106,6 +108,7 @@ impl Seen {
         let mut repliers = 0;
         for (place, module) in before.modules.iter().enumerate() {
             let Some(touch) = before.touch(place, receiver.address) else { continue };
+            self.places[place] += 1;
             let cause = after.modules[place].station().cause;
             let is_io = matches!(module, Module::Io(_));
             self.met[usize::from(is_io)][usize::from(code)][usize::from(cause)] += 1;

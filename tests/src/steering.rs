@@ -114,13 +114,13 @@ fn rate_or_bad(dice: &mut Dice) -> u32 {
 
 /// Counts that are near, and counts at the far end of the circle.
 fn counts(dice: &mut Dice) -> u32 {
-    match dice.below(12) {
+    match dice.below(14) {
         0 => 0,
         1 => 1,
-        2 | 3 => 1 << 31,
-        4 => dice.pick(&[(1 << 31) - 1, (1 << 31) + 1]),
-        5 => dice.throw() as u32,
-        6..=8 => dice.below(60) as u32,
+        2..=4 => 1 << 31,
+        5 => dice.pick(&[(1 << 31) - 1, (1 << 31) + 1]),
+        6 => dice.throw() as u32,
+        7..=10 => dice.below(60) as u32,
         _ => (dice.below(60) as u32).wrapping_neg(),
     }
 }
@@ -286,11 +286,8 @@ fn flag(dice: &mut Dice) -> bool {
     dice.percent(50)
 }
 
-/// A servo that the list takes, in any mode and often at an edge of it.
-fn any_servo(dice: &mut Dice, station: Station) -> Servo {
-    let mut servo = Servo::power_up();
-    servo.station = station;
-    servo.gains = Gains {
+fn any_gains(dice: &mut Dice) -> Gains {
+    Gains {
         kp: gain(dice),
         kd: gain(dice),
         ki: gain(dice),
@@ -299,23 +296,54 @@ fn any_servo(dice: &mut Dice, station: Station) -> Servo {
         cl: dice.byte(),
         el: if dice.percent(70) { 16_383 - dice.below(4000) as u16 } else { dice.below(16_384) as u16 },
         sm: dice.byte(),
-    };
+    }
+}
+
+/// Without a waiting load the list asks nothing of the load's other bytes.
+fn any_load(dice: &mut Dice) -> Load {
+    if dice.percent(40) {
+        return Load::default();
+    }
+    Load {
+        waits: dice.percent(90),
+        way: dice.pick(&[Way::Pwm, Way::Velocity, Way::Trapezoid, Way::Trapezoid]),
+        position_carried: dice.percent(80),
+        position: dice.throw() as u32,
+        pwm_carried: dice.percent(80),
+        pwm: dice.byte(),
+        reverse: flag(dice),
+    }
+}
+
+/// A servo that the list takes, in any mode and often at an edge of it.
+fn any_servo(dice: &mut Dice, station: Station) -> Servo {
+    let mut servo = Servo::power_up();
+    servo.station = station;
+    servo.gains = any_gains(dice);
     servo.velocity = rate(dice);
     servo.acceleration = rate(dice);
     servo.velocity_loaded = dice.percent(70);
     servo.acceleration_loaded = servo.acceleration > 0 && dice.percent(70);
-    // without a waiting load the list asks nothing of the load's other bytes
-    if dice.percent(60) {
-        servo.load = Load {
-            waits: dice.percent(90),
-            way: dice.pick(&[Way::Pwm, Way::Velocity, Way::Trapezoid, Way::Trapezoid]),
-            position_carried: dice.percent(80),
-            position: dice.throw() as u32,
-            pwm_carried: dice.percent(80),
-            pwm: dice.byte(),
-            reverse: flag(dice),
-        };
+    servo.load = any_load(dice);
+    any_motion(dice, &mut servo);
+
+    servo.offset = dice.throw() as u32;
+    servo.latched.raw = following(dice, &servo);
+    servo.latched.ad = dice.byte();
+    servo.last_position = dice.throw() as u32;
+    let (raw, power) = servo_sample(dice, &servo);
+    servo.waiting = ServoSample { raw, power: power as u8, ad: dice.byte() };
+    if servo.mode == Mode::Holding && dice.percent(30) {
+        full_swing(dice, &mut servo);
     }
+    if dice.percent(60) {
+        servo.load.position = where_it_is(&servo).wrapping_add(counts(dice)) * u32::from(servo.load.waits);
+    }
+    servo
+}
+
+/// A mode, and what it asks of the numbers that run with it.
+fn any_motion(dice: &mut Dice, servo: &mut Servo) {
     servo.goal = dice.throw() as u32;
     servo.goal_speed = within(dice, i64::from(SPEED_MOST));
     servo.running_acceleration = rate(dice);
@@ -333,7 +361,7 @@ fn any_servo(dice: &mut Dice, station: Station) -> Servo {
         Mode::Off | Mode::Holding => {}
         Mode::Pwm => servo.pwm = within(dice, 255),
         Mode::Velocity => servo.speed = within(dice, i64::from(SPEED_MOST)),
-        Mode::Trapezoid => any_trapezoid(dice, &mut servo),
+        Mode::Trapezoid => any_trapezoid(dice, servo),
     }
     if !servo.servo_off() {
         servo.integral = within(dice, 32_767);
@@ -344,20 +372,6 @@ fn any_servo(dice: &mut Dice, station: Station) -> Servo {
     }
     servo.error = servo.mode == Mode::Off && flag(dice);
     servo.amplifier = flag(dice);
-
-    servo.offset = dice.throw() as u32;
-    servo.latched.raw = following(dice, &servo);
-    servo.latched.ad = dice.byte();
-    servo.last_position = dice.throw() as u32;
-    let (raw, power) = servo_sample(dice, &servo);
-    servo.waiting = ServoSample { raw, power: power as u8, ad: dice.byte() };
-    if servo.mode == Mode::Holding && dice.percent(30) {
-        full_swing(dice, &mut servo);
-    }
-    if dice.percent(60) {
-        servo.load.position = where_it_is(&servo).wrapping_add(counts(dice)) * u32::from(servo.load.waits);
-    }
-    servo
 }
 
 /// From the one end of the error's range to the other at the highest gains: u is then as large as it can be.

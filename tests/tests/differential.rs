@@ -63,6 +63,7 @@ fn without_steering_branches_stay_unreached() {
 
 fn frames_meet_everything(seen: &Seen) {
     assert!(seen.chains.iter().all(|frames| *frames > 100), "{:?}", seen.chains);
+    assert!(seen.places.iter().all(|touched| *touched > 100), "{:?}", seen.places);
     // codes that a type does not know, and those that may be not now
     let types: [(&str, &[usize], &[usize]); 2] =
         [("servo", &[8, 9, 12, 13], &[0, 4, 5, 7]), ("I/O", &[9, 11, 13], &[])];

@@ -1,7 +1,7 @@
 //! What every module type has, and what makes a type.
 
 use super::line::{sum, Frame};
-use crate::branches::{either, reach, Branch};
+use crate::branches::{either, reach, uncounted, Branch};
 use crate::slips::Slip;
 
 pub const EXECUTED: u8 = 0;
@@ -153,7 +153,12 @@ pub trait Device: Clone {
     /// The frame met; whatever its cause is, only an executed one leaves more than the cause behind.
     fn meet(&mut self, frame: &Frame, touch: Touch, slip: Slip) {
         let mut after = self.clone();
-        let mut cause = match after.perform(frame, touch, slip) {
+        let outcome = if frame.damaged {
+            uncounted(|| after.perform(frame, touch, slip))
+        } else {
+            after.perform(frame, touch, slip)
+        };
+        let mut cause = match outcome {
             Ok(()) => EXECUTED,
             Err(cause) => cause,
         };
