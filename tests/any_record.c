@@ -1,9 +1,10 @@
 /*
- * Any bytes at all as a record: every call upon them refuses with a documented number and changes nothing, or answers;
- * nothing beyond what was lent is touched.
+ * Any bytes at all as a record: every call upon them refuses with a documented number and changes
+ * nothing, or answers; nothing beyond what was lent is touched.
  *
- * Everything is lent in blocks of exactly the length that is given. "fenced" puts them against pages that may not be
- * touched, so that one byte too far ends the program; "malloc" takes them from the heap, for a memory checker to watch.
+ * Everything is lent in blocks of exactly the length that is given. "fenced" puts them against
+ * pages that may not be touched, so that one byte too far ends the program, whoever compiled what
+ * made it; "malloc" takes them from the heap, for a memory checker to watch.
  *
  *     any_record fenced|malloc ROUNDS
  */
@@ -38,12 +39,12 @@ static uint32_t below(uint32_t end)
     return (uint32_t)(throw_dice() % end);
 }
 
-#define PICK(...) pick((const uint32_t[]){__VA_ARGS__}, sizeof((const uint32_t[]){__VA_ARGS__}) / sizeof(uint32_t))
-
-static uint32_t pick(const uint32_t *from, size_t count)
+static uint32_t pick(const uint32_t *from, size_t size)
 {
-    return from[below((uint32_t)count)];
+    return from[below((uint32_t)(size / sizeof *from))];
 }
+
+#define PICK(...) pick((const uint32_t[]){__VA_ARGS__}, sizeof((const uint32_t[]){__VA_ARGS__}))
 
 static void any_bytes(uint8_t *bytes, size_t len)
 {
@@ -58,18 +59,20 @@ struct lent {
     size_t len, mapped;
 };
 
-/* A block of exactly so many bytes, in turn against the fence behind it and against the one before it. */
+/* A block of exactly so many bytes, against the fence behind it or the one before it. */
 static struct lent lend(size_t len)
 {
-    static int turn;
     struct lent lent = {NULL, malloc(len + 1), NULL, len, 0};
+    uint32_t to_the_end = below(2);
     if (fenced) {
         size_t page = (size_t)sysconf(_SC_PAGESIZE), inner = (len / page + 1) * page;
         lent.mapped = inner + 2 * page;
         lent.pages = mmap(NULL, lent.mapped, PROT_NONE, MAP_PRIVATE | MAP_ANONYMOUS, -1, 0);
-        if (lent.pages == MAP_FAILED || mprotect(lent.pages + page, inner, PROT_READ | PROT_WRITE) != 0)
+        if (lent.pages == MAP_FAILED)
             abort();
-        lent.bytes = lent.pages + page + (turn++ % 2 ? inner - len : 0);
+        if (mprotect(lent.pages + page, inner, PROT_READ | PROT_WRITE) != 0)
+            abort();
+        lent.bytes = lent.pages + page + (to_the_end ? inner - len : 0);
     } else {
         lent.bytes = malloc(len);
     }
@@ -148,15 +151,16 @@ static void room_after(const char *call, struct lent *room, uint32_t number, siz
 
 static void call_byte(struct lent *net, uint8_t byte)
 {
-    struct lent room = lend(below(12) ? NMC_ROOM_LEN : PICK(0, 1, NMC_ROOM_LEN - 1, NMC_ROOM_LEN + 1));
+    struct lent room =
+        lend(below(12) ? NMC_ROOM_LEN : PICK(0, 1, NMC_ROOM_LEN - 1, NMC_ROOM_LEN + 1));
     size_t written = 77;
     remember(net);
     remember(&room);
     uint32_t mark = PICK(0, 0, 0, 0, 0, 0, 0, 0, 1, 2, 0xFFFFFFFFu);
     uint32_t number = nmc_byte(net->bytes, net->len, mark, byte, room.bytes, room.len, &written);
     documented("byte", number,
-               BIT(NMC_DONE) | BIT(NMC_FRAME) | BIT(NMC_DAMAGED) | BIT(NMC_BAD_FIELD) | BIT(NMC_SHORT_ROOM) |
-                   BIT(NMC_BAD_RECORD));
+               BIT(NMC_DONE) | BIT(NMC_FRAME) | BIT(NMC_DAMAGED) | BIT(NMC_BAD_FIELD) |
+                   BIT(NMC_SHORT_ROOM) | BIT(NMC_BAD_RECORD));
     record_after("byte", net, number);
     room_after("byte", &room, number, written);
     give_back(&room);
@@ -164,16 +168,18 @@ static void call_byte(struct lent *net, uint8_t byte)
 
 static void call_samples(struct lent *net)
 {
-    uint32_t numbers = BIT(NMC_DONE) | BIT(NMC_BAD_PLACE) | BIT(NMC_BAD_FIELD) | BIT(NMC_BAD_RECORD);
+    uint32_t numbers =
+        BIT(NMC_DONE) | BIT(NMC_BAD_PLACE) | BIT(NMC_BAD_FIELD) | BIT(NMC_BAD_RECORD);
     uint32_t place = PICK(0, 1, below(34), below(34), 0x80000000u, 0xFFFFFFFFu);
+    uint32_t count = (uint32_t)throw_dice();
+    uint32_t power = PICK(0, 1, 1, 2, 3, 0xFFFFFFFFu);
+    uint32_t inputs = PICK(0, below(4096), 4095, 4096, 0xFFFFFFFFu);
     remember(net);
-    uint32_t number = nmc_servo_sample(net->bytes, net->len, place, (uint32_t)throw_dice(),
-                                       PICK(0, 1, 1, 2, 3, 0xFFFFFFFFu), (uint8_t)throw_dice());
+    uint32_t number = nmc_servo_sample(net->bytes, net->len, place, count, power, 0x5A);
     documented("servo sample", number, numbers);
     record_after("servo sample", net, number);
     remember(net);
-    number = nmc_io_sample(net->bytes, net->len, place, PICK(0, below(4096), 4095, 4096, 0xFFFFFFFFu), 1, 2, 3,
-                           (uint32_t)throw_dice());
+    number = nmc_io_sample(net->bytes, net->len, place, inputs, 1, 2, 3, count);
     documented("I/O sample", number, numbers);
     record_after("I/O sample", net, number);
 }
@@ -191,7 +197,8 @@ static void call_outputs(struct lent *net)
     struct lent outputs = lend(NMC_OUTPUTS_LEN);
     remember(net);
     remember(&outputs);
-    uint32_t number = nmc_outputs(net->bytes, net->len, PICK(0, 1, below(34), 0xFFFFFFFFu), outputs.bytes);
+    uint32_t place = PICK(0, 1, below(34), 0xFFFFFFFFu);
+    uint32_t number = nmc_outputs(net->bytes, net->len, place, outputs.bytes);
     documented("outputs", number, BIT(NMC_DONE) | BIT(NMC_BAD_PLACE) | BIT(NMC_BAD_RECORD));
     if (!unchanged_from(net, 0))
         surprise("outputs", "the record changed", number);
@@ -208,14 +215,15 @@ static void call_setup(struct lent *net)
     remember(net);
     remember(&types);
     uint32_t number = nmc_setup(net->bytes, net->len, types.bytes, types.len);
-    documented("setup", number, BIT(NMC_DONE) | BIT(NMC_BAD_CHAIN) | BIT(NMC_BAD_TYPE) | BIT(NMC_BAD_RECORD));
+    documented("setup", number,
+               BIT(NMC_DONE) | BIT(NMC_BAD_CHAIN) | BIT(NMC_BAD_TYPE) | BIT(NMC_BAD_RECORD));
     record_after("setup", net, number);
     if (!unchanged_from(&types, 0))
         surprise("setup", "the types changed", number);
     give_back(&types);
 }
 
-/* A frame that the first module may hear, or any bytes; those of a record too short to have a module are as good. */
+/* A frame that the first module may hear, if the record is long enough to have one. */
 static void call_frame(struct lent *net)
 {
     uint8_t frame[NMC_FRAME_LEN], data[15];
@@ -223,7 +231,8 @@ static void call_frame(struct lent *net)
     uint32_t address = net->len > station ? net->bytes[station] : below(256);
     any_bytes(frame, sizeof frame);
     any_bytes(data, sizeof data);
-    nmc_write_frame(address, below(16), data, PICK(0, 0, 1, 1, 2, 4, 5, 13, 15), frame, sizeof frame, &frame_len);
+    uint32_t code = below(16), data_len = PICK(0, 0, 1, 1, 2, 4, 5, 13, 15);
+    nmc_write_frame(address, code, data, data_len, frame, sizeof frame, &frame_len);
     for (size_t i = 0; i < frame_len; i++)
         call_byte(net, below(40) ? frame[i] : (uint8_t)throw_dice());
 }
@@ -250,8 +259,10 @@ static void call_writer(void)
     size_t written = 77;
     remember(&data);
     remember(&room);
-    uint32_t number = nmc_write_frame(PICK(0, below(256), 255, 256, 0xFFFFFFFFu), PICK(0, below(16), 15, 16, 0xFFFFFFFFu),
-                                      data.bytes, data.len, room.bytes, room.len, &written);
+    uint32_t address = PICK(0, below(256), 255, 256, 0xFFFFFFFFu);
+    uint32_t code = PICK(0, below(16), 15, 16, 0xFFFFFFFFu);
+    uint32_t number =
+        nmc_write_frame(address, code, data.bytes, data.len, room.bytes, room.len, &written);
     documented("writer", number, BIT(NMC_DONE) | BIT(NMC_BAD_FRAME) | BIT(NMC_SHORT_ROOM));
     room_after("writer", &room, number, written);
     if (number == NMC_DONE && written != data.len + 4)
@@ -271,8 +282,9 @@ static void call_reader(void)
     if (reply.len > 0 && below(2))
         reply.bytes[reply.len - 1] = sum;
     remember(&reply);
-    uint32_t number = nmc_read_status(PICK(0, 2, 2, 1, 0xFFFFFFFFu), (uint8_t)PICK(0, 1, 2, 0xFF, below(256)),
-                                      reply.bytes, reply.len, reading.bytes);
+    uint32_t type = PICK(0, 2, 2, 1, 0xFFFFFFFFu);
+    uint8_t items = (uint8_t)PICK(0, 1, 2, 0xFF, below(256));
+    uint32_t number = nmc_read_status(type, items, reply.bytes, reply.len, reading.bytes);
     documented("status reader", number,
                BIT(NMC_DONE) | BIT(NMC_BAD_TYPE) | BIT(NMC_BAD_LENGTH) | BIT(NMC_BAD_SUM));
     for (size_t i = 0; refused(number) && i < reading.len; i++)
@@ -339,7 +351,7 @@ static void range_io(uint8_t *slot)
         slot[high_bytes[i]] &= 0x0F;
 }
 
-/* Random bytes in which every field is in its range; only what fields ask of each other is left to the dice. */
+/* Random bytes with every field in its range; what fields ask of each other is left to the dice. */
 static void range_record(struct lent *net)
 {
     uint8_t *bytes = net->bytes;
@@ -372,8 +384,9 @@ static void reach_record(struct lent *net)
         size_t place = below((uint32_t)chain);
         any_bytes(data, sizeof data);
         data[0] = (uint8_t)PICK(data[0], place + 1, 0x97, 0x36, 0xC8, 0x11, 0x05);
-        nmc_write_frame(PICK(0, 0, 0xFF, below(6)), PICK(1, 1, 4, 5, 6, 7, 11, below(16)), data, below(16), frame,
-                        sizeof frame, &frame_len);
+        uint32_t address = PICK(0, 0, 0xFF, below(6));
+        uint32_t code = PICK(1, 1, 4, 5, 6, 7, 11, below(16));
+        nmc_write_frame(address, code, data, below(16), frame, sizeof frame, &frame_len);
         for (size_t i = 0; i < frame_len; i++)
             nmc_byte(net->bytes, net->len, 0, frame[i], room, sizeof room, &written);
         nmc_servo_sample(net->bytes, net->len, (uint32_t)place, below(100), 1, 0);
@@ -383,8 +396,10 @@ static void reach_record(struct lent *net)
 
 static void change_some(struct lent *net)
 {
-    for (uint32_t times = 1 + below(3); times > 0; times--)
-        net->bytes[below(2) ? below(FIRST_SLOT + SLOT) : below(NMC_NET_LEN)] = (uint8_t)PICK(0, 1, 2, 255, below(256));
+    for (uint32_t times = 1 + below(3); times > 0; times--) {
+        uint32_t at = below(below(2) ? FIRST_SLOT + SLOT : NMC_NET_LEN);
+        net->bytes[at] = (uint8_t)PICK(0, 1, 2, 255, below(256));
+    }
 }
 
 static void one_round(void)

@@ -9,7 +9,7 @@ use crate::branches;
 use crate::calls::*;
 use crate::dice::Dice;
 use crate::model::{frame_bytes, item_sizes, sum, Mode, Module, Network, Servo};
-use crate::record::{decode, Model, COUNT};
+use crate::record::{self, decode, slot, Model, COUNT};
 use crate::seen::Seen;
 use crate::slips::Slip;
 use crate::steering::{self, any_record, damaged_record, data_byte, frame, group, individual};
@@ -264,9 +264,9 @@ impl Session<'_> {
     }
 
     fn sample_at(&mut self, place: usize) -> Result<(), String> {
-        let network = self.network();
+        let module = self.module(place);
         let dice = &mut self.dice;
-        if let Module::Servo(servo) = &network.modules[place] {
+        if let Module::Servo(servo) = &module {
             let (raw, power) = steering::servo_sample(dice, servo);
             let ad = dice.byte();
             self.pair.servo_sample(place as u32, raw, power, ad)?;
@@ -283,8 +283,12 @@ impl Session<'_> {
         decode(&self.pair.net, Slip::None).expect("a taken record")
     }
 
+    fn module(&self, place: usize) -> Module {
+        record::module(&self.pair.net[slot(place)..slot(place + 1)], Slip::None).expect("a taken record")
+    }
+
     fn servo(&self, place: usize) -> Servo {
-        let Module::Servo(servo) = self.network().modules.swap_remove(place) else { unreachable!("types stay") };
+        let Module::Servo(servo) = self.module(place) else { unreachable!("types stay") };
         *servo
     }
 
@@ -520,11 +524,12 @@ impl Session<'_> {
             10..=69 => self.send_frame(),
             70..=77 => self.sample(),
             78..=84 => self.pair.tick().map(drop),
-            85..=87 => {
+            85 | 86 => {
                 let byte = data_byte(&mut self.dice);
                 let mark = self.dice.below(2) as u32;
                 self.line(mark, byte)
             }
+            87 => self.set_up(),
             88 => self.send(&[0; 16], None),
             89..=91 => self.refused(),
             92..=97 => self.damaged(),
@@ -558,6 +563,11 @@ impl Session<'_> {
             return Ok(());
         }
         self.pair.net = self.dice.bytes(NET_LEN);
+        self.set_up()
+    }
+
+    /// A chain at power-up, mostly addressed, whatever the record holds; setups that are refused before it.
+    fn set_up(&mut self) -> Result<(), String> {
         let bad_chain = self.dice.pick(&[0, 33, 34, 256]);
         if self.dice.percent(5) {
             let types = self.dice.bytes(bad_chain);
@@ -569,6 +579,7 @@ impl Session<'_> {
             self.pair.net.resize(length, 0);
             self.pair.setup(&types)?;
             self.pair.net.resize(NET_LEN, 0);
+            self.pair.remember(Event::Record);
         }
         if self.dice.percent(10) {
             let at = self.dice.below(types.len());

@@ -378,7 +378,8 @@ pub fn put_module(slot: &mut [u8], module: &Module) {
     }
 }
 
-fn module(slot: &[u8], slip: Slip) -> Option<Module> {
+/// The module that a slot tells of, or nothing where it breaks the list.
+pub fn module(slot: &[u8], slip: Slip) -> Option<Module> {
     match slot[0] {
         Servo::TYPE => servo(slot, slip).map(Module::Servo),
         Io::TYPE => io(slot, slip).map(Module::Io),

@@ -95,10 +95,10 @@ pub fn frame(dice: &mut Dice, network: &Network) -> (u8, u8, Vec<u8>) {
 /// A velocity or an acceleration: mostly one that a move of some ticks shows, and the edges of its range.
 fn rate(dice: &mut Dice) -> u32 {
     match dice.below(24) {
-        0 => 0,
-        1 => 1,
-        2 => SPEED_MOST,
-        3..=8 => dice.below(300) as u32,
+        0 | 1 => 0,
+        2 => 1,
+        3 => SPEED_MOST,
+        4..=8 => dice.below(300) as u32,
         9..=14 => dice.below(4 << 16) as u32,
         _ => (1 + dice.below(24) as u32) << 14,
     }
@@ -142,7 +142,7 @@ fn control(dice: &mut Dice, servo: &Servo) -> u8 {
         0..=3 => TRAPEZOID,
         4..=6 => 0x36,
         7 => 0x11,
-        8 => 0x32,
+        8 => dice.pick(&[0x32, 0x16]),
         9 | 10 => 0x08,
         _ => dice.byte(),
     };
@@ -393,10 +393,10 @@ fn any_trapezoid(dice: &mut Dice, servo: &mut Servo) {
     let size = (a * dice.below(2000) as i64 + dice.below(a as usize) as i64).min(i64::from(SPEED_MOST));
     let size = if dice.percent(30) { size.min(2 * a) } else { size };
     servo.top = (size as u32 + dice.below(3) as u32 * rate(dice)).min(SPEED_MOST);
-    let spare = match dice.below(5) {
+    let spare = match dice.below(6) {
         0 | 1 => 0,
         2 => 1,
-        3 => dice.below(2 * a as usize) as i64,
+        3 | 4 => dice.below(2 * a as usize) as i64,
         _ => dice.below(1 << 40) as i64,
     };
     let left = stopping_sum(size - a, a) + spare;

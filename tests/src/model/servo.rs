@@ -329,6 +329,7 @@ impl Servo {
         all_hold(&[&any[..], &own].concat())
     }
 
+    /// What a start of velocity mode needs besides.
     fn velocity_needs(&self, branch: impl Fn(Branch, Branch) -> Branch, slip: Slip) -> Vec<(bool, Branch)> {
         let rest = self.speed == 0 || slip != Slip::VelocityNeedsRest;
         vec![
@@ -340,6 +341,7 @@ impl Servo {
         ]
     }
 
+    /// What a start of a trapezoid needs besides.
     fn trapezoid_needs(&self, from: i64, branch: impl Fn(Branch, Branch) -> Branch, slip: Slip) -> Vec<(bool, Branch)> {
         let load = &self.load;
         let judged = if slip == Slip::HalfTurnFromOldSetpoint { self.setpoint } else { from };
@@ -407,6 +409,7 @@ impl Servo {
         }
     }
 
+    /// What every profile begins with.
     fn start_profile(&mut self, mode: Mode, from: i64) {
         either(self.servo_off(), Branch::FromServoOff, Branch::FromServoOn);
         self.mode = mode;
