@@ -1,75 +1,18 @@
 //! Histories that the library and the model go through side by side. After every call all that was lent is compared,
-//! byte for byte: the number, the record, the room with what lies behind the replies, and the length.
+//! byte for byte: the number, the record, the room with what lies behind the replies, and the length; then whether the
+//! record still passes the list, and what the board is to drive.
 
 use std::collections::VecDeque;
 use std::fmt;
 
+use crate::branches;
 use crate::calls::*;
 use crate::dice::Dice;
-use crate::model::{frame_bytes, item_sizes, sum, Mode, Module, Servo, Touch};
-use crate::record::{at, decode, slot, Model, COUNT};
+use crate::model::{frame_bytes, item_sizes, sum, Mode, Module, Network, Servo};
+use crate::record::{self, decode, slot, Model, COUNT};
+use crate::seen::Seen;
 use crate::slips::Slip;
 use crate::steering::{self, any_record, damaged_record, data_byte, frame, group, individual};
-
-/// What the histories have reached, so that a test can tell that its dice still fall everywhere.
-#[derive(Debug)]
-pub struct Seen {
-    /// Frames that ended, by the length of the chain.
-    pub chains: [usize; MOST_MODULES + 1],
-    /// Modules touched, by code and cause: servos, then I/O modules.
-    pub met: [[[usize; 4]; 16]; 2],
-    /// Starts of servos that were executed, by the mode that they led to.
-    pub starts: [usize; 5],
-    /// Start frames that were not now for one reason alone.
-    pub not_now: [usize; steering::REASONS],
-    pub servo: ServoSeen,
-    /// Answers by their number.
-    pub numbers: [usize; 20],
-    /// Frames by how many modules replied: none, one, more.
-    pub repliers: [usize; 3],
-    pub bytes: usize,
-    pub samples: usize,
-    pub ticks: usize,
-    pub full_rooms: usize,
-    pub damaged_records: usize,
-    pub damaged_records_taken: usize,
-    pub host_calls: usize,
-}
-
-/// What ticks have done to servos that ran.
-#[derive(Debug, Default)]
-pub struct ServoSeen {
-    pub trips: usize,
-    pub power_lost: usize,
-    pub power_high: usize,
-    pub arrived: usize,
-    pub reversed: usize,
-    pub wrapped: usize,
-    pub output_limited: usize,
-    /// Steps of a trapezoid whose speed was neither the highest nor the lowest that it could be.
-    pub between: usize,
-}
-
-impl Seen {
-    fn nothing() -> Seen {
-        Seen {
-            chains: [0; MOST_MODULES + 1],
-            met: [[[0; 4]; 16]; 2],
-            starts: [0; 5],
-            not_now: [0; steering::REASONS],
-            servo: ServoSeen::default(),
-            numbers: [0; 20],
-            repliers: [0; 3],
-            bytes: 0,
-            samples: 0,
-            ticks: 0,
-            full_rooms: 0,
-            damaged_records: 0,
-            damaged_records_taken: 0,
-            host_calls: 0,
-        }
-    }
-}
 
 enum Event {
     Setup(Vec<u8>),
@@ -152,6 +95,23 @@ impl Pair<'_> {
         self.junk[at..at + room_len].to_vec()
     }
 
+    /// What holds after every call: a record that was taken still passes the list, the library takes it too, and the
+    /// board drives the same. Of all places, and the one beyond the chain, or else of one in turn.
+    fn after(&mut self, taken: bool, everywhere: bool) -> Result<Option<Network>, String> {
+        self.turn += 1;
+        let network = decode(&self.net, self.model.slip);
+        if taken && network.is_none() {
+            return self.disagree("the record breaks the list");
+        }
+        let before = self.net.clone();
+        let places = network.as_ref().map_or(1, |network| network.modules.len() as u32 + 1);
+        for place in 0..if everywhere { places } else { 1 } {
+            self.same_outputs(network.as_ref(), (self.turn as u32 + place) % places)?;
+        }
+        self.same_bytes("record after outputs", &self.net, &before)?;
+        Ok(network)
+    }
+
     fn setup(&mut self, types: &[u8]) -> Result<u32, String> {
         self.remember(Event::Setup(types.to_vec()));
         let mut by_model = self.net.clone();
@@ -159,6 +119,7 @@ impl Pair<'_> {
         let model = self.model.setup(&mut by_model, types);
         let number = self.same_number(library, model)?;
         self.same_bytes("record", &self.net, &by_model)?;
+        self.after(number == DONE, true)?;
         Ok(number)
     }
 
@@ -181,72 +142,12 @@ impl Pair<'_> {
         if number == DONE && self.net[COUNT..] != before[COUNT..] {
             return self.disagree("a byte that ended no frame reached beyond the receiver");
         }
-        if number == UNDAMAGED || number == DAMAGED {
-            self.note_frame(&before, written);
-            if decode(&self.net, Slip::None).is_none() {
-                return self.disagree("a frame broke the list");
-            }
-            self.outputs_everywhere()?;
+        let ended = number == UNDAMAGED || number == DAMAGED;
+        let after = self.after(number != BAD_RECORD, ended)?;
+        if let (true, Some(before), Some(after)) = (ended, decode(&before, self.model.slip), after) {
+            self.seen.frame(&before, &after, written);
         }
         Ok(number)
-    }
-
-    fn note_frame(&mut self, before: &[u8], written: usize) {
-        let network = decode(before, Slip::None).expect("a taken record");
-        let (address, code) = (network.receiver.address, network.receiver.command & 15);
-        let mut repliers = 0;
-        for (place, module) in network.modules.iter().enumerate() {
-            if let Some(touch) = network.touch(place, address) {
-                let cause = usize::from(self.net[slot(place) + 5]);
-                let is_io = matches!(module, Module::Io(_));
-                self.seen.met[usize::from(is_io)][usize::from(code)][cause] += 1;
-                if let Module::Servo(servo) = module {
-                    self.note_start(servo, place, code, cause);
-                }
-                let speaks = touch == Touch::Individually || module.station().leader;
-                repliers += usize::from(speaks && !(code == 15 && cause == 0));
-            }
-        }
-        self.seen.chains[network.modules.len()] += 1;
-        self.seen.repliers[repliers.min(2)] += 1;
-        self.seen.full_rooms += usize::from(written == ROOM_LEN);
-    }
-
-    fn note_start(&mut self, before: &Servo, place: usize, code: u8, cause: usize) {
-        if code == 5 && cause == 0 {
-            self.seen.starts[usize::from(self.net[slot(place) + at::MODE])] += 1;
-        } else if code == 5 && cause == 3 {
-            if let [reason] = steering::why_not_now(before)[..] {
-                self.seen.not_now[reason] += 1;
-            }
-        }
-    }
-
-    /// What a tick has done to the servos, told from the records before and after it.
-    fn note_tick(&mut self, before: &[u8]) -> Result<(), String> {
-        let Some(before) = decode(before, Slip::None) else { return Ok(()) };
-        let Some(after) = decode(&self.net, Slip::None) else { return self.disagree("a tick broke the list") };
-        let seen = &mut self.seen.servo;
-        for pair in before.modules.iter().zip(&after.modules) {
-            let (Module::Servo(before), Module::Servo(after)) = pair else { continue };
-            if before.mode == Mode::Off {
-                continue;
-            }
-            let count = |happened: bool| usize::from(happened);
-            seen.trips += count(after.error);
-            seen.power_lost += count(after.latched.power == 0);
-            seen.power_high += count(after.latched.power == 2);
-            seen.reversed += count(before.speed.signum() * after.speed.signum() < 0);
-            seen.wrapped += count((before.setpoint - after.setpoint).abs() > 1 << 47);
-            seen.output_limited += count(after.output != 0 && after.output.abs() == i64::from(after.gains.ol));
-            if after.mode == Mode::Trapezoid {
-                seen.arrived += count(before.distance() != 0 && after.distance() == 0);
-                let a = i64::from(after.running_acceleration);
-                let (v, w) = (before.speed.abs(), after.speed.abs());
-                seen.between += count(w > (v - a).max(0) && w < (v + a).min(i64::from(after.top)));
-            }
-        }
-        Ok(())
     }
 
     fn servo_sample(&mut self, place: u32, raw: u32, power: u32, ad: u8) -> Result<u32, String> {
@@ -257,6 +158,7 @@ impl Pair<'_> {
         let model = self.model.servo_sample(&mut by_model, place, raw, power, ad);
         let number = self.same_number(library, model)?;
         self.same_bytes("record", &self.net, &by_model)?;
+        self.after(number != BAD_RECORD, false)?;
         Ok(number)
     }
 
@@ -268,12 +170,12 @@ impl Pair<'_> {
         let model = self.model.io_sample(&mut by_model, place, inputs, ad, counter);
         let number = self.same_number(library, model)?;
         self.same_bytes("record", &self.net, &by_model)?;
+        self.after(number != BAD_RECORD, false)?;
         Ok(number)
     }
 
     fn tick(&mut self) -> Result<u32, String> {
         self.remember(Event::Tick);
-        self.turn += 1;
         self.seen.ticks += 1;
         let before = self.net.clone();
         let mut by_model = before.clone();
@@ -281,30 +183,29 @@ impl Pair<'_> {
         let model = self.model.tick(&mut by_model);
         let number = self.same_number(library, model)?;
         self.same_bytes("record", &self.net, &by_model)?;
-        self.note_tick(&before)?;
-        self.outputs_everywhere()?;
+        let after = self.after(number != BAD_RECORD, true)?;
+        if let (Some(before), Some(after)) = (decode(&before, self.model.slip), after) {
+            self.seen.tick(&before, &after);
+        }
         Ok(number)
     }
 
     fn outputs(&mut self, place: u32) -> Result<u32, String> {
-        let mut outputs = [0xC3; 8];
-        let mut model_outputs = outputs;
-        let library = self.library.outputs(&self.net, place, &mut outputs);
-        let model = self.model.outputs(&self.net, place, &mut model_outputs);
-        let number = self.same_number(library, model)?;
-        self.same_bytes(&format!("outputs of place {place}"), &outputs, &model_outputs)?;
+        let network = decode(&self.net, self.model.slip);
+        let before = self.net.clone();
+        let number = self.same_outputs(network.as_ref(), place)?;
+        self.same_bytes("record after outputs", &self.net, &before)?;
         Ok(number)
     }
 
-    /// Every place, and the one beyond the chain; of a long chain some places in turn.
-    fn outputs_everywhere(&mut self) -> Result<(), String> {
-        if self.net.len() == NET_LEN {
-            let places = u32::from(self.net[COUNT]) + 1;
-            for place in 0..places.min(6) {
-                self.outputs((self.turn as u32 + place) % places)?;
-            }
-        }
-        Ok(())
+    fn same_outputs(&mut self, network: Option<&Network>, place: u32) -> Result<u32, String> {
+        let mut outputs = [0xC3; 8];
+        let mut model_outputs = outputs;
+        let library = self.library.outputs(&self.net, place, &mut outputs);
+        let model = self.model.outputs_of(network, place, &mut model_outputs);
+        let number = self.same_number(library, model)?;
+        self.same_bytes("outputs", &outputs, &model_outputs).map_err(|told| format!("place {place}: {told}"))?;
+        Ok(number)
     }
 
     fn write_frame(&mut self, address: u32, code: u32, data: &[u8], room_len: usize) -> Result<(), String> {
@@ -363,9 +264,9 @@ impl Session<'_> {
     }
 
     fn sample_at(&mut self, place: usize) -> Result<(), String> {
-        let network = decode(&self.pair.net, Slip::None).expect("a taken record");
+        let module = self.module(place);
         let dice = &mut self.dice;
-        if let Module::Servo(servo) = &network.modules[place] {
+        if let Module::Servo(servo) = &module {
             let (raw, power) = steering::servo_sample(dice, servo);
             let ad = dice.byte();
             self.pair.servo_sample(place as u32, raw, power, ad)?;
@@ -378,9 +279,22 @@ impl Session<'_> {
         Ok(())
     }
 
-    /// Puts a servo to work: fit for a start, then loads and starts, then ticks with the motor following.
+    fn network(&self) -> Network {
+        decode(&self.pair.net, Slip::None).expect("a taken record")
+    }
+
+    fn module(&self, place: usize) -> Module {
+        record::module(&self.pair.net[slot(place)..slot(place + 1)], Slip::None).expect("a taken record")
+    }
+
+    fn servo(&self, place: usize) -> Servo {
+        let Module::Servo(servo) = self.module(place) else { unreachable!("types stay") };
+        *servo
+    }
+
+    /// Puts a servo to work: loads, starts and stops, each with ticks in which the motor follows.
     fn drive(&mut self) -> Result<(), String> {
-        let network = decode(&self.pair.net, Slip::None).expect("a taken record");
+        let network = self.network();
         let servos: Vec<usize> =
             (0..network.modules.len()).filter(|place| matches!(network.modules[*place], Module::Servo(_))).collect();
         if servos.is_empty() {
@@ -391,22 +305,9 @@ impl Session<'_> {
         }
         let place = self.dice.pick(&servos);
         for step in 0..2 + self.dice.below(4) {
-            let network = decode(&self.pair.net, Slip::None).expect("a taken record");
-            let Module::Servo(servo) = &network.modules[place] else { unreachable!("types stay") };
-            let address = servo.station.individual;
-            if servo.latched.power != 1 && self.dice.percent(90) {
-                let (raw, ad) = (steering::following(&mut self.dice, servo), self.dice.byte());
-                self.pair.servo_sample(place as u32, raw, 1, ad)?;
-                self.pair.tick()?;
-            }
-            if step == 0 && servo.gains.el < 1000 && self.dice.percent(80) {
-                let gains = steering::gains(&mut self.dice);
-                self.send(&frame_bytes(address, 6, &gains), None)?;
-            }
-            if servo.error && self.dice.percent(90) {
-                self.send(&frame_bytes(address, 11, &[]), None)?;
-            }
-            let (code, data) = steering::servo_command(&mut self.dice, servo);
+            self.make_fit(place, step == 0)?;
+            let (code, data) = self.next_command(place)?;
+            let address = self.servo(place).station.individual;
             self.send(&frame_bytes(address, code, &data), None)?;
             if code == 4 && self.dice.percent(70) {
                 self.send(&frame_bytes(address, 5, &[]), None)?;
@@ -416,6 +317,54 @@ impl Session<'_> {
                 self.sample_at(place)?;
                 self.pair.tick()?;
             }
+        }
+        Ok(())
+    }
+
+    /// Mostly brings power, gains and a clear error bit to a servo.
+    fn make_fit(&mut self, place: usize, gains_too: bool) -> Result<(), String> {
+        let servo = self.servo(place);
+        let address = servo.station.individual;
+        if servo.latched.power != 1 && self.dice.percent(90) {
+            let (raw, ad) = (steering::following(&mut self.dice, &servo), self.dice.byte());
+            self.pair.servo_sample(place as u32, raw, 1, ad)?;
+            self.pair.tick()?;
+        }
+        if gains_too && servo.gains.el < 1000 && self.dice.percent(80) {
+            let gains = steering::gains(&mut self.dice);
+            self.send(&frame_bytes(address, 6, &gains), None)?;
+        }
+        if servo.error && self.dice.percent(90) {
+            self.send(&frame_bytes(address, 11, &[]), None)?;
+        }
+        Ok(())
+    }
+
+    /// Any command, or a trapezoid for a servo that has come to rest without going off.
+    fn next_command(&mut self, place: usize) -> Result<(u8, Vec<u8>), String> {
+        if !self.servo(place).servo_off() && self.dice.percent(30) {
+            self.settle(place)?;
+            let servo = self.servo(place);
+            return Ok((4, steering::load(&mut self.dice, &servo, steering::TRAPEZOID)));
+        }
+        let servo = self.servo(place);
+        Ok(steering::servo_command(&mut self.dice, &servo))
+    }
+
+    /// Lets a servo come to rest, in velocity mode by a smooth stop; the motor follows exactly.
+    fn settle(&mut self, place: usize) -> Result<(), String> {
+        let servo = self.servo(place);
+        if servo.mode == Mode::Velocity && servo.goal_speed != 0 {
+            self.send(&frame_bytes(servo.station.individual, 7, &[9]), None)?;
+        }
+        for _ in 0..40 {
+            let servo = self.servo(place);
+            if servo.speed == 0 && (servo.mode != Mode::Trapezoid || servo.distance() == 0) {
+                break;
+            }
+            let raw = steering::ahead(&servo).wrapping_add(servo.offset);
+            self.pair.servo_sample(place as u32, raw, 1, 0)?;
+            self.pair.tick()?;
         }
         Ok(())
     }
@@ -434,7 +383,7 @@ impl Session<'_> {
     }
 
     fn send_frame(&mut self) -> Result<(), String> {
-        let network = decode(&self.pair.net, Slip::None).expect("a taken record");
+        let network = self.network();
         if network.receiver.fill != 0 && self.dice.percent(70) {
             self.send(&[0; 16], None)?;
         }
@@ -545,17 +494,42 @@ impl Session<'_> {
         self.pair.read_status(module_type, items, &reply)
     }
 
+    fn steered(&mut self) -> Result<(), String> {
+        let turns = 10 + self.dice.below(40);
+        self.begin()?;
+        (0..turns).try_for_each(|_| self.turn())
+    }
+
+    /// A chain at power-up that hears any bytes at all.
+    fn unsteered(&mut self) -> Result<(), String> {
+        self.pair.net = self.dice.bytes(NET_LEN);
+        let types = steering::types(&mut self.dice);
+        self.pair.setup(&types)?;
+        for _ in 0..200 {
+            match self.dice.below(10) {
+                0 => self.sample()?,
+                1 => drop(self.pair.tick()?),
+                _ => {
+                    let (mark, byte) = (u32::from(self.dice.percent(2)), self.dice.byte());
+                    self.line(mark, byte)?;
+                }
+            }
+        }
+        Ok(())
+    }
+
     fn turn(&mut self) -> Result<(), String> {
         match self.dice.below(100) {
             0..=9 => self.drive(),
             10..=69 => self.send_frame(),
             70..=77 => self.sample(),
             78..=84 => self.pair.tick().map(drop),
-            85..=87 => {
+            85 | 86 => {
                 let byte = data_byte(&mut self.dice);
                 let mark = self.dice.below(2) as u32;
                 self.line(mark, byte)
             }
+            87 => self.set_up(),
             88 => self.send(&[0; 16], None),
             89..=91 => self.refused(),
             92..=97 => self.damaged(),
@@ -589,12 +563,24 @@ impl Session<'_> {
             return Ok(());
         }
         self.pair.net = self.dice.bytes(NET_LEN);
+        self.set_up()
+    }
+
+    /// A chain at power-up, mostly addressed, whatever the record holds; setups that are refused before it.
+    fn set_up(&mut self) -> Result<(), String> {
         let bad_chain = self.dice.pick(&[0, 33, 34, 256]);
         if self.dice.percent(5) {
             let types = self.dice.bytes(bad_chain);
             self.pair.setup(&types)?;
         }
         let mut types = steering::types(&mut self.dice);
+        if self.dice.percent(5) {
+            let length = self.dice.pick(&[0, 1, NET_LEN - 1, NET_LEN + 1]);
+            self.pair.net.resize(length, 0);
+            self.pair.setup(&types)?;
+            self.pair.net.resize(NET_LEN, 0);
+            self.pair.remember(Event::Record);
+        }
         if self.dice.percent(10) {
             let at = self.dice.below(types.len());
             let known = types[at];
@@ -612,11 +598,20 @@ impl Session<'_> {
 
 /// That many sessions from one seed; the first disagreement ends them.
 pub fn run(library: &dyn Calls, slip: Slip, seed: u64, sessions: usize) -> Result<Seen, String> {
-    let mut seen = Seen::nothing();
+    run_sessions(library, slip, seed, sessions, true)
+}
+
+/// The same with nothing but dice: what steering is worth.
+pub fn run_unsteered(library: &dyn Calls, seed: u64, sessions: usize) -> Result<Seen, String> {
+    run_sessions(library, Slip::None, seed, sessions, false)
+}
+
+fn run_sessions(library: &dyn Calls, slip: Slip, seed: u64, sessions: usize, steered: bool) -> Result<Seen, String> {
+    branches::forget();
+    let mut seen = Seen::default();
     let junk = Dice::new(seed).bytes(8 * ROOM_LEN);
     for number in 0..sessions {
-        let mut dice = Dice::new(seed.wrapping_add(number as u64).wrapping_mul(0x2545_F491_4F6C_DD1D));
-        let turns = 10 + dice.below(40);
+        let dice = Dice::new(seed.wrapping_add(number as u64).wrapping_mul(0x2545_F491_4F6C_DD1D));
         let pair = Pair {
             library,
             model: Model { slip },
@@ -627,11 +622,8 @@ pub fn run(library: &dyn Calls, slip: Slip, seed: u64, sessions: usize) -> Resul
             seen: &mut seen,
         };
         let mut session = Session { pair, dice };
-        let all = |session: &mut Session| {
-            session.begin()?;
-            (0..turns).try_for_each(|_| session.turn())
-        };
-        all(&mut session).map_err(|told| format!("session {number}: {told}"))?;
+        let outcome = if steered { session.steered() } else { session.unsteered() };
+        outcome.map_err(|told| format!("session {number}: {told}"))?;
     }
     Ok(seen)
 }

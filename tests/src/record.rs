@@ -1,10 +1,11 @@
 //! The lent record as docs/RECORD.md lays it out, and the calls that the model makes of it: every refusal in the
 //! table's order, then the network read from the bytes, moved on, and put back.
 
+use crate::branches::{all_hold, either, reach, Branch};
 use crate::calls::*;
 use crate::model::{
-    self, distance, stopping_sum, Device, Gains, Io, IoSample, Load, Mode, Module, Network, Receiver, Servo,
-    ServoSample, Station, Way, SPEED_MOST,
+    self, stopping_sum, Device, Gains, Io, IoSample, Load, Mode, Module, Network, Receiver, Servo, ServoSample,
+    Station, Way, SPEED_MOST,
 };
 use crate::slips::Slip;
 
@@ -22,6 +23,8 @@ pub const TWELVE_BITS: [usize; 6] = [8, 17, 26, 28, 32, 37];
 
 /// Where in a slot the fields of a servo begin.
 pub mod at {
+    use crate::branches::Branch;
+
     pub const WAITING: usize = 8;
     pub const LATCHED: usize = 14;
     pub const OFFSET: usize = 20;
@@ -59,18 +62,18 @@ pub mod at {
     pub const ERROR: usize = 104;
     pub const AMPLIFIER: usize = 105;
 
-    /// Bytes that are 0 or 1.
-    pub const FLAGS: [usize; 10] = [
-        3,
-        4,
-        VELOCITY_LOADED,
-        ACCELERATION_LOADED,
-        LOAD_WAITS,
-        POSITION_CARRIED,
-        PWM_CARRIED,
-        REVERSE,
-        ERROR,
-        AMPLIFIER,
+    /// Bytes that are 0 or 1, each with the line that asks for it.
+    pub const FLAGS: [(usize, Branch); 10] = [
+        (3, Branch::ListLeader),
+        (4, Branch::ListLow),
+        (VELOCITY_LOADED, Branch::ListPaced),
+        (ACCELERATION_LOADED, Branch::ListRamped),
+        (LOAD_WAITS, Branch::ListWaits),
+        (POSITION_CARRIED, Branch::ListPlaced),
+        (PWM_CARRIED, Branch::ListPulsed),
+        (REVERSE, Branch::ListReverse),
+        (ERROR, Branch::ListError),
+        (AMPLIFIER, Branch::ListAmplifier),
     ];
 }
 
@@ -139,11 +142,11 @@ fn put_station(slot: &mut [u8], station: &Station) {
 fn receiver(net: &[u8], slip: Slip) -> Option<Receiver> {
     let fill = net[FILL];
     if fill == 0 {
-        let clear = net[..=MARK].iter().all(|byte| *byte == 0);
-        return (clear || slip == Slip::RecordIdleUntested).then(Receiver::default);
+        let clear = net[..=MARK].iter().all(|byte| *byte == 0) || slip == Slip::RecordIdleUntested;
+        return all_hold(&[(clear, Branch::ListIdle)]).then(Receiver::default);
     }
     let whole = 3 + (net[16] >> 4);
-    (fill <= whole && net[MARK] <= 1).then(|| Receiver {
+    all_hold(&[(fill <= whole, Branch::ListFill), (net[MARK] <= 1, Branch::ListMark)]).then(|| Receiver {
         data: net[..15].try_into().expect("fifteen bytes"),
         address: net[15],
         command: net[16],
@@ -153,10 +156,13 @@ fn receiver(net: &[u8], slip: Slip) -> Option<Receiver> {
 }
 
 fn io(slot: &[u8], slip: Slip) -> Option<Box<Io>> {
-    let cause_known = slot[5] <= 3 || slip == Slip::RecordCauseUntested;
-    let flags = slot[3] <= 1 && slot[4] <= 1;
-    let bits = TWELVE_BITS.iter().all(|at| two(slot, *at) < 4096);
-    if !(cause_known && flags && bits) {
+    let holds = all_hold(&[
+        (slot[3] <= 1, Branch::ListIoLeader),
+        (slot[4] <= 1, Branch::ListIoLow),
+        (slot[5] <= 3 || slip == Slip::RecordCauseUntested, Branch::ListIoCause),
+        (TWELVE_BITS.iter().all(|at| two(slot, *at) < 4096), Branch::ListIoBits),
+    ]);
+    if !holds {
         return None;
     }
     Some(Box::new(Io {
@@ -190,45 +196,98 @@ fn put_io(bytes: &mut [u8], io: &Io) {
 
 /// Ranges and flags of a servo's slot: what can be told field by field.
 fn servo_in_range(slot: &[u8], slip: Slip) -> bool {
-    let cause = slot[5] <= 3 || slip == Slip::RecordCauseUntested;
-    let flags = at::FLAGS.iter().all(|at| slot[*at] <= 1);
-    let powers = slot[at::WAITING + 4] <= 2 && slot[at::LATCHED + 4] <= 2;
+    let flags: [(bool, Branch); 10] = at::FLAGS.map(|(at, line)| (slot[at] <= 1, line));
     let gains = [at::KP, at::KD, at::KI, at::IL].iter().all(|at| two(slot, *at) <= 32_767);
-    let limit = two(slot, at::EL) <= 16_383;
-    let loads = four(slot, at::VELOCITY) <= SPEED_MOST
-        && four(slot, at::ACCELERATION) <= SPEED_MOST
-        && (slot[at::ACCELERATION_LOADED] == 0 || four(slot, at::ACCELERATION) >= 1);
+    let loaded_force = slot[at::ACCELERATION_LOADED] == 0 || four(slot, at::ACCELERATION) >= 1;
     let within = |at: usize, most: i64| signed(slot, at).abs() <= most;
+    let rate = |at: usize| four(slot, at) <= SPEED_MOST;
     let most = i64::from(SPEED_MOST);
-    let speeds = within(at::SPEED, most) && within(at::GOAL_SPEED, most);
-    let profile = four(slot, at::RUNNING_ACCELERATION) <= SPEED_MOST && four(slot, at::TOP) <= SPEED_MOST;
-    let memory = within(at::INTEGRAL, 32_767) && within(at::PREVIOUS_ERROR, 16_383);
-    let driven = within(at::PWM, 255) && within(at::OUTPUT, 255);
-    let enums = slot[at::WAY] <= 2 && slot[at::MODE] <= 4;
-    cause && flags && powers && gains && limit && loads && speeds && profile && memory && driven && enums
+    let numbers = [
+        (slot[5] <= 3 || slip == Slip::RecordCauseUntested, Branch::ListCause),
+        (slot[at::WAITING + 4] <= 2, Branch::ListWaitingPower),
+        (slot[at::LATCHED + 4] <= 2, Branch::ListLatchedPower),
+        (gains && two(slot, at::EL) <= 16_383, Branch::ListGains),
+        (rate(at::VELOCITY), Branch::ListVelocity),
+        (rate(at::ACCELERATION), Branch::ListAcceleration),
+        (loaded_force, Branch::ListLoadedForce),
+        (slot[at::WAY] <= 2, Branch::ListWay),
+        (within(at::SPEED, most), Branch::ListSpeed),
+        (within(at::GOAL_SPEED, most), Branch::ListAim),
+        (rate(at::RUNNING_ACCELERATION), Branch::ListRunningAcceleration),
+        (rate(at::TOP), Branch::ListTop),
+        (within(at::INTEGRAL, 32_767), Branch::ListIntegral),
+        (within(at::PREVIOUS_ERROR, 16_383), Branch::ListPrevious),
+        (slot[at::MODE] <= 4, Branch::ListMode),
+        (within(at::PWM, 255), Branch::ListPulse),
+        (within(at::OUTPUT, 255), Branch::ListOutput),
+    ];
+    let flags_hold = all_hold(&flags);
+    let numbers_hold = all_hold(&numbers);
+    flags_hold && numbers_hold
 }
 
 /// What the mode asks of the other fields.
 fn servo_in_order(servo: &Servo, slip: Slip) -> bool {
-    let memory_clear = servo.integral == 0 && servo.previous_error == 0;
+    let empty = servo.integral == 0 && servo.previous_error == 0;
+    let at_rest = servo.speed == 0;
     let own = match servo.mode {
-        Mode::Off => servo.speed == 0 && memory_clear && (servo.output == 0 || slip == Slip::RecordOutputUntested),
-        Mode::Pwm => servo.speed == 0 && memory_clear,
-        Mode::Holding => servo.speed == 0,
+        Mode::Off => all_hold(&[
+            (at_rest, Branch::ListOffSpeed),
+            (empty, Branch::ListOffEmpty),
+            (servo.output == 0 || slip == Slip::RecordOutputUntested, Branch::ListOffOutput),
+        ]),
+        Mode::Pwm => all_hold(&[(at_rest, Branch::ListPwmSpeed), (empty, Branch::ListPwmEmpty)]),
+        Mode::Holding => all_hold(&[(at_rest, Branch::ListHold)]),
         Mode::Velocity => true,
-        Mode::Trapezoid => {
-            let (a, d) = (i64::from(servo.running_acceleration), distance(servo.goal, servo.setpoint));
-            let straight = servo.speed == 0 || d == 0 || (servo.speed < 0) == (d < 0);
-            let size = servo.speed.abs();
-            let stops = a >= 1 && (stopping_sum(size - a, a) <= d.abs() || slip == Slip::RecordStopUntested);
-            size <= i64::from(servo.top) && straight && stops
-        }
+        Mode::Trapezoid => trapezoid_in_order(servo, slip),
     };
-    let pwm = servo.mode == Mode::Pwm || servo.pwm == 0;
-    let fit = (!servo.error || slip == Slip::RecordRunningUntested) && servo.latched.power != 0;
-    let runs = servo.mode == Mode::Off || fit;
-    let driven = servo.latched.power == 1 || servo.output == 0;
-    own && pwm && runs && driven
+    let off = servo.mode == Mode::Off;
+    let every = all_hold(&[
+        (servo.mode == Mode::Pwm || servo.pwm == 0, Branch::ListUnpulsed),
+        (off || !servo.error || slip == Slip::RecordRunningUntested, Branch::ListClear),
+        (off || servo.latched.power != 0, Branch::ListAlive),
+        (servo.latched.power == 1 || servo.output == 0, Branch::ListPowerless),
+    ]);
+    own && every
+}
+
+fn trapezoid_in_order(servo: &Servo, slip: Slip) -> bool {
+    let (a, d) = (i64::from(servo.running_acceleration), servo.distance());
+    let size = servo.speed.abs();
+    let straight = servo.speed == 0 || d == 0 || (servo.speed < 0) == (d < 0);
+    // without an acceleration there is no sum to look at
+    let stops = a == 0 || stopping_sum(size - a, a) <= d.abs() || slip == Slip::RecordStopUntested;
+    all_hold(&[
+        (a >= 1, Branch::ListTrapezoidForce),
+        (straight, Branch::ListTrapezoidAgainst),
+        (size <= i64::from(servo.top), Branch::ListTrapezoidTop),
+        (stops, Branch::ListTrapezoidStop),
+    ])
+}
+
+fn gains(slot: &[u8]) -> Gains {
+    Gains {
+        kp: two(slot, at::KP),
+        kd: two(slot, at::KD),
+        ki: two(slot, at::KI),
+        il: two(slot, at::IL),
+        ol: slot[at::OL],
+        el: two(slot, at::EL),
+        cl: slot[at::CL],
+        sm: slot[at::SM],
+    }
+}
+
+fn load(slot: &[u8]) -> Load {
+    Load {
+        waits: slot[at::LOAD_WAITS] == 1,
+        way: [Way::Pwm, Way::Velocity, Way::Trapezoid][usize::from(slot[at::WAY])],
+        position_carried: slot[at::POSITION_CARRIED] == 1,
+        position: four(slot, at::LOAD_POSITION),
+        pwm_carried: slot[at::PWM_CARRIED] == 1,
+        pwm: slot[at::LOAD_PWM],
+        reverse: slot[at::REVERSE] == 1,
+    }
 }
 
 fn servo(slot: &[u8], slip: Slip) -> Option<Box<Servo>> {
@@ -242,29 +301,12 @@ fn servo(slot: &[u8], slip: Slip) -> Option<Box<Servo>> {
         latched: servo_sample(slot, at::LATCHED),
         offset: four(slot, at::OFFSET),
         last_position: four(slot, at::LAST_POSITION),
-        gains: Gains {
-            kp: two(slot, at::KP),
-            kd: two(slot, at::KD),
-            ki: two(slot, at::KI),
-            il: two(slot, at::IL),
-            ol: slot[at::OL],
-            el: two(slot, at::EL),
-            cl: slot[at::CL],
-            sm: slot[at::SM],
-        },
+        gains: gains(slot),
         velocity: four(slot, at::VELOCITY),
         acceleration: four(slot, at::ACCELERATION),
         velocity_loaded: flag(at::VELOCITY_LOADED),
         acceleration_loaded: flag(at::ACCELERATION_LOADED),
-        load: Load {
-            waits: flag(at::LOAD_WAITS),
-            way: [Way::Pwm, Way::Velocity, Way::Trapezoid][usize::from(slot[at::WAY])],
-            position_carried: flag(at::POSITION_CARRIED),
-            position: four(slot, at::LOAD_POSITION),
-            pwm_carried: flag(at::PWM_CARRIED),
-            pwm: slot[at::LOAD_PWM],
-            reverse: flag(at::REVERSE),
-        },
+        load: load(slot),
         setpoint: i64::from(four(slot, at::SETPOINT)) | i64::from(two(slot, at::SETPOINT + 4)) << 32,
         speed: signed(slot, at::SPEED),
         goal: four(slot, at::GOAL),
@@ -336,17 +378,23 @@ pub fn put_module(slot: &mut [u8], module: &Module) {
     }
 }
 
-fn module(slot: &[u8], slip: Slip) -> Option<Module> {
+/// The module that a slot tells of, or nothing where it breaks the list.
+pub fn module(slot: &[u8], slip: Slip) -> Option<Module> {
     match slot[0] {
         Servo::TYPE => servo(slot, slip).map(Module::Servo),
         Io::TYPE => io(slot, slip).map(Module::Io),
-        _ => None,
+        _ => {
+            reach(Branch::ListType);
+            None
+        }
     }
 }
 
 /// The network that a record tells of, or nothing where it breaks the list.
 pub fn decode(net: &[u8], slip: Slip) -> Option<Network> {
-    if net.len() != NET_LEN || !(1..=MOST_MODULES).contains(&usize::from(net[COUNT])) {
+    let length = net.len() == NET_LEN;
+    let chain = !length || (1..=MOST_MODULES).contains(&usize::from(net[COUNT]));
+    if !all_hold(&[(length, Branch::ListLength), (chain, Branch::ListChain)]) {
         return None;
     }
     let looked_at = if slip == Slip::RecordBeyondChainTested { MOST_MODULES } else { usize::from(net[COUNT]) };
@@ -376,23 +424,43 @@ pub fn encode(network: &Network, net: &mut [u8]) {
     }
 }
 
+/// A refusal by its number, and the branch that gives it.
+fn refuse(branch: Branch, number: u32) -> u32 {
+    reach(branch);
+    number
+}
+
 /// The model behind the same calls as the library.
 #[derive(Clone, Copy)]
 pub struct Model {
     pub slip: Slip,
 }
 
+impl Model {
+    /// What a place drives in a network that a record told of, if it passed.
+    pub fn outputs_of(&self, network: Option<&Network>, place: u32, outputs: &mut [u8; 8]) -> u32 {
+        let Some(network) = network else { return refuse(Branch::OutputsRecord, BAD_RECORD) };
+        let Some(module) = network.modules.get(place as usize) else {
+            return refuse(Branch::OutputsPlace, BAD_PLACE);
+        };
+        reach(Branch::OutputsDone);
+        *outputs = module.outputs(self.slip);
+        DONE
+    }
+}
+
 impl Calls for Model {
     fn setup(&self, net: &mut [u8], types: &[u8]) -> u32 {
         if net.len() != NET_LEN {
-            return BAD_RECORD;
+            return refuse(Branch::SetupLength, BAD_RECORD);
         }
         if !(1..=MOST_MODULES).contains(&types.len()) {
-            return BAD_CHAIN;
+            return refuse(Branch::SetupChain, BAD_CHAIN);
         }
         let Some(modules) = types.iter().map(|module_type| Module::power_up(*module_type)).collect() else {
-            return BAD_TYPE;
+            return refuse(Branch::SetupType, BAD_TYPE);
         };
+        reach(Branch::SetupDone);
         net.fill(0);
         encode(&Network::power_up(modules, self.slip), net);
         DONE
@@ -404,20 +472,23 @@ impl Calls for Model {
         if short && self.slip == Slip::RoomBeforeRecord {
             return SHORT_ROOM;
         }
-        let Some(mut network) = decode(net, self.slip) else { return BAD_RECORD };
+        let Some(mut network) = decode(net, self.slip) else { return refuse(Branch::ByteRecord, BAD_RECORD) };
         if mark > 1 && !(short && self.slip == Slip::RoomBeforeMark) {
-            return BAD_FIELD;
+            return refuse(Branch::ByteMark, BAD_FIELD);
         }
         if short {
-            return SHORT_ROOM;
+            return refuse(Branch::ByteRoom, SHORT_ROOM);
         }
         let ended = network.byte(mark == 1, byte);
         encode(&network, net);
-        let Some(ended) = ended else { return DONE };
+        let Some(ended) = ended else {
+            reach(Branch::ByteTaken);
+            return DONE;
+        };
         let replies: Vec<u8> = ended.replies.into_iter().flat_map(|(_, reply)| reply).collect();
         room[..replies.len()].copy_from_slice(&replies);
         *written = replies.len();
-        if ended.frame.damaged {
+        if either(ended.frame.damaged, Branch::ByteDamaged, Branch::ByteUndamaged) {
             DAMAGED
         } else {
             UNDAMAGED
@@ -425,45 +496,53 @@ impl Calls for Model {
     }
 
     fn io_sample(&self, net: &mut [u8], place: u32, inputs: u32, ad: [u8; 3], counter: u32) -> u32 {
-        let Some(mut network) = decode(net, self.slip) else { return BAD_RECORD };
-        if let Err(refusal) = network.io_sample(place, inputs, ad, counter) {
-            return refusal;
+        let Some(mut network) = decode(net, self.slip) else { return refuse(Branch::IoSampleRecord, BAD_RECORD) };
+        match network.io_sample(place, inputs, ad, counter) {
+            Ok(()) => reach(Branch::IoSampleDone),
+            Err(BAD_FIELD) => return refuse(Branch::IoSampleInputs, BAD_FIELD),
+            Err(refusal) => return refusal,
         }
         encode(&network, net);
         DONE
     }
 
     fn servo_sample(&self, net: &mut [u8], place: u32, raw: u32, power: u32, ad: u8) -> u32 {
-        let Some(mut network) = decode(net, self.slip) else { return BAD_RECORD };
-        if let Err(refusal) = network.servo_sample(place, raw, power, ad) {
-            return refusal;
+        let Some(mut network) = decode(net, self.slip) else { return refuse(Branch::ServoSampleRecord, BAD_RECORD) };
+        match network.servo_sample(place, raw, power, ad) {
+            Ok(()) => reach(Branch::ServoSampleDone),
+            Err(BAD_FIELD) => return refuse(Branch::ServoSamplePower, BAD_FIELD),
+            Err(refusal) => return refusal,
         }
         encode(&network, net);
         DONE
     }
 
     fn tick(&self, net: &mut [u8]) -> u32 {
-        let Some(mut network) = decode(net, self.slip) else { return BAD_RECORD };
+        let Some(mut network) = decode(net, self.slip) else { return refuse(Branch::TickRecord, BAD_RECORD) };
+        reach(Branch::TickDone);
         network.tick();
         encode(&network, net);
         DONE
     }
 
     fn outputs(&self, net: &[u8], place: u32, outputs: &mut [u8; 8]) -> u32 {
-        let Some(network) = decode(net, self.slip) else { return BAD_RECORD };
-        let Some(module) = network.modules.get(place as usize) else { return BAD_PLACE };
-        *outputs = module.outputs(self.slip);
-        DONE
+        self.outputs_of(decode(net, self.slip).as_ref(), place, outputs)
     }
 
     fn write_frame(&self, address: u32, code: u32, data: &[u8], room: &mut [u8], written: &mut usize) -> u32 {
         *written = 0;
-        if address > 255 || code > 15 || data.len() > 15 {
+        let fits = all_hold(&[
+            (address <= 255, Branch::WriterAddress),
+            (code <= 15, Branch::WriterCode),
+            (data.len() <= 15, Branch::WriterData),
+        ]);
+        if !fits {
             return BAD_FRAME;
         }
         if room.len() < data.len() + 4 {
-            return SHORT_ROOM;
+            return refuse(Branch::WriterRoom, SHORT_ROOM);
         }
+        reach(Branch::WriterDone);
         let bytes = model::frame_bytes(address as u8, code as u8, data);
         room[..bytes.len()].copy_from_slice(&bytes);
         *written = bytes.len();

@@ -15,6 +15,8 @@ const GROUPS: &[u8] = &[0xFF, 0x7F, 0x81, 0x01, 0x82, 0x02, HEADER, 0x2A, 0x80, 
 const IO_CODES: &[u8] = &[0, 0, 1, 1, 2, 2, 3, 3, 4, 5, 5, 6, 6, 7, 7, 8, 9, 10, 10, 11, 12, 12, 13, 14, 15];
 const SERVO_CODES: &[u8] =
     &[0, 0, 1, 2, 2, 3, 3, 3, 4, 4, 4, 4, 4, 5, 5, 5, 6, 6, 7, 7, 7, 8, 9, 10, 11, 11, 12, 13, 14, 15];
+/// Control byte of a trapezoid with all that it needs.
+pub const TRAPEZOID: u8 = 0x17;
 const EDGES: &[u8] = &[0, 1, 2, 3, 4, 5, 15, 16, 31, 32, 33, 63, 64, 127, 128, HEADER, 255];
 
 pub fn data_byte(dice: &mut Dice) -> u8 {
@@ -43,7 +45,7 @@ pub fn group(dice: &mut Dice) -> u8 {
 }
 
 fn chain_length(dice: &mut Dice) -> usize {
-    match dice.below(8) {
+    match dice.below(16) {
         0 => 1,
         1 => 32,
         2 | 3 => 1 + dice.below(MOST_MODULES),
@@ -93,10 +95,10 @@ pub fn frame(dice: &mut Dice, network: &Network) -> (u8, u8, Vec<u8>) {
 /// A velocity or an acceleration: mostly one that a move of some ticks shows, and the edges of its range.
 fn rate(dice: &mut Dice) -> u32 {
     match dice.below(24) {
-        0 => 0,
-        1 => 1,
-        2 => SPEED_MOST,
-        3..=8 => dice.below(300) as u32,
+        0 | 1 => 0,
+        2 => 1,
+        3 => SPEED_MOST,
+        4..=8 => dice.below(300) as u32,
         9..=14 => dice.below(4 << 16) as u32,
         _ => (1 + dice.below(24) as u32) << 14,
     }
@@ -112,13 +114,13 @@ fn rate_or_bad(dice: &mut Dice) -> u32 {
 
 /// Counts that are near, and counts at the far end of the circle.
 fn counts(dice: &mut Dice) -> u32 {
-    match dice.below(12) {
+    match dice.below(14) {
         0 => 0,
         1 => 1,
-        2 => 1 << 31,
-        3 => dice.pick(&[(1 << 31) - 1, (1 << 31) + 1]),
-        4 => dice.throw() as u32,
-        5..=8 => dice.below(60) as u32,
+        2..=4 => 1 << 31,
+        5 => dice.pick(&[(1 << 31) - 1, (1 << 31) + 1]),
+        6 => dice.throw() as u32,
+        7..=10 => dice.below(60) as u32,
         _ => (dice.below(60) as u32).wrapping_neg(),
     }
 }
@@ -131,19 +133,28 @@ fn where_it_is(servo: &Servo) -> u32 {
     }
 }
 
-fn load(dice: &mut Dice, servo: &Servo) -> Vec<u8> {
+/// A load's control byte. Until both rates have been loaded, often one that brings the other alone.
+fn control(dice: &mut Dice, servo: &Servo) -> u8 {
+    let fresh = !(servo.velocity_loaded && servo.acceleration_loaded);
     let mut control = match dice.below(12) {
-        0..=3 => 0x17,
+        _ if fresh && dice.percent(40) => dice.pick(&[0x13, 0x15, 0x32, 0x34]),
+        _ if servo.mode == Mode::Pwm && dice.percent(20) => 0x08,
+        0..=3 => TRAPEZOID,
         4..=6 => 0x36,
         7 => 0x11,
-        8 => 0x32,
+        8 => dice.pick(&[0x32, 0x16]),
         9 | 10 => 0x08,
         _ => dice.byte(),
     };
-    control ^= dice.pick(&[0, 0x40, 0x80, 0xC0]);
     if dice.percent(15) {
         control ^= 1 << dice.below(8);
     }
+    control
+}
+
+/// A load by its control byte; reversed or not, to be started now or not.
+pub fn load(dice: &mut Dice, servo: &Servo, control: u8) -> Vec<u8> {
+    let control = control ^ dice.pick(&[0, 0x40, 0x80, 0xC0]);
     let mut data = vec![control];
     if control & 1 != 0 {
         data.extend(where_it_is(servo).wrapping_add(counts(dice)).to_le_bytes());
@@ -190,7 +201,10 @@ pub fn gains(dice: &mut Dice) -> Vec<u8> {
 pub fn servo_command(dice: &mut Dice, servo: &Servo) -> (u8, Vec<u8>) {
     let code = dice.pick(SERVO_CODES);
     let data = match code {
-        4 => load(dice, servo),
+        4 => {
+            let control = control(dice, servo);
+            load(dice, servo, control)
+        }
         6 => {
             let mut gains = gains(dice);
             if dice.percent(25) {
@@ -216,6 +230,16 @@ pub fn servo_command(dice: &mut Dice, servo: &Servo) -> (u8, Vec<u8>) {
     (code, data)
 }
 
+/// Where the counts go round, and where their sign does.
+fn seam(dice: &mut Dice) -> u32 {
+    dice.pick(&[0, 1 << 31])
+}
+
+/// Where the setpoint will be if the profile goes on as it does.
+pub fn ahead(servo: &Servo) -> u32 {
+    ((servo.setpoint + servo.speed) >> 16) as u32
+}
+
 /// A raw count for a motor that follows its setpoint more or less, with errors at the limit among them.
 pub fn following(dice: &mut Dice, servo: &Servo) -> u32 {
     let limit = u32::from(servo.gains.el);
@@ -230,9 +254,11 @@ pub fn following(dice: &mut Dice, servo: &Servo) -> u32 {
     if dice.percent(50) {
         error = error.wrapping_neg();
     }
-    // where the setpoint will be if the profile goes on as it does
-    let ahead = ((servo.setpoint + servo.speed) >> 16) as u32;
-    let base = if servo.servo_off() { servo.position() } else { ahead };
+    let base = match servo.servo_off() {
+        true if dice.percent(15) => seam(dice),
+        true => servo.position(),
+        false => ahead(servo),
+    };
     base.wrapping_add(error).wrapping_add(servo.offset)
 }
 
@@ -243,28 +269,6 @@ pub fn servo_sample(dice: &mut Dice, servo: &Servo) -> (u32, u32) {
         _ => 1,
     };
     (following(dice, servo), power)
-}
-
-/// Why a Start of the waiting load would be not now, by number.
-pub const REASONS: usize = 9;
-
-pub fn why_not_now(servo: &Servo) -> Vec<usize> {
-    let load = &servo.load;
-    let profile = load.way != Way::Pwm;
-    let trapezoid = load.way == Way::Trapezoid;
-    let away = load.position.wrapping_sub(where_it_is(servo));
-    let reasons = [
-        !load.waits,
-        servo.latched.power != 1,
-        servo.error,
-        load.waits && load.way == Way::Pwm && !load.pwm_carried,
-        load.waits && profile && !(servo.velocity_loaded && servo.acceleration_loaded),
-        trapezoid && !load.position_carried,
-        trapezoid && servo.velocity_loaded && servo.velocity == 0,
-        trapezoid && servo.speed != 0,
-        trapezoid && load.position_carried && away == 1 << 31,
-    ];
-    (0..REASONS).filter(|reason| reasons[*reason]).collect()
 }
 
 // ---------------------------------------------------------------- records
@@ -282,11 +286,8 @@ fn flag(dice: &mut Dice) -> bool {
     dice.percent(50)
 }
 
-/// A servo that the list takes, in any mode and often at an edge of it.
-fn any_servo(dice: &mut Dice, station: Station) -> Servo {
-    let mut servo = Servo::power_up();
-    servo.station = station;
-    servo.gains = Gains {
+fn any_gains(dice: &mut Dice) -> Gains {
+    Gains {
         kp: gain(dice),
         kd: gain(dice),
         ki: gain(dice),
@@ -295,48 +296,36 @@ fn any_servo(dice: &mut Dice, station: Station) -> Servo {
         cl: dice.byte(),
         el: if dice.percent(70) { 16_383 - dice.below(4000) as u16 } else { dice.below(16_384) as u16 },
         sm: dice.byte(),
-    };
+    }
+}
+
+/// Without a waiting load the list asks nothing of the load's other bytes.
+fn any_load(dice: &mut Dice) -> Load {
+    if dice.percent(40) {
+        return Load::default();
+    }
+    Load {
+        waits: dice.percent(90),
+        way: dice.pick(&[Way::Pwm, Way::Velocity, Way::Trapezoid, Way::Trapezoid]),
+        position_carried: dice.percent(80),
+        position: dice.throw() as u32,
+        pwm_carried: dice.percent(80),
+        pwm: dice.byte(),
+        reverse: flag(dice),
+    }
+}
+
+/// A servo that the list takes, in any mode and often at an edge of it.
+fn any_servo(dice: &mut Dice, station: Station) -> Servo {
+    let mut servo = Servo::power_up();
+    servo.station = station;
+    servo.gains = any_gains(dice);
     servo.velocity = rate(dice);
     servo.acceleration = rate(dice);
     servo.velocity_loaded = dice.percent(70);
     servo.acceleration_loaded = servo.acceleration > 0 && dice.percent(70);
-    // without a waiting load the list asks nothing of the load's other bytes
-    if dice.percent(60) {
-        servo.load = Load {
-            waits: dice.percent(90),
-            way: dice.pick(&[Way::Pwm, Way::Velocity, Way::Trapezoid, Way::Trapezoid]),
-            position_carried: dice.percent(80),
-            position: dice.throw() as u32,
-            pwm_carried: dice.percent(80),
-            pwm: dice.byte(),
-            reverse: flag(dice),
-        };
-    }
-    servo.goal = dice.throw() as u32;
-    servo.goal_speed = within(dice, i64::from(SPEED_MOST));
-    servo.running_acceleration = rate(dice);
-    servo.top = rate(dice);
-    servo.setpoint = (dice.throw() >> 16) as i64;
-    servo.latched.power = dice.pick(&[0, 1, 1, 1, 1, 1, 2]);
-    servo.mode = dice.pick(&[Mode::Off, Mode::Pwm, Mode::Holding, Mode::Velocity, Mode::Velocity, Mode::Trapezoid]);
-    if servo.latched.power == 0 {
-        servo.mode = Mode::Off;
-    }
-    match servo.mode {
-        Mode::Off | Mode::Holding => {}
-        Mode::Pwm => servo.pwm = within(dice, 255),
-        Mode::Velocity => servo.speed = within(dice, i64::from(SPEED_MOST)),
-        Mode::Trapezoid => any_trapezoid(dice, &mut servo),
-    }
-    if !servo.servo_off() {
-        servo.integral = within(dice, 32_767);
-        servo.previous_error = within(dice, 16_383);
-    }
-    if servo.mode != Mode::Off && servo.latched.power == 1 {
-        servo.output = within(dice, 255);
-    }
-    servo.error = servo.mode == Mode::Off && flag(dice);
-    servo.amplifier = flag(dice);
+    servo.load = any_load(dice);
+    any_motion(dice, &mut servo);
 
     servo.offset = dice.throw() as u32;
     servo.latched.raw = following(dice, &servo);
@@ -351,6 +340,38 @@ fn any_servo(dice: &mut Dice, station: Station) -> Servo {
         servo.load.position = where_it_is(&servo).wrapping_add(counts(dice)) * u32::from(servo.load.waits);
     }
     servo
+}
+
+/// A mode, and what it asks of the numbers that run with it.
+fn any_motion(dice: &mut Dice, servo: &mut Servo) {
+    servo.goal = dice.throw() as u32;
+    servo.goal_speed = within(dice, i64::from(SPEED_MOST));
+    servo.running_acceleration = rate(dice);
+    servo.top = rate(dice);
+    servo.setpoint = (dice.throw() >> 16) as i64;
+    if dice.percent(30) {
+        servo.setpoint = ((i64::from(seam(dice)) << 16) + within(dice, 3 << 16)).rem_euclid(1 << 48);
+    }
+    servo.latched.power = dice.pick(&[0, 1, 1, 1, 1, 1, 2]);
+    servo.mode = dice.pick(&[Mode::Off, Mode::Pwm, Mode::Holding, Mode::Velocity, Mode::Velocity, Mode::Trapezoid]);
+    if servo.latched.power == 0 {
+        servo.mode = Mode::Off;
+    }
+    match servo.mode {
+        Mode::Off | Mode::Holding => {}
+        Mode::Pwm => servo.pwm = within(dice, 255),
+        Mode::Velocity => servo.speed = within(dice, i64::from(SPEED_MOST)),
+        Mode::Trapezoid => any_trapezoid(dice, servo),
+    }
+    if !servo.servo_off() {
+        servo.integral = within(dice, 32_767);
+        servo.previous_error = within(dice, 16_383);
+    }
+    if servo.mode != Mode::Off && servo.latched.power == 1 {
+        servo.output = within(dice, 255);
+    }
+    servo.error = servo.mode == Mode::Off && flag(dice);
+    servo.amplifier = flag(dice);
 }
 
 /// From the one end of the error's range to the other at the highest gains: u is then as large as it can be.
@@ -372,10 +393,10 @@ fn any_trapezoid(dice: &mut Dice, servo: &mut Servo) {
     let size = (a * dice.below(2000) as i64 + dice.below(a as usize) as i64).min(i64::from(SPEED_MOST));
     let size = if dice.percent(30) { size.min(2 * a) } else { size };
     servo.top = (size as u32 + dice.below(3) as u32 * rate(dice)).min(SPEED_MOST);
-    let spare = match dice.below(5) {
+    let spare = match dice.below(6) {
         0 | 1 => 0,
         2 => 1,
-        3 => dice.below(2 * a as usize) as i64,
+        3 | 4 => dice.below(2 * a as usize) as i64,
         _ => dice.below(1 << 40) as i64,
     };
     let left = stopping_sum(size - a, a) + spare;

@@ -1,19 +1,72 @@
 //! Library and model side by side over long random and steered histories.
+//!
+//! The gate takes the fixed seed and number of sessions below. A longer run, and another, by hand:
+//! `DOLJURVEN_SESSIONS=1000000 DOLJURVEN_SEED=7 cargo test --release --manifest-path tests/Cargo.toml --test differential`
 
+use std::env;
+use std::io::{self, Write};
+
+use doljurven_tests::branches::{self, Branch, CALLS};
 use doljurven_tests::calls::*;
 use doljurven_tests::capi::Library;
 use doljurven_tests::histories;
+use doljurven_tests::model::Mode;
+use doljurven_tests::seen::{Change, Seen, CHANGES};
 use doljurven_tests::slips::Slip;
 
-const SESSIONS: usize = 20_000;
+const SESSIONS: usize = 14_000;
+const SEED: u64 = 0x00D0_17C3;
+
+/// A number from the environment, if it is there.
+fn asked(name: &str) -> Option<u64> {
+    env::var(name).ok().map(|number| number.parse().unwrap_or_else(|_| panic!("{name} is no number: {number}")))
+}
 
 #[test]
 fn library_and_model_agree() {
-    let seen = histories::run(&Library, Slip::None, 0x00D0_17C3, SESSIONS).unwrap_or_else(|told| panic!("{told}"));
+    let sessions = asked("DOLJURVEN_SESSIONS").map_or(SESSIONS, |sessions| sessions as usize);
+    let seed = asked("DOLJURVEN_SEED").unwrap_or(SEED);
+    let seen = histories::run(&Library, Slip::None, seed, sessions).unwrap_or_else(|told| panic!("{told}"));
     println!("{seen:?}");
+    branches_are_reached();
+    frames_meet_everything(&seen);
+    every_mode_change_is_made(&seen);
+    servos_come_everywhere(&seen);
+    calls_give_every_number(&seen);
+}
 
-    // the dice have fallen everywhere that matters
-    assert!(seen.chains[1..].iter().all(|frames| *frames > 100), "{:?}", seen.chains);
+/// Hundredths of the model's branches that this thread has reached.
+fn share_reached() -> usize {
+    100 * (CALLS.len() - branches::unreached(CALLS).len()) / CALLS.len()
+}
+
+fn branches_are_reached() {
+    let unreached = branches::unreached(CALLS);
+    let reached = CALLS.len() - unreached.len();
+    // past the test's captured output, so that a passing run tells it too
+    writeln!(io::stderr(), "branches of the model reached: {reached} of {}; not: {unreached:?}", CALLS.len())
+        .expect("a place to write");
+    let mut rarest: Vec<(usize, &str)> =
+        CALLS.iter().map(|(branch, words)| (branches::times(*branch), *words)).collect();
+    rarest.sort();
+    println!("rarest branches: {:?}", &rarest[..10]);
+    assert!(share_reached() >= 95);
+    // each start condition decides alone, by Start and by start now: they stand together in the table
+    let conditions = Branch::StartNothingWaits as usize..=Branch::NowHalfTurnFromOff as usize;
+    for (branch, words) in CALLS.iter().filter(|(branch, _)| conditions.contains(&(*branch as usize))) {
+        assert!(branches::times(*branch) > 100, "{words}: {}", branches::times(*branch));
+    }
+}
+
+#[test]
+fn without_steering_branches_stay_unreached() {
+    histories::run_unsteered(&Library, SEED, 500).unwrap_or_else(|told| panic!("{told}"));
+    assert!(share_reached() < 95);
+}
+
+fn frames_meet_everything(seen: &Seen) {
+    assert!(seen.chains.iter().all(|frames| *frames > 100), "{:?}", seen.chains);
+    assert!(seen.places.iter().all(|touched| *touched > 100), "{:?}", seen.places);
     // codes that a type does not know, and those that may be not now
     let types: [(&str, &[usize], &[usize]); 2] =
         [("servo", &[8, 9, 12, 13], &[0, 4, 5, 7]), ("I/O", &[9, 11, 13], &[])];
@@ -26,21 +79,57 @@ fn library_and_model_agree() {
             assert!(causes[3] == 0 || not_now.contains(&code), "{told}");
         }
     }
-    assert_eq!([seen.starts[0], seen.starts[2]], [0, 0], "a start leads to off or holding");
-    assert!([1, 3, 4].iter().all(|mode| seen.starts[*mode] > 1000), "starts {:?}", seen.starts);
-    assert!(seen.not_now.iter().all(|starts| *starts > 100), "not now {:?}", seen.not_now);
-    let servo = &seen.servo;
-    for happened in [servo.trips, servo.power_lost, servo.power_high, servo.arrived, servo.reversed, servo.wrapped] {
-        assert!(happened > 100, "{servo:?}");
+    assert!(seen.repliers.iter().all(|frames| *frames > 1000), "{:?}", seen.repliers);
+    assert!(seen.full_rooms > 10, "{} full rooms", seen.full_rooms);
+}
+
+/// Modes that a servo may have after what came upon it.
+fn modes_after(change: Change, before: Mode) -> Vec<Mode> {
+    match (change, before) {
+        (Change::Start | Change::StartNow, _) => vec![Mode::Pwm, Mode::Velocity, Mode::Trapezoid],
+        (Change::Abrupt | Change::StopHere, _) => vec![Mode::Holding],
+        (Change::StopOff | Change::HardReset | Change::PowerLow, _) => vec![Mode::Off],
+        (Change::Smooth, Mode::Off | Mode::Pwm) => vec![Mode::Off],
+        (Change::Smooth, _) => vec![Mode::Velocity],
+        (Change::Trip, Mode::Off | Mode::Pwm) => vec![],
+        (Change::Trip, _) => vec![Mode::Off],
+        (Change::Nothing, mode) => vec![mode],
     }
-    assert!(servo.output_limited > 1000 && servo.between > 1000, "{servo:?}");
+}
+
+fn every_mode_change_is_made(seen: &Seen) {
+    const MODES: [Mode; 5] = [Mode::Off, Mode::Pwm, Mode::Holding, Mode::Velocity, Mode::Trapezoid];
+    for change in CHANGES {
+        for before in MODES {
+            for after in MODES {
+                let times = seen.modes[change as usize][before as usize][after as usize];
+                let told = format!("{change:?} from {before:?} to {after:?}: {times}");
+                let may = modes_after(change, before).contains(&after);
+                assert!(if may { times > 50 } else { times == 0 }, "{told}");
+            }
+        }
+    }
+    for mode in [Mode::Pwm, Mode::Velocity, Mode::Trapezoid] {
+        let starts: usize = seen.modes[Change::Start as usize].iter().map(|after| after[mode as usize]).sum();
+        assert!(starts > 1000, "{starts} starts of {mode:?}");
+    }
+}
+
+fn servos_come_everywhere(seen: &Seen) {
+    for (name, times) in seen.running.iter().chain(&seen.wraps) {
+        assert!(*times > 100, "{name}: {times}");
+    }
+    for often in ["output at its limit", "trapezoid's speed neither highest nor lowest"] {
+        assert!(seen.running.iter().any(|(name, times)| *name == often && *times > 1000), "{often}");
+    }
+}
+
+fn calls_give_every_number(seen: &Seen) {
     for number in [DONE, UNDAMAGED, DAMAGED, BAD_CHAIN, BAD_TYPE, BAD_PLACE, BAD_FIELD, SHORT_ROOM, BAD_RECORD] {
         assert!(seen.numbers[number as usize] > 100, "number {number}");
     }
     for number in [BAD_FRAME, BAD_LENGTH, BAD_SUM] {
         assert!(seen.numbers[number as usize] > 100, "number {number}");
     }
-    assert!(seen.repliers.iter().all(|frames| *frames > 1000), "{:?}", seen.repliers);
-    assert!(seen.full_rooms > 10, "{} full rooms", seen.full_rooms);
     assert!(seen.damaged_records_taken > 1000 && seen.damaged_records - seen.damaged_records_taken > 1000);
 }

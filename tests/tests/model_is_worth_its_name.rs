@@ -46,12 +46,15 @@ enum Spoil {
     OutputsSign,
     SetupLeavesUnusedBytes,
     OutputsOfPlaceZero,
+    OutputsOfLastPlace,
+    OutputsInsideFrame,
+    OutputsRefuse,
     OutputsWhenRefused,
     ReadingWhenRefused,
     WriterBehindFrame,
 }
 
-const SPOILS: [Spoil; 17] = [
+const SPOILS: [Spoil; 20] = [
     Spoil::RoomBehindReplies,
     Spoil::OneByteMoreReported,
     Spoil::LastReplyByte,
@@ -66,6 +69,9 @@ const SPOILS: [Spoil; 17] = [
     Spoil::OutputsSign,
     Spoil::SetupLeavesUnusedBytes,
     Spoil::OutputsOfPlaceZero,
+    Spoil::OutputsOfLastPlace,
+    Spoil::OutputsInsideFrame,
+    Spoil::OutputsRefuse,
     Spoil::OutputsWhenRefused,
     Spoil::ReadingWhenRefused,
     Spoil::WriterBehindFrame,
@@ -127,6 +133,17 @@ impl Calls for Spoiled {
         let number = Library.outputs(net, place, outputs);
         match self.0 {
             Spoil::OutputsOfPlaceZero if number == DONE => Library.outputs(net, 0, outputs),
+            Spoil::OutputsOfLastPlace if place == 31 => {
+                outputs[0] ^= 1;
+                number
+            }
+            // an open frame is there only after bytes that end none
+            Spoil::OutputsInsideFrame if number == DONE && net[17] != 0 => {
+                outputs[0] ^= 1;
+                number
+            }
+            // a record that calls leave behind and that is not taken any more
+            Spoil::OutputsRefuse if number == DONE && net[17] > 17 => BAD_RECORD,
             // only a servo's second byte is a sign
             Spoil::OutputsSign if number == DONE && net[20 + 128 * place as usize] == 0 => {
                 outputs[1] = 0;

@@ -323,7 +323,7 @@ impl Slot {
 #[test]
 fn servo_record_with_bytes_out_of_range() {
     let off = Slot::new(OFF);
-    for at in at::FLAGS {
+    for (at, _) in at::FLAGS {
         for (value, number) in [(0, DONE), (1, DONE), (2, BAD_RECORD), (128, BAD_RECORD), (255, BAD_RECORD)] {
             off.clone().one(at, value).judged(number, &format!("flag at {at} is {value}"));
         }

@@ -1,5 +1,6 @@
 //! The replay program, the captures that ship with the project, and the model's replay.
 
+use doljurven_tests::branches::{self, REPLAY};
 use doljurven_tests::captures::{self, Capture};
 use doljurven_tests::dice::Dice;
 use doljurven_tests::model::{self, frame_bytes};
@@ -78,6 +79,7 @@ fn model_prints_what_the_captures_expect() {
     for (path, capture) in all_captures() {
         assert_eq!(model::replay(&capture.bytes), capture.printed, "{}", path.display());
     }
+    assert!(branches::unreached(REPLAY).is_empty(), "no capture comes to {:?}", branches::unreached(REPLAY));
 }
 
 #[test]

@@ -1,6 +1,7 @@
 //! The host's side: the frame writer and the status reader.
 
 use super::line::{sum, HEADER};
+use crate::branches::{either, reach, Branch};
 use crate::calls::{BAD_LENGTH, BAD_SUM, BAD_TYPE};
 
 /// The writer's bytes; the caller has looked at the ranges.
@@ -27,16 +28,22 @@ pub struct Reading {
 }
 
 pub fn read_status(module_type: u32, items: u8, reply: &[u8]) -> Result<Reading, u32> {
-    let sizes = item_sizes(module_type).ok_or(BAD_TYPE)?;
+    let Some(sizes) = item_sizes(module_type) else {
+        reach(Branch::ReaderType);
+        return Err(BAD_TYPE);
+    };
     let chosen = |bit: &usize| items >> bit & 1 == 1;
     let length = 2 + (0..8).filter(chosen).map(|bit| sizes[bit]).sum::<usize>();
     if reply.len() != length {
+        reach(Branch::ReaderLength);
         return Err(BAD_LENGTH);
     }
     let (told, summed) = reply.split_last().expect("two bytes at least");
     if *told != sum(summed) {
+        reach(Branch::ReaderSum);
         return Err(BAD_SUM);
     }
+    either(module_type == 0, Branch::ReaderServo, Branch::ReaderIo);
     let mut numbers = [0; 8];
     let mut rest = &summed[1..];
     for bit in (0..8).filter(chosen) {

@@ -1,6 +1,7 @@
 //! The I/O module, type 2 version 1.
 
 use super::station::{Device, Station, MALFORMED};
+use crate::branches::{reach, Branch};
 use crate::slips::Slip;
 
 pub const BITS: u16 = 0x0FFF;
@@ -38,6 +39,25 @@ fn blend(mask: u16, new: u16, old: u16) -> u16 {
     (new & mask) | (old & !mask)
 }
 
+/// A command of the I/O module that was executed, or that was malformed.
+fn command_as(code: u8, executed: bool) -> Branch {
+    let (done, malformed) = match code {
+        0 => (Branch::SetDirection, Branch::SetDirectionCount),
+        4 => (Branch::SetPwm, Branch::SetPwmCount),
+        5 => (Branch::SynchOutput, Branch::SynchOutputCount),
+        6 => (Branch::SetOutput, Branch::SetOutputCount),
+        7 => (Branch::SetSynchOutput, Branch::SetSynchOutputCount),
+        8 => (Branch::SetTimerMode, Branch::SetTimerModeCount),
+        12 => (Branch::SynchInput, Branch::SynchInputCount),
+        _ => (Branch::IoUnknown, Branch::IoUnknown),
+    };
+    if executed {
+        done
+    } else {
+        malformed
+    }
+}
+
 impl Io {
     fn read_value(&self, slip: Slip) -> u16 {
         if slip == Slip::RegisterReadOnInputs {
@@ -48,6 +68,66 @@ impl Io {
 
     fn outputs_mask(&self) -> u16 {
         !self.direction & BITS
+    }
+
+    fn own_command(&mut self, code: u8, data: &[u8], slip: Slip) -> Result<(), u8> {
+        match (code, data) {
+            (0, [low, high]) => self.set_direction(twelve(*low, *high), slip),
+            (4, [one, two]) => {
+                self.pwm = [*one, *two];
+                if slip == Slip::PwmIntoBuffer {
+                    self.synch_pwm = self.pwm;
+                }
+            }
+            (5, []) => self.synch_output(slip),
+            (6, [low, high]) => {
+                let mask = if slip == Slip::OutputOnInputs { BITS } else { self.outputs_mask() };
+                self.register = blend(mask, twelve(*low, *high), self.register);
+            }
+            (7, [low, high, one, two]) => {
+                self.synch_bits = twelve(*low, *high);
+                if slip == Slip::SynchOutputMaskedEarly {
+                    self.synch_bits &= self.outputs_mask();
+                }
+                self.synch_pwm = [*one, *two];
+            }
+            (8, [_]) if slip == Slip::TimerModeNotStored => {}
+            (8, [mode]) => self.timer_mode = *mode,
+            (12, []) => self.synch_input(slip),
+            (9 | 11 | 13, _) if slip == Slip::UnknownCodeExecuted => {}
+            _ => return Err(MALFORMED),
+        }
+        Ok(())
+    }
+
+    fn set_direction(&mut self, direction: u16, slip: Slip) {
+        self.direction = direction;
+        if slip == Slip::DirectionInverted {
+            self.direction ^= BITS;
+        }
+        if slip == Slip::DirectionClearsRegister {
+            self.register &= self.outputs_mask();
+        }
+    }
+
+    fn synch_output(&mut self, slip: Slip) {
+        let mask = if slip == Slip::SynchOutputOnInputs { BITS } else { self.outputs_mask() };
+        self.register = blend(mask, self.synch_bits, self.register);
+        if slip != Slip::SynchOutputWithoutPwm {
+            self.pwm = self.synch_pwm;
+        }
+        if slip == Slip::SynchOutputOnce {
+            self.synch_bits = 0;
+            self.synch_pwm = [0; 2];
+        }
+    }
+
+    fn synch_input(&mut self, slip: Slip) {
+        self.captured_inputs = self.read_value(slip);
+        if slip == Slip::CaptureOfSampleAlone {
+            self.captured_inputs = self.latched.inputs;
+        }
+        self.captured_counter = self.latched.counter;
     }
 }
 
@@ -84,63 +164,13 @@ impl Device for Io {
     }
 
     fn command(&mut self, code: u8, data: &[u8], slip: Slip) -> Result<(), u8> {
-        match (code, data) {
-            (0, [low, high]) => {
-                self.direction = twelve(*low, *high);
-                if slip == Slip::DirectionInverted {
-                    self.direction ^= BITS;
-                }
-                if slip == Slip::DirectionClearsRegister {
-                    self.register &= self.outputs_mask();
-                }
-            }
-            (4, [one, two]) => {
-                self.pwm = [*one, *two];
-                if slip == Slip::PwmIntoBuffer {
-                    self.synch_pwm = self.pwm;
-                }
-            }
-            (5, []) => {
-                let mask = if slip == Slip::SynchOutputOnInputs { BITS } else { self.outputs_mask() };
-                self.register = blend(mask, self.synch_bits, self.register);
-                if slip != Slip::SynchOutputWithoutPwm {
-                    self.pwm = self.synch_pwm;
-                }
-                if slip == Slip::SynchOutputOnce {
-                    self.synch_bits = 0;
-                    self.synch_pwm = [0; 2];
-                }
-            }
-            (6, [low, high]) => {
-                let mask = if slip == Slip::OutputOnInputs { BITS } else { self.outputs_mask() };
-                self.register = blend(mask, twelve(*low, *high), self.register);
-            }
-            (7, [low, high, one, two]) => {
-                self.synch_bits = twelve(*low, *high);
-                if slip == Slip::SynchOutputMaskedEarly {
-                    self.synch_bits &= self.outputs_mask();
-                }
-                self.synch_pwm = [*one, *two];
-            }
-            (8, [mode]) => {
-                if slip != Slip::TimerModeNotStored {
-                    self.timer_mode = *mode;
-                }
-            }
-            (12, []) => {
-                self.captured_inputs = self.read_value(slip);
-                if slip == Slip::CaptureOfSampleAlone {
-                    self.captured_inputs = self.latched.inputs;
-                }
-                self.captured_counter = self.latched.counter;
-            }
-            (9 | 11 | 13, _) if slip == Slip::UnknownCodeExecuted => {}
-            _ => return Err(MALFORMED),
-        }
-        Ok(())
+        let outcome = self.own_command(code, data, slip);
+        reach(command_as(code, outcome.is_ok()));
+        outcome
     }
 
     fn hard_reset(&mut self, slip: Slip) {
+        reach(Branch::IoReset);
         let before = self.clone();
         *self = Io::power_up();
         if slip != Slip::ResetDropsWaitingSample {
@@ -155,6 +185,13 @@ impl Device for Io {
     }
 
     fn item(&self, bit: usize, slip: Slip) -> Vec<u8> {
+        reach(match bit {
+            0 => Branch::IoInputs,
+            1..=3 => Branch::IoAd,
+            4 => Branch::IoCounter,
+            6 => Branch::IoCapturedInputs,
+            _ => Branch::IoCapturedCounter,
+        });
         match bit {
             0 => self.read_value(slip).to_le_bytes().to_vec(),
             1..=3 => vec![self.latched.ad[bit - 1]],
@@ -171,6 +208,7 @@ impl Device for Io {
     }
 
     fn tick(&mut self, slip: Slip) {
+        reach(Branch::IoTick);
         self.latched = self.waiting.clone();
         if slip == Slip::SampleOnce {
             self.waiting = IoSample::default();

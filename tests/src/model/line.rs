@@ -1,5 +1,6 @@
 //! The line: the receiver and its frames.
 
+use crate::branches::{reach, Branch};
 use crate::slips::Slip;
 
 pub const HEADER: u8 = 0xAA;
@@ -31,27 +32,49 @@ pub struct Receiver {
 impl Receiver {
     pub fn take(&mut self, marked: bool, byte: u8, slip: Slip) -> Option<Frame> {
         if self.fill == 0 {
-            if byte == HEADER && (!marked || slip == Slip::MarkedHeaderOpens) {
-                self.fill = 1;
-            }
+            self.open(marked, byte, slip);
             return None;
         }
-        if byte == HEADER && slip == Slip::HeaderRestarts {
-            *self = Receiver { fill: 1, ..Receiver::default() };
-            return None;
+        if byte == HEADER {
+            reach(Branch::HeaderInside);
+            if slip == Slip::HeaderRestarts {
+                *self = Receiver { fill: 1, ..Receiver::default() };
+                return None;
+            }
         }
         if marked && slip != Slip::MarkIgnored {
+            reach(Branch::MarkInside);
             self.marked = true;
         }
         let count = self.command >> 4;
         match self.fill {
-            1 => self.address = byte,
-            2 => self.command = byte,
-            fill if fill - 3 < count => self.data[usize::from(fill - 3)] = byte,
+            1 => {
+                reach(Branch::AddressByte);
+                self.address = byte;
+            }
+            2 => {
+                reach(Branch::CommandByte);
+                self.command = byte;
+            }
+            fill if fill - 3 < count => {
+                reach(Branch::DataByte);
+                self.data[usize::from(fill - 3)] = byte;
+            }
             _ => return Some(self.end(byte, slip)),
         }
         self.fill += 1;
         None
+    }
+
+    fn open(&mut self, marked: bool, byte: u8, slip: Slip) {
+        if byte != HEADER {
+            reach(Branch::IdleByteDropped);
+        } else if marked && slip != Slip::MarkedHeaderOpens {
+            reach(Branch::MarkedHeaderDropped);
+        } else {
+            reach(Branch::HeaderOpens);
+            self.fill = 1;
+        }
     }
 
     fn end(&mut self, checksum: u8, slip: Slip) -> Frame {
@@ -62,6 +85,12 @@ impl Receiver {
             right = right.wrapping_add(done.address);
         }
         let wrong_sum = checksum != right && slip != Slip::SumIgnored;
+        reach(match (done.marked, wrong_sum) {
+            (false, false) => Branch::FrameUndamaged,
+            (true, false) => Branch::DamagedByMark,
+            (false, true) => Branch::DamagedBySum,
+            (true, true) => Branch::DamagedByBoth,
+        });
         Frame { address: done.address, code: done.command & 15, data, damaged: done.marked || wrong_sum }
     }
 }

@@ -4,11 +4,12 @@ use super::io::{Io, IoSample, BITS};
 use super::line::{Frame, Receiver};
 use super::servo::{Servo, ServoSample, HIGH};
 use super::station::{Device, Station, Touch, EXECUTED};
+use crate::branches::{either, reach, Branch};
 use crate::calls::{BAD_FIELD, BAD_PLACE};
 use crate::slips::Slip;
 
-/// A module of whatever type. Boxed: with plain variants an optimised build once gave two wrong bytes of an `Io`, and
-/// why was not found.
+/// A module of whatever type. Boxed: with plain variants rustc 1.95.0 (LLVM 22.1) at opt-level 3 leaves two bytes of an
+/// `Io` that `record::decode` gives back unset, though no unsafe code is involved.
 #[derive(Clone, Debug, PartialEq, Eq)]
 pub enum Module {
     Servo(Box<Servo>),
@@ -93,7 +94,14 @@ impl Network {
         if bad_field && self.slip == Slip::FieldBeforePlace {
             return Err(BAD_FIELD);
         }
-        let module = self.modules.get_mut(place as usize).filter(|module| wanted(module)).ok_or(BAD_PLACE)?;
+        let Some(module) = self.modules.get_mut(place as usize) else {
+            reach(Branch::SampleBeyondChain);
+            return Err(BAD_PLACE);
+        };
+        if !wanted(module) {
+            reach(Branch::SampleOtherType);
+            return Err(BAD_PLACE);
+        }
         if bad_field {
             return Err(BAD_FIELD);
         }
@@ -137,7 +145,11 @@ impl Network {
         match self.slip {
             Slip::AllEnabled => true,
             Slip::EnabledByWholeChain => self.modules[..place].iter().all(low),
-            _ => place == 0 || low(&self.modules[place - 1]),
+            _ if place == 0 => {
+                reach(Branch::FirstEnabled);
+                true
+            }
+            _ => either(low(&self.modules[place - 1]), Branch::EnabledByPredecessor, Branch::NotEnabled),
         }
     }
 
@@ -160,13 +172,33 @@ impl Network {
 
             let module = &self.modules[place];
             let judged = if slip == Slip::LeaderJudgedAfter { module } else { &before.modules[place] };
-            let speaks = touch == Touch::Individually || judged.station().leader || slip == Slip::MembersReply;
-            let reset = frame.code == 15 && module.station().cause == EXECUTED && slip != Slip::ResetReplies;
-            if speaks && !reset && !(frame.damaged && slip == Slip::DamagedIsSilent) {
+            let speaks = speaks(touch, judged.station(), slip);
+            if speaks && !silenced(frame, module.station(), slip) {
                 let shown = if slip == Slip::ReplyBeforeExecution { &before.modules[place] } else { module };
                 replies.push((place, shown.reply(frame, slip)));
             }
         }
         replies
     }
+}
+
+/// Whether a touched module is one that replies.
+fn speaks(touch: Touch, station: &Station, slip: Slip) -> bool {
+    match touch {
+        Touch::Individually => {
+            reach(Branch::RepliesForItself);
+            true
+        }
+        Touch::ByGroup => {
+            either(station.leader, Branch::LeaderReplies, Branch::MemberSilent) || slip == Slip::MembersReply
+        }
+    }
+}
+
+/// Whether the frame draws no reply of those who would reply.
+fn silenced(frame: &Frame, after: &Station, slip: Slip) -> bool {
+    let reset = frame.code == 15
+        && either(after.cause == EXECUTED, Branch::ResetSilent, Branch::ResetReplies)
+        && slip != Slip::ResetReplies;
+    reset || (frame.damaged && slip == Slip::DamagedIsSilent)
 }

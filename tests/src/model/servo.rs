@@ -1,6 +1,7 @@
 //! The servo, type 0 version 10. Speeds and the setpoint are in 65,536ths of a count.
 
 use super::station::{Device, Station, MALFORMED, NOT_NOW};
+use crate::branches::{all_hold, either, reach, Branch};
 use crate::slips::Slip;
 
 /// Most that a velocity or an acceleration may be.
@@ -172,11 +173,16 @@ impl Servo {
     }
 
     fn hold(&mut self, at: u32, slip: Slip) -> Result<(), u8> {
-        let powered = self.latched.power == GOOD || slip == Slip::HoldNeedsNoPower;
-        let fault = self.error && slip != Slip::HoldIgnoresErrorBit;
-        if !powered || fault {
+        let any_power = slip == Slip::HoldNeedsNoPower;
+        let can = all_hold(&[
+            (self.latched.power != LOW || any_power, Branch::HoldPowerLow),
+            (self.latched.power != HIGH || any_power, Branch::HoldPowerHigh),
+            (!self.error || slip == Slip::HoldIgnoresErrorBit, Branch::HoldErrorBit),
+        ]);
+        if !can {
             return Err(NOT_NOW);
         }
+        reach(Branch::Holds);
         self.mode = Mode::Holding;
         self.setpoint = i64::from(at) << 16;
         self.speed = 0;
@@ -190,8 +196,10 @@ impl Servo {
 
     fn reset_position(&mut self, slip: Slip) -> Result<(), u8> {
         if self.speed != 0 && slip != Slip::ResetPositionMoving {
+            reach(Branch::ResetPositionNotNow);
             return Err(NOT_NOW);
         }
+        reach(Branch::ResetPosition);
         let by = self.position();
         self.offset = self.offset.wrapping_add(by);
         if slip != Slip::ResetPositionShowsChange {
@@ -216,7 +224,10 @@ impl Servo {
     }
 
     fn load_trajectory(&mut self, data: &[u8], slip: Slip) -> Result<(), u8> {
-        let [control, rest @ ..] = data else { return Err(MALFORMED) };
+        let [control, rest @ ..] = data else {
+            reach(Branch::LoadEmpty);
+            return Err(MALFORMED);
+        };
         let bit = |bit: u8| control >> bit & 1 == 1;
         let count = Servo::load_count(*control);
         let long = data.len() > count && slip == Slip::LoadCountIsLeast;
@@ -224,31 +235,47 @@ impl Servo {
         let mut number = |carried: bool| if carried { numbers.next() } else { None };
         let (position, velocity, acceleration) = (number(bit(0)), number(bit(1)), number(bit(2)));
         if data.len() != count && !long {
+            either(data.len() < count, Branch::LoadShort, Branch::LoadLong);
             if slip == Slip::ShortLoadKeepsVelocity {
                 self.velocity = velocity.filter(|velocity| *velocity <= SPEED_MOST).unwrap_or(self.velocity);
             }
             return Err(MALFORMED);
         }
-        let fast = velocity.is_some_and(|velocity| velocity > SPEED_MOST);
-        let least = u32::from(slip != Slip::AccelerationNone);
-        let steep = acceleration.is_some_and(|acceleration| !(least..=SPEED_MOST).contains(&acceleration));
-        if (fast && slip != Slip::VelocityOfAnySize) || steep {
+        let in_range = all_hold(&[
+            (velocity.unwrap_or(0) <= SPEED_MOST || slip == Slip::VelocityOfAnySize, Branch::LoadVelocityLarge),
+            (acceleration != Some(0) || slip == Slip::AccelerationNone, Branch::LoadAccelerationNone),
+            (acceleration.unwrap_or(0) <= SPEED_MOST, Branch::LoadAccelerationLarge),
+        ]);
+        if !in_range {
             return Err(MALFORMED);
         }
+        let pwm = if bit(3) { Some(data[count - 1]) } else { None };
+        self.take_load(*control, position, pwm, slip);
+        self.take_rates(velocity, acceleration);
+        if either(bit(7), Branch::LoadStartsNow, Branch::LoadWaits) {
+            return self.start(true, slip);
+        }
+        Ok(())
+    }
 
-        let way = match (bit(4), bit(5)) {
-            (false, _) => Way::Pwm,
-            (true, true) => Way::Velocity,
-            (true, false) => Way::Trapezoid,
+    /// An executed load replaces the waiting one.
+    fn take_load(&mut self, control: u8, position: Option<u32>, pwm: Option<u8>, slip: Slip) {
+        let bit = |bit: u8| control >> bit & 1 == 1;
+        let (way, branch) = match (bit(4), bit(5)) {
+            (false, _) => (Way::Pwm, Branch::LoadOfPwm),
+            (true, true) => (Way::Velocity, Branch::LoadOfVelocity),
+            (true, false) => (Way::Trapezoid, Branch::LoadOfTrapezoid),
         };
+        reach(branch);
         let before = self.load.clone();
+        either(before.waits, Branch::LoadReplaces, Branch::LoadFirst);
         self.load = Load {
             waits: true,
             way,
-            position_carried: position.is_some(),
+            position_carried: either(position.is_some(), Branch::LoadHasPosition, Branch::LoadLacksPosition),
             position: position.unwrap_or(0),
-            pwm_carried: bit(3),
-            pwm: if bit(3) { data[count - 1] } else { 0 },
+            pwm_carried: either(pwm.is_some(), Branch::LoadHasPwm, Branch::LoadLacksPwm),
+            pwm: pwm.unwrap_or(0),
             reverse: bit(6),
         };
         if slip == Slip::LoadKeepsOldPosition && !self.load.position_carried {
@@ -261,72 +288,102 @@ impl Servo {
         if slip == Slip::TrapezoidRelative && way == Way::Trapezoid && bit(6) {
             self.load.position = self.load.position.wrapping_add(whole(self.setpoint));
         }
+    }
+
+    /// Velocity and acceleration stay for later loads, each where it was carried.
+    fn take_rates(&mut self, velocity: Option<u32>, acceleration: Option<u32>) {
+        either(velocity.is_some(), Branch::LoadHasVelocity, Branch::LoadLacksVelocity);
         if let Some(velocity) = velocity {
             self.velocity = velocity;
             self.velocity_loaded = true;
         }
+        either(acceleration.is_some(), Branch::LoadHasAcceleration, Branch::LoadLacksAcceleration);
         if let Some(acceleration) = acceleration {
             self.acceleration = acceleration;
             self.acceleration_loaded = true;
         }
-        if bit(7) {
-            return self.start(slip);
-        }
-        Ok(())
+    }
+
+    /// Whether the waiting load can be started from a setpoint; `now` if its own bit 7 asks for it.
+    fn can_start(&self, from: i64, now: bool, slip: Slip) -> bool {
+        let branch = |start: Branch, start_now: Branch| if now { start_now } else { start };
+        let any = [
+            (self.load.waits, Branch::StartNothingWaits),
+            (self.latched.power != LOW, branch(Branch::StartPowerLow, Branch::NowPowerLow)),
+            (
+                self.latched.power != HIGH || slip == Slip::StartAtHighPower,
+                branch(Branch::StartPowerHigh, Branch::NowPowerHigh),
+            ),
+            (!self.error || slip == Slip::StartIgnoresErrorBit, branch(Branch::StartErrorBit, Branch::NowErrorBit)),
+        ];
+        let own = match self.load.way {
+            // where none waits, what the load would lack is no further reason
+            _ if !self.load.waits => Vec::new(),
+            Way::Pwm => {
+                let carried = self.load.pwm_carried || slip == Slip::StartWithoutPwm;
+                vec![(carried, branch(Branch::StartNoPwm, Branch::NowNoPwm))]
+            }
+            Way::Velocity => self.velocity_needs(branch, slip),
+            Way::Trapezoid => self.trapezoid_needs(from, branch, slip),
+        };
+        all_hold(&[&any[..], &own].concat())
+    }
+
+    /// What a start of velocity mode needs besides.
+    fn velocity_needs(&self, branch: impl Fn(Branch, Branch) -> Branch, slip: Slip) -> Vec<(bool, Branch)> {
+        let rest = self.speed == 0 || slip != Slip::VelocityNeedsRest;
+        vec![
+            (self.velocity_loaded && rest, branch(Branch::StartVelocityNoVelocity, Branch::NowVelocityNoVelocity)),
+            (
+                self.acceleration_loaded || slip == Slip::StartWithoutAcceleration,
+                branch(Branch::StartVelocityNoAcceleration, Branch::NowVelocityNoAcceleration),
+            ),
+        ]
+    }
+
+    /// What a start of a trapezoid needs besides.
+    fn trapezoid_needs(&self, from: i64, branch: impl Fn(Branch, Branch) -> Branch, slip: Slip) -> Vec<(bool, Branch)> {
+        let load = &self.load;
+        let judged = if slip == Slip::HalfTurnFromOldSetpoint { self.setpoint } else { from };
+        let half_turn = load.position_carried && load.position.wrapping_sub(whole(judged)) == HALF_TURN;
+        let half_turn_as = if self.servo_off() {
+            branch(Branch::StartHalfTurnFromOff, Branch::NowHalfTurnFromOff)
+        } else {
+            branch(Branch::StartHalfTurn, Branch::NowHalfTurn)
+        };
+        let goes = self.velocity > 0 || !self.velocity_loaded || slip == Slip::TrapezoidWithoutSpeed;
+        let ramp = self.acceleration_loaded || slip == Slip::StartWithoutAcceleration;
+        let rests = self.speed == 0 || slip == Slip::TrapezoidWhileMoving;
+        vec![
+            (self.velocity_loaded, branch(Branch::StartTrapezoidNoVelocity, Branch::NowTrapezoidNoVelocity)),
+            (ramp, branch(Branch::StartTrapezoidNoAcceleration, Branch::NowTrapezoidNoAcceleration)),
+            (load.position_carried, branch(Branch::StartNoPosition, Branch::NowNoPosition)),
+            (goes, branch(Branch::StartVelocityZero, Branch::NowVelocityZero)),
+            (rests, branch(Branch::StartMoving, Branch::NowMoving)),
+            (!half_turn || slip == Slip::HalfTurnTaken, half_turn_as),
+        ]
     }
 
     /// Starts the waiting load, or tells that it is not now.
-    fn start(&mut self, slip: Slip) -> Result<(), u8> {
-        let powered = self.latched.power == GOOD || (self.latched.power == HIGH && slip == Slip::StartAtHighPower);
-        let fault = self.error && slip != Slip::StartIgnoresErrorBit;
-        if !self.load.waits || !powered || fault {
-            return Err(NOT_NOW);
-        }
+    fn start(&mut self, now: bool, slip: Slip) -> Result<(), u8> {
         let here = i64::from(self.position()) << 16;
         let from = if self.servo_off() && slip != Slip::StartFromOldSetpoint { here } else { self.setpoint };
-        let numbers = self.velocity_loaded && self.acceleration_loaded;
-        let numbers = numbers || (self.velocity_loaded && slip == Slip::StartWithoutAcceleration);
+        if !self.can_start(from, now, slip) {
+            return Err(NOT_NOW);
+        }
         let load = self.load.clone();
         match load.way {
-            Way::Pwm => {
-                if !load.pwm_carried && slip != Slip::StartWithoutPwm {
-                    return Err(NOT_NOW);
-                }
-                let before = self.clone();
-                self.go_off(Slip::None);
-                self.mode = Mode::Pwm;
-                self.pwm = signed(i64::from(load.pwm), load.reverse);
-                if slip == Slip::PwmStartKeepsOutput {
-                    self.output = before.output;
-                }
-                if slip == Slip::PwmStartKeepsMemory {
-                    self.previous_error = before.previous_error;
-                }
-            }
+            Way::Pwm => self.start_pwm(&load, slip),
             Way::Velocity => {
-                if !numbers || (self.speed != 0 && slip == Slip::VelocityNeedsRest) {
-                    return Err(NOT_NOW);
-                }
-                self.mode = Mode::Velocity;
-                self.setpoint = from;
+                either(load.reverse, Branch::StartsVelocityReversed, Branch::StartsVelocity);
+                self.start_profile(Mode::Velocity, from);
                 self.goal_speed = signed(i64::from(self.velocity), load.reverse);
-                self.running_acceleration = self.acceleration;
-                self.pwm = 0;
             }
             Way::Trapezoid => {
-                let judged = if slip == Slip::HalfTurnFromOldSetpoint { self.setpoint } else { from };
-                let half_turn = load.position.wrapping_sub(whole(judged)) == HALF_TURN && slip != Slip::HalfTurnTaken;
-                let at_rest = self.speed == 0 || slip == Slip::TrapezoidWhileMoving;
-                let goes = self.velocity > 0 || slip == Slip::TrapezoidWithoutSpeed;
-                if !(numbers && load.position_carried && goes && at_rest && !half_turn) {
-                    return Err(NOT_NOW);
-                }
-                self.mode = Mode::Trapezoid;
-                self.setpoint = from;
+                either(load.reverse, Branch::StartsTrapezoidReversed, Branch::StartsTrapezoid);
+                self.start_profile(Mode::Trapezoid, from);
                 self.goal = load.position;
-                self.running_acceleration = self.acceleration;
                 self.top = self.velocity;
-                self.pwm = 0;
             }
         }
         if slip != Slip::StartTwice {
@@ -338,8 +395,31 @@ impl Servo {
         Ok(())
     }
 
+    fn start_pwm(&mut self, load: &Load, slip: Slip) {
+        either(load.reverse, Branch::StartsPwmReversed, Branch::StartsPwm);
+        let before = self.clone();
+        self.go_off(Slip::None);
+        self.mode = Mode::Pwm;
+        self.pwm = signed(i64::from(load.pwm), load.reverse);
+        if slip == Slip::PwmStartKeepsOutput {
+            self.output = before.output;
+        }
+        if slip == Slip::PwmStartKeepsMemory {
+            self.previous_error = before.previous_error;
+        }
+    }
+
+    /// What every profile begins with.
+    fn start_profile(&mut self, mode: Mode, from: i64) {
+        either(self.servo_off(), Branch::FromServoOff, Branch::FromServoOn);
+        self.mode = mode;
+        self.setpoint = from;
+        self.running_acceleration = self.acceleration;
+        self.pwm = 0;
+    }
+
     fn set_gain(&mut self, data: &[u8], slip: Slip) -> Result<(), u8> {
-        let [.., ol, cl, _, _, sr, db, sm] = *data else { return Err(MALFORMED) };
+        let [.., ol, cl, _, _, sr, db, sm] = *data else { unreachable!("fifteen bytes") };
         let gains = Gains {
             kp: two(data),
             kd: two(&data[2..]),
@@ -350,85 +430,148 @@ impl Servo {
             el: two(&data[10..]),
             sm,
         };
-        let in_range = [gains.kp, gains.kd, gains.ki, gains.il].iter().all(|gain| *gain <= 32_767);
-        let limit = gains.el <= 16_383 || (gains.el <= 32_767 && slip == Slip::ErrorLimitTo32767);
-        let fixed = (sr == 1 || slip == Slip::ServoRateOfAnySize) && db == 0;
         if slip == Slip::GainStoredWhileTested && gains.kp <= 32_767 {
             self.gains.kp = gains.kp;
         }
-        if !(in_range && limit && fixed) {
+        let in_range = all_hold(&[
+            (gains.kp <= 32_767, Branch::GainKp),
+            (gains.kd <= 32_767, Branch::GainKd),
+            (gains.ki <= 32_767, Branch::GainKi),
+            (gains.il <= 32_767, Branch::GainIl),
+            (gains.el <= if slip == Slip::ErrorLimitTo32767 { 32_767 } else { 16_383 }, Branch::GainEl),
+            (sr == 1 || slip == Slip::ServoRateOfAnySize, Branch::GainSr),
+            (db == 0, Branch::GainDb),
+        ]);
+        if !in_range {
             return Err(MALFORMED);
         }
+        reach(Branch::GainsStored);
         self.gains = gains;
         Ok(())
     }
 
     fn stop(&mut self, data: &[u8], slip: Slip) -> Result<(), u8> {
-        let [control, rest @ ..] = data else { return Err(MALFORMED) };
+        let [control, rest @ ..] = data else {
+            reach(Branch::StopEmpty);
+            return Err(MALFORMED);
+        };
         let kinds = control >> 1 & 15;
-        let several = kinds.count_ones() > 1 && slip != Slip::StopOfTwoKinds;
         let here = control >> 4 & 1 == 1;
-        if several || control >> 5 != 0 || rest.len() != if here { 4 } else { 0 } {
+        let well_formed = all_hold(&[
+            (kinds.count_ones() <= 1 || slip == Slip::StopOfTwoKinds, Branch::StopSeveral),
+            (control >> 5 == 0, Branch::StopUpperBits),
+            (!here || rest.len() == 4, Branch::StopHereCount),
+            (here || rest.is_empty(), Branch::StopCount),
+        ]);
+        if !well_formed {
             return Err(MALFORMED);
         }
-        let at = self.position();
-        match kinds {
-            0 => {}
-            kind if kind & 1 != 0 => self.go_off(slip),
-            kind if kind & 2 != 0 => {
-                let at = if slip == Slip::AbruptHoldsSetpoint { whole(self.setpoint) } else { at };
-                self.hold(at, slip)?;
-            }
-            kind if kind & 4 != 0 => match self.mode {
-                Mode::Off => {}
-                Mode::Pwm if slip == Slip::SmoothLeavesPwm => {}
-                Mode::Pwm => self.go_off(slip),
-                Mode::Holding | Mode::Velocity | Mode::Trapezoid => {
-                    self.mode = Mode::Velocity;
-                    self.goal_speed = 0;
-                    if slip == Slip::SmoothWithLaterAcceleration {
-                        self.running_acceleration = self.acceleration;
-                    }
-                }
-            },
-            _ => self.hold(u32::from_le_bytes(rest.try_into().expect("four bytes")), slip)?,
-        }
+        self.stop_motion(kinds, rest, slip)?;
         if (kinds != 0 && slip != Slip::StopKeepsLoad) || slip == Slip::AmplifierDropsLoad {
             self.load = Load::default();
         }
         self.amplifier = control & 1 == 1 || (self.amplifier && slip == Slip::StopNeverDisables);
+        either(self.amplifier, Branch::StopSetsAmplifier, Branch::StopClearsAmplifier);
         Ok(())
+    }
+
+    fn stop_motion(&mut self, kinds: u8, rest: &[u8], slip: Slip) -> Result<(), u8> {
+        if self.load.waits {
+            either(kinds == 0, Branch::StopKeepsLoad, Branch::StopDropsLoad);
+        }
+        match kinds {
+            0 => reach(Branch::StopAmplifier),
+            kind if kind & 1 != 0 => {
+                reach(Branch::StopOff);
+                self.go_off(slip);
+            }
+            kind if kind & 2 != 0 => {
+                reach(Branch::StopAbrupt);
+                let at = if slip == Slip::AbruptHoldsSetpoint { whole(self.setpoint) } else { self.position() };
+                self.hold(at, slip)?;
+            }
+            kind if kind & 4 != 0 => self.stop_smoothly(slip),
+            _ => {
+                reach(Branch::StopHere);
+                self.hold(u32::from_le_bytes(rest.try_into().expect("four bytes")), slip)?;
+            }
+        }
+        Ok(())
+    }
+
+    fn stop_smoothly(&mut self, slip: Slip) {
+        reach(match self.mode {
+            Mode::Off => Branch::SmoothOff,
+            Mode::Pwm => Branch::SmoothPwm,
+            Mode::Holding => Branch::SmoothHolding,
+            Mode::Velocity => Branch::SmoothVelocity,
+            Mode::Trapezoid => Branch::SmoothTrapezoid,
+        });
+        match self.mode {
+            Mode::Off => {}
+            Mode::Pwm if slip == Slip::SmoothLeavesPwm => {}
+            Mode::Pwm => self.go_off(slip),
+            Mode::Holding | Mode::Velocity | Mode::Trapezoid => {
+                self.mode = Mode::Velocity;
+                self.goal_speed = 0;
+                if slip == Slip::SmoothWithLaterAcceleration {
+                    self.running_acceleration = self.acceleration;
+                }
+            }
+        }
+    }
+
+    fn pwm_output(&self, slip: Slip) -> i64 {
+        let limit = if slip == Slip::PwmUnlimited { 255 } else { i64::from(self.gains.ol) };
+        if self.pwm.abs() > limit {
+            reach(Branch::TickPwmHeld);
+        }
+        held(self.pwm, limit)
     }
 
     /// One step of the profile: the new speed, and the setpoint moved by it.
     fn profile(&mut self, slip: Slip) {
         let old_speed = self.speed;
-        let a = i64::from(self.running_acceleration);
         match self.mode {
             Mode::Velocity => {
+                let a = i64::from(self.running_acceleration);
                 let change = self.goal_speed - self.speed;
+                either(change.abs() > a, Branch::SpeedByAcceleration, Branch::SpeedToGoal);
                 self.speed += if slip == Slip::VelocityPassesGoal { change.signum() * a } else { held(change, a) };
             }
-            Mode::Trapezoid => {
-                let d = self.distance();
-                let top = match slip {
-                    Slip::LaterVelocityUsed => self.velocity,
-                    Slip::TrapezoidWithoutTop => SPEED_MOST,
-                    _ => self.top,
-                };
-                let within = if slip == Slip::TrapezoidStopsLate { d.abs() + a } else { d.abs() };
-                self.speed = signed(greatest_speed(self.speed.abs(), a, i64::from(top), within), d < 0);
-            }
+            Mode::Trapezoid => self.speed = self.trapezoid_speed(slip),
             Mode::Off | Mode::Pwm | Mode::Holding => {}
         }
         let step = if slip == Slip::OldSpeedMoves { old_speed } else { self.speed };
         self.setpoint = (self.setpoint + step).rem_euclid(SETPOINTS);
     }
 
+    fn trapezoid_speed(&self, slip: Slip) -> i64 {
+        let (d, v, a) = (self.distance(), self.speed.abs(), i64::from(self.running_acceleration));
+        let top = i64::from(match slip {
+            Slip::LaterVelocityUsed => self.velocity,
+            Slip::TrapezoidWithoutTop => SPEED_MOST,
+            _ => self.top,
+        });
+        let within = if slip == Slip::TrapezoidStopsLate { d.abs() + a } else { d.abs() };
+        let w = greatest_speed(v, a, top, within);
+        reach(if w == v + a {
+            Branch::TrapezoidFaster
+        } else if w == top {
+            Branch::TrapezoidAtTop
+        } else if w == (v - a).max(0) {
+            Branch::TrapezoidSlower
+        } else {
+            Branch::TrapezoidBetween
+        });
+        signed(w, either(d < 0, Branch::TrapezoidMirrored, Branch::TrapezoidForward))
+    }
+
     fn filter(&mut self, setpoint: i64, slip: Slip) {
         let e = i64::from(whole(setpoint).wrapping_sub(self.position()) as i32);
         let gains = &self.gains;
         if e.abs() > i64::from(gains.el) || (e.abs() == i64::from(gains.el) && slip == Slip::TripAtLimit) {
+            either(e > 0, Branch::TripsAbove, Branch::TripsBelow);
             self.error = true;
             if slip == Slip::TripStaysOn {
                 return;
@@ -439,29 +582,72 @@ impl Servo {
             }
             return;
         }
+        reach(Branch::NoTrip);
         let limit = i64::from(if slip == Slip::IntegralUnlimited { 32_767 } else { gains.il });
+        either((self.integral + e).abs() > limit, Branch::IntegralHeld, Branch::IntegralFree);
         self.integral = held(self.integral + e, limit);
+        self.output = self.driven(e, slip);
+        self.previous_error = e;
+    }
+
+    /// The filter's output for an error, once the integral has it.
+    fn driven(&self, e: i64, slip: Slip) -> i64 {
+        let gains = &self.gains;
         let change = e - self.previous_error;
         let damping = i64::from(gains.kd) * if slip == Slip::DerivativeSubtracted { -change } else { change };
         let sum = i64::from(gains.ki) * self.integral;
         let sum = if slip == Slip::IntegralDivided { sum / 256 } else { sum };
         let u = i64::from(gains.kp) * e + damping + sum;
+        if i32::try_from(u).is_err() {
+            reach(Branch::UBeyond32Bits);
+        }
+        if u < 0 && u % 256 != 0 {
+            reach(Branch::UTowardZero);
+        }
         let output = match slip {
             Slip::SumIn32Bits => i64::from(u as i32) / 256,
             Slip::ShiftForDivide => u >> 8,
             _ => u / 256,
         };
-        self.output = held(output, if slip == Slip::OutputTo255 { 255 } else { i64::from(gains.ol) });
-        self.previous_error = e;
+        let limit = if slip == Slip::OutputTo255 { 255 } else { i64::from(gains.ol) };
+        either(output.abs() > limit, Branch::OutputHeld, Branch::OutputFree);
+        held(output, limit)
     }
 
     fn move_done(&self, slip: Slip) -> bool {
         match self.mode {
-            Mode::Off => slip != Slip::MoveNotDoneOff,
-            Mode::Pwm | Mode::Holding => true,
-            Mode::Velocity => self.speed == self.goal_speed,
-            Mode::Trapezoid => self.distance() == 0 && (self.speed == 0 || slip == Slip::MoveDoneAtSpeed),
+            Mode::Off => {
+                reach(Branch::DoneOff);
+                slip != Slip::MoveNotDoneOff
+            }
+            Mode::Pwm => {
+                reach(Branch::DonePwm);
+                true
+            }
+            Mode::Holding => {
+                reach(Branch::DoneHolding);
+                true
+            }
+            Mode::Velocity => either(self.speed == self.goal_speed, Branch::DoneVelocity, Branch::NotDoneVelocity),
+            Mode::Trapezoid if self.distance() != 0 => {
+                reach(Branch::NotDoneDistance);
+                false
+            }
+            Mode::Trapezoid => {
+                either(self.speed == 0, Branch::DoneTrapezoid, Branch::NotDoneSpeed) || slip == Slip::MoveDoneAtSpeed
+            }
         }
+    }
+}
+
+/// How a command of the servo's is malformed.
+fn malformed_as(code: u8) -> Branch {
+    match code {
+        0 => Branch::ResetPositionCount,
+        5 => Branch::StartCount,
+        6 => Branch::SetGainCount,
+        11 => Branch::ClearBitsCount,
+        _ => Branch::ServoUnknown,
     }
 }
 
@@ -523,21 +709,26 @@ impl Device for Servo {
         match (code, data.len()) {
             (0, 0) => self.reset_position(slip),
             (4, _) => self.load_trajectory(data, slip),
-            (5, 0) => self.start(slip),
+            (5, 0) => self.start(false, slip),
             (6, 15) => self.set_gain(data, slip),
             (7, _) => self.stop(data, slip),
             (11, 0) => {
+                reach(Branch::ClearBits);
                 if slip != Slip::ClearBitsNeedsServo || !self.servo_off() {
                     self.error = false;
                 }
                 Ok(())
             }
             (8 | 9 | 12 | 13, _) if slip == Slip::UnknownCodeExecuted => Ok(()),
-            _ => Err(MALFORMED),
+            _ => {
+                reach(malformed_as(code));
+                Err(MALFORMED)
+            }
         }
     }
 
     fn hard_reset(&mut self, slip: Slip) {
+        reach(Branch::ServoReset);
         let before = self.clone();
         *self = Servo::power_up();
         if slip != Slip::ResetDropsWaitingSample {
@@ -558,6 +749,14 @@ impl Device for Servo {
     }
 
     fn item(&self, bit: usize, slip: Slip) -> Vec<u8> {
+        reach(match bit {
+            0 => Branch::ServoPosition,
+            1 => Branch::ServoAd,
+            2 => Branch::ServoChange,
+            4 => Branch::ServoHome,
+            6 => Branch::ServoError,
+            _ => Branch::ServoZero,
+        });
         match bit {
             0 if slip == Slip::PositionIsRaw => self.latched.raw.to_le_bytes().to_vec(),
             0 => self.position().to_le_bytes().to_vec(),
@@ -572,6 +771,8 @@ impl Device for Servo {
 
     fn status_bits(&self, slip: Slip) -> u8 {
         let good = self.latched.power == GOOD || (self.latched.power == HIGH && slip == Slip::HighPowerIsGood);
+        either(good, Branch::PowerGood, Branch::PowerNotGood);
+        either(self.error, Branch::ErrorBitSet, Branch::ErrorBitClear);
         u8::from(self.move_done(slip)) | u8::from(good) << 3 | u8::from(self.error) << 4
     }
 
@@ -582,6 +783,7 @@ impl Device for Servo {
             self.waiting = ServoSample::default();
         }
         if self.latched.power == LOW || (self.latched.power == HIGH && slip == Slip::HighPowerGoesOff) {
+            reach(Branch::TickPowerLow);
             self.go_off(slip);
             self.amplifier &= slip == Slip::LowPowerKeepsAmplifier;
             if slip == Slip::LowPowerDropsLoad {
@@ -589,12 +791,16 @@ impl Device for Servo {
             }
             return;
         }
+        reach(match self.mode {
+            Mode::Off => Branch::TickOff,
+            Mode::Pwm => Branch::TickPwm,
+            Mode::Holding => Branch::TickHolding,
+            Mode::Velocity => Branch::TickVelocity,
+            Mode::Trapezoid => Branch::TickTrapezoid,
+        });
         match self.mode {
             Mode::Off => {}
-            Mode::Pwm => {
-                let limit = if slip == Slip::PwmUnlimited { 255 } else { i64::from(self.gains.ol) };
-                self.output = held(self.pwm, limit);
-            }
+            Mode::Pwm => self.output = self.pwm_output(slip),
             Mode::Holding | Mode::Velocity | Mode::Trapezoid => {
                 let before = self.setpoint;
                 self.profile(slip);
@@ -604,13 +810,19 @@ impl Device for Servo {
             }
         }
         if self.latched.power == HIGH && slip != Slip::HighPowerDrives {
+            reach(Branch::TickPowerHigh);
             self.output = 0;
         }
     }
 
     fn outputs(&self, slip: Slip) -> [u8; 8] {
-        let enabled = self.amplifier && (self.latched.power == GOOD || slip == Slip::EnabledAtAnyPower);
+        let good = self.latched.power == GOOD || slip == Slip::EnabledAtAnyPower;
+        reach(match (self.amplifier, good) {
+            (false, _) => Branch::EnableLow,
+            (true, false) => Branch::EnableLowByPower,
+            (true, true) => Branch::EnableHigh,
+        });
         let size = u8::try_from(self.output.abs()).expect("at most 255");
-        [size, u8::from(self.output < 0), u8::from(enabled), 0, 0, 0, 0, 0]
+        [size, u8::from(self.output < 0), u8::from(self.amplifier && good), 0, 0, 0, 0, 0]
     }
 }

@@ -1,6 +1,7 @@
 //! What every module type has, and what makes a type.
 
 use super::line::{sum, Frame};
+use crate::branches::{either, reach, uncounted, Branch};
 use crate::slips::Slip;
 
 pub const EXECUTED: u8 = 0;
@@ -29,6 +30,7 @@ impl Station {
         self.individual = individual;
         self.group = if slip == Slip::GroupAsSent { group } else { group | 0x80 };
         self.leader = (group < 0x80) != (slip == Slip::LeaderFrom128);
+        reach(if self.leader { Branch::SetAddressLeader } else { Branch::SetAddressMember });
         self.low |= slip != Slip::SetAddressLeavesAddrOut;
     }
 
@@ -36,10 +38,13 @@ impl Station {
         if slip == Slip::GroupFirst && self.group == address {
             Some(Touch::ByGroup)
         } else if self.individual == address {
+            either(self.group == address, Branch::TouchedByBoth, Branch::TouchedIndividually);
             Some(Touch::Individually)
         } else if self.group == address {
+            reach(Branch::TouchedByGroup);
             Some(Touch::ByGroup)
         } else {
+            reach(Branch::NotTouched);
             None
         }
     }
@@ -58,6 +63,31 @@ fn keeps_a_part(code: u8, cause: u8, slip: Slip) -> bool {
         Slip::RefusedStartKeepsLoad => code == 4 && cause == NOT_NOW,
         Slip::GainStoredWhileTested => code == 6 && cause == MALFORMED,
         _ => false,
+    }
+}
+
+/// How a command of every type is malformed.
+fn malformed_as(code: u8, touch: Touch) -> Branch {
+    match (code, touch) {
+        (1, _) => Branch::SetAddressCount,
+        (2, _) => Branch::DefineStatusCount,
+        (3, _) => Branch::ReadStatusCount,
+        (10, Touch::ByGroup) => Branch::SetBaudCount,
+        (10, Touch::Individually) => Branch::SetBaudAlone,
+        (14, _) => Branch::NoOpCount,
+        _ => Branch::HardResetCount,
+    }
+}
+
+/// How a frame ends up with its cause, given the one that it would have undamaged.
+fn cause_as(damaged: bool, cause: u8) -> Branch {
+    match (damaged, cause) {
+        (false, EXECUTED) => Branch::Executed,
+        (false, MALFORMED) => Branch::Malformed,
+        (false, _) => Branch::NotNow,
+        (true, EXECUTED) => Branch::DamagedThoughFit,
+        (true, MALFORMED) => Branch::DamagedAndMalformed,
+        (true, _) => Branch::DamagedAndNotNow,
     }
 }
 
@@ -90,20 +120,31 @@ pub trait Device: Clone {
         }
         match (frame.code, data) {
             (1, [individual, group]) => self.station_mut().set_address(*individual, *group, slip),
-            (2, [items]) => self.station_mut().items = *items,
+            (2, [items]) => {
+                reach(Branch::DefineStatus);
+                self.station_mut().items = *items;
+            }
             (3, [items]) => {
+                reach(Branch::ReadStatus);
                 if slip == Slip::ReadStatusKept {
                     self.station_mut().items = *items;
                 }
             }
             (10, [rate]) if touch == Touch::ByGroup || slip == Slip::BaudIndividually => {
+                reach(Branch::SetBaud);
                 if slip != Slip::BaudNotStored {
                     self.station_mut().baud = *rate;
                 }
             }
-            (14, []) => {}
-            (15, []) => self.hard_reset(slip),
-            (1 | 2 | 3 | 10 | 14 | 15, _) => return Err(MALFORMED),
+            (14, []) => reach(Branch::NoOp),
+            (15, []) => {
+                reach(Branch::HardReset);
+                self.hard_reset(slip);
+            }
+            (code @ (1 | 2 | 3 | 10 | 14 | 15), _) => {
+                reach(malformed_as(code, touch));
+                return Err(MALFORMED);
+            }
             (code, data) => return self.command(code, data, slip),
         }
         Ok(())
@@ -112,10 +153,16 @@ pub trait Device: Clone {
     /// The frame met; whatever its cause is, only an executed one leaves more than the cause behind.
     fn meet(&mut self, frame: &Frame, touch: Touch, slip: Slip) {
         let mut after = self.clone();
-        let mut cause = match after.perform(frame, touch, slip) {
+        let outcome = if frame.damaged {
+            uncounted(|| after.perform(frame, touch, slip))
+        } else {
+            after.perform(frame, touch, slip)
+        };
+        let mut cause = match outcome {
             Ok(()) => EXECUTED,
             Err(cause) => cause,
         };
+        reach(cause_as(frame.damaged, cause));
         if cause == EXECUTED && (!frame.damaged || slip == Slip::DamagedIsExecuted) {
             if slip == Slip::CauseStays && self.station().cause != EXECUTED && frame.code != 15 {
                 cause = self.station().cause;
@@ -135,13 +182,20 @@ pub trait Device: Clone {
         let fault = station.cause != EXECUTED;
         // only an executed Read Status chooses items for its own reply
         let items = match (fault, frame.code, frame.data.first()) {
-            (false, 3, Some(items)) => *items,
-            _ => station.items,
+            (false, 3, Some(items)) => {
+                reach(Branch::ItemsAskedFor);
+                *items
+            }
+            (_, code, _) => {
+                either(code == 3, Branch::ItemsAfterRefusedRead, Branch::ItemsDefined);
+                station.items
+            }
         };
         let mut reply = vec![self.status_bits(slip) | u8::from(fault) << 1];
         for bit in 0..8 {
             if items >> bit & 1 == 1 {
                 if bit == 5 {
+                    reach(Branch::TypeAndVersion);
                     let mut pair = [Self::TYPE, Self::VERSION];
                     if slip == Slip::VersionBeforeType {
                         pair.reverse();

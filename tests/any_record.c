@@ -1,0 +1,444 @@
+/*
+ * Any bytes at all as a record: every call upon them refuses with a documented number and changes
+ * nothing, or answers; nothing beyond what was lent is touched.
+ *
+ * Everything is lent in blocks of exactly the length that is given. "fenced" puts them against
+ * pages that may not be touched, so that one byte too far ends the program, whoever compiled what
+ * made it; "malloc" takes them from the heap, for a memory checker to watch.
+ *
+ *     any_record fenced|malloc ROUNDS
+ */
+#define _DEFAULT_SOURCE
+#include "doljurven.h"
+
+#include <stdio.h>
+#include <stdlib.h>
+#include <string.h>
+#include <sys/mman.h>
+#include <unistd.h>
+
+enum { SLOT = 128, FIRST_SLOT = 20, COUNT = 19, NUMBERS = 20 };
+
+static int fenced;
+static unsigned long calls, surprises, given[NUMBERS];
+
+/* ---------------------------------------------------------------- dice */
+
+static uint64_t dice_state = 0x00D017C3;
+
+static uint64_t throw_dice(void)
+{
+    uint64_t z = dice_state += 0x9E3779B97F4A7C15u;
+    z = (z ^ (z >> 30)) * 0xBF58476D1CE4E5B9u;
+    z = (z ^ (z >> 27)) * 0x94D049BB133111EBu;
+    return z ^ (z >> 31);
+}
+
+static uint32_t below(uint32_t end)
+{
+    return (uint32_t)(throw_dice() % end);
+}
+
+static uint32_t pick(const uint32_t *from, size_t size)
+{
+    return from[below((uint32_t)(size / sizeof *from))];
+}
+
+#define PICK(...) pick((const uint32_t[]){__VA_ARGS__}, sizeof((const uint32_t[]){__VA_ARGS__}))
+
+static void any_bytes(uint8_t *bytes, size_t len)
+{
+    for (size_t i = 0; i < len; i++)
+        bytes[i] = (uint8_t)throw_dice();
+}
+
+/* ---------------------------------------------------------------- what is lent */
+
+struct lent {
+    uint8_t *bytes, *before, *pages;
+    size_t len, mapped;
+};
+
+/* A block of exactly so many bytes, against the fence behind it or the one before it. */
+static struct lent lend(size_t len)
+{
+    struct lent lent = {NULL, malloc(len + 1), NULL, len, 0};
+    uint32_t to_the_end = below(2);
+    if (fenced) {
+        size_t page = (size_t)sysconf(_SC_PAGESIZE), inner = (len / page + 1) * page;
+        lent.mapped = inner + 2 * page;
+        lent.pages = mmap(NULL, lent.mapped, PROT_NONE, MAP_PRIVATE | MAP_ANONYMOUS, -1, 0);
+        if (lent.pages == MAP_FAILED)
+            abort();
+        if (mprotect(lent.pages + page, inner, PROT_READ | PROT_WRITE) != 0)
+            abort();
+        lent.bytes = lent.pages + page + (to_the_end ? inner - len : 0);
+    } else {
+        lent.bytes = malloc(len);
+    }
+    if (lent.bytes == NULL || lent.before == NULL)
+        abort();
+    any_bytes(lent.bytes, len);
+    return lent;
+}
+
+static void give_back(struct lent *lent)
+{
+    free(lent->before);
+    if (fenced)
+        munmap(lent->pages, lent->mapped);
+    else
+        free(lent->bytes);
+}
+
+static void remember(struct lent *lent)
+{
+    memcpy(lent->before, lent->bytes, lent->len);
+}
+
+static int unchanged_from(const struct lent *lent, size_t from)
+{
+    return memcmp(lent->bytes + from, lent->before + from, lent->len - from) == 0;
+}
+
+/* ---------------------------------------------------------------- verdicts */
+
+static void surprise(const char *call, const char *what, uint32_t number)
+{
+    surprises++;
+    printf("%s gave %lu: %s\n", call, (unsigned long)number, what);
+}
+
+/* The number is one of those that the call may give, which are written as bits. */
+static void documented(const char *call, uint32_t number, uint32_t numbers)
+{
+    calls++;
+    if (number >= NUMBERS || (numbers >> number & 1) == 0)
+        surprise(call, "no such number", number);
+    else
+        given[number]++;
+}
+
+#define BIT(number) (1u << (number))
+
+static int refused(uint32_t number)
+{
+    return number >= NMC_BAD_CHAIN;
+}
+
+/* A refusal leaves the record alone; after an answer the library still takes it. */
+static void record_after(const char *call, struct lent *net, uint32_t number)
+{
+    uint8_t outputs[NMC_OUTPUTS_LEN];
+    if (refused(number) && !unchanged_from(net, 0))
+        surprise(call, "refused, and the record changed", number);
+    if (!refused(number) && nmc_outputs(net->bytes, net->len, 0, outputs) != NMC_DONE)
+        surprise(call, "the record is not taken any more", number);
+}
+
+/* What a call wrote into a room, and how much it says that it did. */
+static void room_after(const char *call, struct lent *room, uint32_t number, size_t written)
+{
+    if (refused(number) && written != 0)
+        surprise(call, "refused, and a length is reported", number);
+    if (written > room->len)
+        surprise(call, "more is reported than there is room", number);
+    else if (!unchanged_from(room, written))
+        surprise(call, "the room changed behind what is reported", number);
+}
+
+/* ---------------------------------------------------------------- every call upon a record */
+
+static void call_byte(struct lent *net, uint8_t byte)
+{
+    struct lent room =
+        lend(below(12) ? NMC_ROOM_LEN : PICK(0, 1, NMC_ROOM_LEN - 1, NMC_ROOM_LEN + 1));
+    size_t written = 77;
+    remember(net);
+    remember(&room);
+    uint32_t mark = PICK(0, 0, 0, 0, 0, 0, 0, 0, 1, 2, 0xFFFFFFFFu);
+    uint32_t number = nmc_byte(net->bytes, net->len, mark, byte, room.bytes, room.len, &written);
+    documented("byte", number,
+               BIT(NMC_DONE) | BIT(NMC_FRAME) | BIT(NMC_DAMAGED) | BIT(NMC_BAD_FIELD) |
+                   BIT(NMC_SHORT_ROOM) | BIT(NMC_BAD_RECORD));
+    record_after("byte", net, number);
+    room_after("byte", &room, number, written);
+    give_back(&room);
+}
+
+static void call_samples(struct lent *net)
+{
+    uint32_t numbers =
+        BIT(NMC_DONE) | BIT(NMC_BAD_PLACE) | BIT(NMC_BAD_FIELD) | BIT(NMC_BAD_RECORD);
+    uint32_t place = PICK(0, 1, below(34), below(34), 0x80000000u, 0xFFFFFFFFu);
+    uint32_t count = (uint32_t)throw_dice();
+    uint32_t power = PICK(0, 1, 1, 2, 3, 0xFFFFFFFFu);
+    uint32_t inputs = PICK(0, below(4096), 4095, 4096, 0xFFFFFFFFu);
+    remember(net);
+    uint32_t number = nmc_servo_sample(net->bytes, net->len, place, count, power, 0x5A);
+    documented("servo sample", number, numbers);
+    record_after("servo sample", net, number);
+    remember(net);
+    number = nmc_io_sample(net->bytes, net->len, place, inputs, 1, 2, 3, count);
+    documented("I/O sample", number, numbers);
+    record_after("I/O sample", net, number);
+}
+
+static void call_tick(struct lent *net)
+{
+    remember(net);
+    uint32_t number = nmc_tick(net->bytes, net->len);
+    documented("tick", number, BIT(NMC_DONE) | BIT(NMC_BAD_RECORD));
+    record_after("tick", net, number);
+}
+
+static void call_outputs(struct lent *net)
+{
+    struct lent outputs = lend(NMC_OUTPUTS_LEN);
+    remember(net);
+    remember(&outputs);
+    uint32_t place = PICK(0, 1, below(34), 0xFFFFFFFFu);
+    uint32_t number = nmc_outputs(net->bytes, net->len, place, outputs.bytes);
+    documented("outputs", number, BIT(NMC_DONE) | BIT(NMC_BAD_PLACE) | BIT(NMC_BAD_RECORD));
+    if (!unchanged_from(net, 0))
+        surprise("outputs", "the record changed", number);
+    if (refused(number) && !unchanged_from(&outputs, 0))
+        surprise("outputs", "refused, and the outputs changed", number);
+    give_back(&outputs);
+}
+
+static void call_setup(struct lent *net)
+{
+    struct lent types = lend(PICK(0, 1, 2, 5, 32, 33, 200));
+    for (size_t i = 0; i < types.len; i++)
+        types.bytes[i] = below(40) ? (uint8_t)(2 * below(2)) : (uint8_t)throw_dice();
+    remember(net);
+    remember(&types);
+    uint32_t number = nmc_setup(net->bytes, net->len, types.bytes, types.len);
+    documented("setup", number,
+               BIT(NMC_DONE) | BIT(NMC_BAD_CHAIN) | BIT(NMC_BAD_TYPE) | BIT(NMC_BAD_RECORD));
+    record_after("setup", net, number);
+    if (!unchanged_from(&types, 0))
+        surprise("setup", "the types changed", number);
+    give_back(&types);
+}
+
+/* A frame that the first module may hear, if the record is long enough to have one. */
+static void call_frame(struct lent *net)
+{
+    uint8_t frame[NMC_FRAME_LEN], data[15];
+    size_t frame_len = 0, station = FIRST_SLOT + 1 + below(2);
+    uint32_t address = net->len > station ? net->bytes[station] : below(256);
+    any_bytes(frame, sizeof frame);
+    any_bytes(data, sizeof data);
+    uint32_t code = below(16), data_len = PICK(0, 0, 1, 1, 2, 4, 5, 13, 15);
+    nmc_write_frame(address, code, data, data_len, frame, sizeof frame, &frame_len);
+    for (size_t i = 0; i < frame_len; i++)
+        call_byte(net, below(40) ? frame[i] : (uint8_t)throw_dice());
+}
+
+/* Some calls one after another, so that what is taken goes on from where it is. */
+static void every_call(struct lent *net)
+{
+    call_outputs(net);
+    call_tick(net);
+    call_samples(net);
+    call_frame(net);
+    call_tick(net);
+    call_outputs(net);
+    if (below(4) == 0)
+        call_setup(net);
+}
+
+/* ---------------------------------------------------------------- calls without a record */
+
+static void call_writer(void)
+{
+    struct lent data = lend(PICK(0, 1, below(16), 15, 16, 300));
+    struct lent room = lend(PICK((uint32_t)data.len + 4, (uint32_t)data.len + 3, below(24), 0));
+    size_t written = 77;
+    remember(&data);
+    remember(&room);
+    uint32_t address = PICK(0, below(256), 255, 256, 0xFFFFFFFFu);
+    uint32_t code = PICK(0, below(16), 15, 16, 0xFFFFFFFFu);
+    uint32_t number =
+        nmc_write_frame(address, code, data.bytes, data.len, room.bytes, room.len, &written);
+    documented("writer", number, BIT(NMC_DONE) | BIT(NMC_BAD_FRAME) | BIT(NMC_SHORT_ROOM));
+    room_after("writer", &room, number, written);
+    if (number == NMC_DONE && written != data.len + 4)
+        surprise("writer", "another length than that of the frame", number);
+    if (!unchanged_from(&data, 0))
+        surprise("writer", "the data changed", number);
+    give_back(&data);
+    give_back(&room);
+}
+
+static void call_reader(void)
+{
+    struct lent reply = lend(PICK(2, 2, below(22))), reading = lend(NMC_READING_LEN);
+    uint8_t sum = 0;
+    for (size_t i = 0; i + 1 < reply.len; i++)
+        sum = (uint8_t)(sum + reply.bytes[i]);
+    if (reply.len > 0 && below(2))
+        reply.bytes[reply.len - 1] = sum;
+    remember(&reply);
+    uint32_t type = PICK(0, 2, 2, 1, 0xFFFFFFFFu);
+    uint8_t items = (uint8_t)PICK(0, 1, 2, 0xFF, below(256));
+    uint32_t number = nmc_read_status(type, items, reply.bytes, reply.len, reading.bytes);
+    documented("status reader", number,
+               BIT(NMC_DONE) | BIT(NMC_BAD_TYPE) | BIT(NMC_BAD_LENGTH) | BIT(NMC_BAD_SUM));
+    for (size_t i = 0; refused(number) && i < reading.len; i++)
+        if (reading.bytes[i] != 0)
+            surprise("status reader", "refused, and the reading is not all 0", number);
+    if (!unchanged_from(&reply, 0))
+        surprise("status reader", "the reply changed", number);
+    give_back(&reply);
+    give_back(&reading);
+}
+
+/* ---------------------------------------------------------------- records */
+
+/* Four bytes of a number that is at most so large, with or without a sign. */
+static void put_within(uint8_t *at, uint32_t most, int may_be_negative)
+{
+    uint32_t number = PICK(0, 1, most, below(most + 1));
+    if (may_be_negative && below(2))
+        number = 0u - number;
+    for (int i = 0; i < 4; i++)
+        at[i] = (uint8_t)(number >> 8 * i);
+}
+
+/* Whatever the slot holds, its fields brought into their ranges: docs/RECORD.md. */
+static void range_servo(uint8_t *slot)
+{
+    static const uint8_t flags[] = {3, 4, 49, 50, 51, 53, 58, 60, 104, 105};
+    static const uint8_t high_bytes[] = {29, 31, 33, 35};
+    const uint32_t rate = 83886080u;
+    for (size_t i = 0; i < sizeof flags; i++)
+        slot[flags[i]] &= 1;
+    for (size_t i = 0; i < sizeof high_bytes; i++)
+        slot[high_bytes[i]] &= 0x7F;
+    slot[0] = NMC_TYPE_SERVO;
+    slot[5] &= 3;
+    slot[12] %= 3;
+    slot[18] = (uint8_t)PICK(0, 1, 1, 1, 1, 2);
+    slot[38] &= 0x3F;
+    put_within(slot + 41, rate, 0);
+    put_within(slot + 45, rate - 1, 0);
+    slot[45] |= 1; /* a loaded acceleration is not 0 */
+    slot[52] %= 3;
+    slot[95] = slot[18] == 0 ? 0 : (uint8_t)below(5);
+    put_within(slot + 67, slot[95] >= 3 ? rate : 0, 1);
+    put_within(slot + 75, rate, 1);
+    put_within(slot + 79, rate, 0);
+    put_within(slot + 83, rate, 0);
+    put_within(slot + 87, slot[95] >= 2 ? 32767 : 0, 1);
+    put_within(slot + 91, slot[95] >= 2 ? 16383 : 0, 1);
+    put_within(slot + 96, slot[95] == 1 ? 255 : 0, 1);
+    put_within(slot + 100, slot[95] != 0 && slot[18] == 1 ? 255 : 0, 1);
+    if (slot[95] != 0)
+        slot[104] = 0;
+}
+
+static void range_io(uint8_t *slot)
+{
+    static const uint8_t high_bytes[] = {9, 18, 27, 29, 33, 38};
+    slot[0] = NMC_TYPE_IO;
+    slot[3] &= 1;
+    slot[4] &= 1;
+    slot[5] &= 3;
+    for (size_t i = 0; i < sizeof high_bytes; i++)
+        slot[high_bytes[i]] &= 0x0F;
+}
+
+/* Random bytes with every field in its range; what fields ask of each other is left to the dice. */
+static void range_record(struct lent *net)
+{
+    uint8_t *bytes = net->bytes;
+    bytes[COUNT] = (uint8_t)PICK(1, 2, 3, 32, 1 + below(32));
+    if (below(2))
+        memset(bytes, 0, COUNT);
+    bytes[17] = bytes[17] ? (uint8_t)(1 + below(3u + (bytes[16] >> 4))) : 0;
+    bytes[18] &= 1;
+    if (bytes[17] == 0)
+        memset(bytes, 0, COUNT);
+    for (int place = 0; place < bytes[COUNT]; place++) {
+        uint8_t *slot = bytes + FIRST_SLOT + SLOT * place;
+        if (below(2))
+            range_servo(slot);
+        else
+            range_io(slot);
+    }
+}
+
+/* A record that was reached from setup. */
+static void reach_record(struct lent *net)
+{
+    uint8_t types[NMC_MOST_MODULES], frame[NMC_FRAME_LEN], data[15], room[NMC_ROOM_LEN];
+    size_t chain = PICK(1, 2, 3, 32), frame_len, written;
+    for (size_t i = 0; i < chain; i++)
+        types[i] = (uint8_t)(2 * below(2));
+    if (nmc_setup(net->bytes, net->len, types, chain) != NMC_DONE)
+        surprise("setup", "of a good chain", NMC_DONE);
+    for (int frames = 0; frames < 12; frames++) {
+        size_t place = below((uint32_t)chain);
+        any_bytes(data, sizeof data);
+        data[0] = (uint8_t)PICK(data[0], place + 1, 0x97, 0x36, 0xC8, 0x11, 0x05);
+        uint32_t address = PICK(0, 0, 0xFF, below(6));
+        uint32_t code = PICK(1, 1, 4, 5, 6, 7, 11, below(16));
+        nmc_write_frame(address, code, data, below(16), frame, sizeof frame, &frame_len);
+        for (size_t i = 0; i < frame_len; i++)
+            nmc_byte(net->bytes, net->len, 0, frame[i], room, sizeof room, &written);
+        nmc_servo_sample(net->bytes, net->len, (uint32_t)place, below(100), 1, 0);
+        nmc_tick(net->bytes, net->len);
+    }
+}
+
+static void change_some(struct lent *net)
+{
+    for (uint32_t times = 1 + below(3); times > 0; times--) {
+        uint32_t at = below(below(2) ? FIRST_SLOT + SLOT : NMC_NET_LEN);
+        net->bytes[at] = (uint8_t)PICK(0, 1, 2, 255, below(256));
+    }
+}
+
+static void one_round(void)
+{
+    static const uint32_t lengths[] = {0, 1, NMC_NET_LEN - 1, NMC_NET_LEN, NMC_NET_LEN + 1};
+    for (size_t i = 0; i < sizeof lengths / sizeof lengths[0]; i++) {
+        struct lent net = lend(lengths[i]);
+        every_call(&net);
+        give_back(&net);
+    }
+    struct lent net = lend(NMC_NET_LEN);
+    range_record(&net);
+    every_call(&net);
+    change_some(&net);
+    every_call(&net);
+    reach_record(&net);
+    every_call(&net);
+    change_some(&net);
+    every_call(&net);
+    give_back(&net);
+    call_writer();
+    call_reader();
+}
+
+int main(int argc, char **argv)
+{
+    if (argc != 3 || (strcmp(argv[1], "fenced") != 0 && strcmp(argv[1], "malloc") != 0)) {
+        fprintf(stderr, "any_record fenced|malloc ROUNDS\n");
+        return 2;
+    }
+    fenced = argv[1][0] == 'f';
+    for (long rounds = strtol(argv[2], NULL, 10); rounds > 0; rounds--)
+        one_round();
+    printf("%lu calls, %lu surprises; by number:", calls, surprises);
+    for (uint32_t number = 0; number < NUMBERS; number++)
+        if (number <= NMC_DAMAGED || refused(number)) {
+            printf(" %lu: %lu", (unsigned long)number, given[number]);
+            surprises += given[number] == 0; /* a number that never came was not tried */
+        }
+    printf("\n");
+    return surprises != 0;
+}

@@ -1,0 +1,203 @@
+//! What histories have come to, told from the networks before and after each call, so that a test can tell that its
+//! dice still fall everywhere.
+
+use crate::calls::{MOST_MODULES, ROOM_LEN};
+use crate::model::{Mode, Module, Network, Servo, Touch};
+
+/// What may change a servo's mode.
+#[derive(Clone, Copy, Debug, PartialEq, Eq)]
+pub enum Change {
+    Start,
+    StartNow,
+    StopOff,
+    Abrupt,
+    Smooth,
+    StopHere,
+    HardReset,
+    PowerLow,
+    Trip,
+    /// Any other frame that was executed, any that was not, and any other tick.
+    Nothing,
+}
+
+pub const CHANGES: [Change; 10] = [
+    Change::Start,
+    Change::StartNow,
+    Change::StopOff,
+    Change::Abrupt,
+    Change::Smooth,
+    Change::StopHere,
+    Change::HardReset,
+    Change::PowerLow,
+    Change::Trip,
+    Change::Nothing,
+];
+
+/// Counts by name.
+pub type Tally = Vec<(&'static str, usize)>;
+
+#[derive(Debug, Default)]
+pub struct Seen {
+    /// Frames that ended, by the chain's last place.
+    pub chains: [usize; MOST_MODULES],
+    /// Modules touched, by place.
+    pub places: [usize; MOST_MODULES],
+    /// Modules touched, by code and cause: servos, then I/O modules.
+    pub met: [[[usize; 4]; 16]; 2],
+    /// Servos touched or ticked, by what came upon them, mode before and mode after.
+    pub modes: [[[usize; 5]; 5]; CHANGES.len()],
+    /// What ticks have done to servos that ran.
+    pub running: Tally,
+    /// Numbers of servos that went round in a tick, at either end of their range or in its middle.
+    pub wraps: Tally,
+    /// Answers by their number.
+    pub numbers: [usize; 20],
+    /// Frames by how many modules replied: none, one, more.
+    pub repliers: [usize; 3],
+    pub bytes: usize,
+    pub samples: usize,
+    pub ticks: usize,
+    pub full_rooms: usize,
+    pub damaged_records: usize,
+    pub damaged_records_taken: usize,
+    pub host_calls: usize,
+}
+
+/// Adds what happened; every tally is of one list, always in the same order.
+fn add(tally: &mut Tally, happened: &[(&'static str, bool)]) {
+    if tally.is_empty() {
+        tally.extend(happened.iter().map(|(name, _)| (*name, 0)));
+    }
+    for ((_, count), (_, happened)) in tally.iter_mut().zip(happened) {
+        *count += usize::from(*happened);
+    }
+}
+
+fn change_by_frame(code: u8, data: &[u8], cause: u8) -> Change {
+    match (cause, code, data) {
+        (0, 5, _) => Change::Start,
+        (0, 4, [control, ..]) if control & 0x80 != 0 => Change::StartNow,
+        (0, 7, [control, ..]) => match control >> 1 {
+            0 => Change::Nothing,
+            1 => Change::StopOff,
+            2 => Change::Abrupt,
+            4 => Change::Smooth,
+            _ => Change::StopHere,
+        },
+        (0, 15, _) => Change::HardReset,
+        _ => Change::Nothing,
+    }
+}
+
+/// Whether a 32-bit count went over the end of its range, upward and downward, by a step that is no leap.
+fn over_end(before: u32, after: u32) -> (bool, bool) {
+    let step = after.wrapping_sub(before) as i32;
+    (step > 0 && after < before, step < 0 && after > before)
+}
+
+/// The same for a number with a sign: from 2^31 - 1 to -2^31 and back.
+fn over_half(before: u32, after: u32) -> (bool, bool) {
+    over_end(before ^ 1 << 31, after ^ 1 << 31)
+}
+
+impl Seen {
+    /// A frame that has ended; the networks tell of it before and after.
+    pub fn frame(&mut self, before: &Network, after: &Network, written: usize) {
+        let receiver = &before.receiver;
+        let (code, count) = (receiver.command & 15, usize::from(receiver.command >> 4));
+        let mut repliers = 0;
+        for (place, module) in before.modules.iter().enumerate() {
+            let Some(touch) = before.touch(place, receiver.address) else { continue };
+            self.places[place] += 1;
+            let cause = after.modules[place].station().cause;
+            let is_io = matches!(module, Module::Io(_));
+            self.met[usize::from(is_io)][usize::from(code)][usize::from(cause)] += 1;
+            if let (Module::Servo(before), Module::Servo(after)) = (module, &after.modules[place]) {
+                self.mode(change_by_frame(code, &receiver.data[..count], cause), before, after);
+            }
+            let speaks = touch == Touch::Individually || module.station().leader;
+            repliers += usize::from(speaks && !(code == 15 && cause == 0));
+        }
+        self.chains[before.modules.len() - 1] += 1;
+        self.repliers[repliers.min(2)] += 1;
+        self.full_rooms += usize::from(written == ROOM_LEN);
+    }
+
+    pub fn tick(&mut self, before: &Network, after: &Network) {
+        for pair in before.modules.iter().zip(&after.modules) {
+            let (Module::Servo(before), Module::Servo(after)) = pair else { continue };
+            let change = match (after.latched.power, after.error && !before.error) {
+                (0, _) => Change::PowerLow,
+                (_, true) => Change::Trip,
+                _ => Change::Nothing,
+            };
+            self.mode(change, before, after);
+            if before.mode != Mode::Off {
+                self.run(before, after);
+            }
+        }
+    }
+
+    fn mode(&mut self, change: Change, before: &Servo, after: &Servo) {
+        self.modes[change as usize][before.mode as usize][after.mode as usize] += 1;
+    }
+
+    fn run(&mut self, before: &Servo, after: &Servo) {
+        let (power, a) = (after.latched.power, i64::from(after.running_acceleration));
+        let (v, w) = (before.speed.abs(), after.speed.abs());
+        let trapezoid = after.mode == Mode::Trapezoid;
+        let between = w > (v - a).max(0) && w < (v + a).min(i64::from(after.top));
+        add(
+            &mut self.running,
+            &[
+                ("trip", after.error),
+                ("power lost", power == 0),
+                ("power lost with a load waiting", power == 0 && before.load.waits),
+                ("power high", power == 2),
+                ("driven again after high power", before.latched.power == 2 && after.output != 0),
+                ("arrived", trapezoid && before.distance() != 0 && after.distance() == 0),
+                ("reversed", before.speed.signum() * after.speed.signum() < 0),
+                ("output at its limit", after.output != 0 && after.output.abs() == i64::from(after.gains.ol)),
+                ("trapezoid's speed neither highest nor lowest", trapezoid && between),
+            ],
+        );
+        if !after.servo_off() {
+            self.wrap(before, after);
+        }
+    }
+
+    fn wrap(&mut self, before: &Servo, after: &Servo) {
+        let whole = |servo: &Servo| (servo.setpoint >> 16) as u32;
+        let setpoint = over_end(whole(before), whole(after));
+        let setpoint_half = over_half(whole(before), whole(after));
+        let position_half = over_half(before.position(), after.position());
+        let position = over_end(before.position(), after.position());
+        let raw = over_end(before.latched.raw, after.latched.raw);
+        let error = over_end(after.position(), whole(after));
+        let error_half = over_half(after.position(), whole(after));
+        let goal = if after.mode == Mode::Trapezoid { over_end(whole(after), after.goal) } else { (false, false) };
+        let far = after.mode == Mode::Trapezoid && after.distance().abs() > (1 << 47) - (1 << 24);
+        add(
+            &mut self.wraps,
+            &[
+                ("setpoint up over 2^48", setpoint.0),
+                ("setpoint down over 0", setpoint.1),
+                ("setpoint's whole part up over 2^31", setpoint_half.0),
+                ("setpoint's whole part down over 2^31", setpoint_half.1),
+                ("position up over 2^31", position_half.0),
+                ("position down over -2^31", position_half.1),
+                ("position up over 0", position.0),
+                ("position down over 0", position.1),
+                ("raw count up over 2^32", raw.0),
+                ("raw count down over 0", raw.1),
+                ("error over 0, setpoint ahead", error.0),
+                ("error over 0, setpoint behind", error.1),
+                ("error over 2^31, setpoint ahead", error_half.0),
+                ("error over 2^31, setpoint behind", error_half.1),
+                ("goal over 2^32", goal.0),
+                ("goal over 0", goal.1),
+                ("goal nearly 2^31 counts away", far),
+            ],
+        );
+    }
+}
