@@ -472,6 +472,23 @@ static void network_in(const uint8_t *r, struct plain_network *net)
     }
 }
 
+/* A servo that holds, from the one end of the error's range to the other at the highest gains: u is then past 32 bits. */
+static void swing(uint8_t *slot)
+{
+    uint32_t sign = percent(50) ? 1 : 0 - UINT32_C(1);
+    if (slot[0] != NMC_TYPE_SERVO)
+        return;
+    memcpy(slot + 28, "\xFF\x7F\xFF\x7F\xFF\x7F\xFF\x7F\xFF\xFF\x3F", 11);
+    put32(slot + 8, number_at(slot, 20, 4) + number_at(slot, 63, 4) - sign * (16383 - below(3)));
+    put32(slot + 67, 0);
+    put32(slot + 87, sign * (32767 - below(3)));
+    put32(slot + 91, 0 - sign * (16383 - below(3)));
+    put32(slot + 96, 0);
+    slot[12] = slot[18] = 1;
+    slot[95] = PLAIN_HOLDING;
+    slot[104] = 0;
+}
+
 /* A byte or a number of the record put to an edge of what the list asks, or next to what it was. */
 static void spoil_record(void)
 {
@@ -490,23 +507,6 @@ static void spoil_record(void)
         uint32_t edge = edges[below(10)];
         put32(slot + at, kind < 8 ? number_at(slot, at, 4) + below(3) - 1 : percent(50) ? edge : 0 - edge);
     }
-}
-
-/* A servo that holds, from the one end of the error's range to the other at the highest gains: u is then past 32 bits. */
-static void swing(uint8_t *slot)
-{
-    uint32_t sign = percent(50) ? 1 : 0 - UINT32_C(1);
-    if (slot[0] != NMC_TYPE_SERVO)
-        return;
-    memcpy(slot + 28, "\xFF\x7F\xFF\x7F\xFF\x7F\xFF\x7F\xFF\xFF\x3F", 11);
-    put32(slot + 8, number_at(slot, 20, 4) + number_at(slot, 63, 4) - sign * (16383 - below(3)));
-    put32(slot + 67, 0);
-    put32(slot + 87, sign * (32767 - below(3)));
-    put32(slot + 91, 0 - sign * (16383 - below(3)));
-    put32(slot + 96, 0);
-    slot[12] = slot[18] = 1;
-    slot[95] = PLAIN_HOLDING;
-    slot[104] = 0;
 }
 
 /* The library tries and adds term by term: some records that pass would hold it for long. */
