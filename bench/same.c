@@ -499,9 +499,11 @@ static void spoil_record(void)
     if (kind == 10) {
         swing(slot);
     } else if (kind < 2) {
-        record[below(SLOTS_AT)] = some_byte();
+        uint8_t byte = some_byte();
+        record[below(SLOTS_AT)] = byte;
     } else if (kind < 6) {
-        slot[below(106)] = percent(50) ? (uint8_t)below(6) : some_byte();
+        uint8_t byte = percent(50) ? (uint8_t)below(6) : some_byte();
+        slot[below(106)] = byte;
     } else {
         int at = words[below(sizeof words)];
         uint32_t edge = edges[below(10)];
