@@ -32,18 +32,19 @@ static double round_of(const struct bench_case *c, const struct implementation *
     return (now() - begin) / c->calls;
 }
 
-/* The best of several rounds, in nanoseconds a call. */
-static double time_of(const struct bench_case *c, const struct implementation *at)
+/* The best of several rounds at each, in nanoseconds a call. They take turns, so that what else runs hits all alike. */
+static void time_all(const struct bench_case *c, double least[IMPLEMENTATIONS])
 {
-    c->prepare(at);
-    keep(at);
-    double least = round_of(c, at);
-    for (unsigned i = 1; i < ROUNDS; i++) {
-        double took = round_of(c, at);
-        if (took < least)
-            least = took;
+    for (unsigned k = 0; k < IMPLEMENTATIONS; k++) {
+        c->prepare(&implementations[k]);
+        keep(&implementations[k]);
     }
-    return least;
+    for (unsigned i = 0; i < ROUNDS; i++)
+        for (unsigned k = 0; k < IMPLEMENTATIONS; k++) {
+            double took = round_of(c, &implementations[k]);
+            if (i == 0 || took < least[k])
+                least[k] = took;
+        }
 }
 
 int main(void)
@@ -52,8 +53,7 @@ int main(void)
            implementations[PLAIN_C].name, implementations[CHECKED_C].name, "/ plain", "/ checks");
     for (unsigned i = 0; i < case_count; i++) {
         double took[IMPLEMENTATIONS];
-        for (unsigned k = 0; k < IMPLEMENTATIONS; k++)
-            took[k] = time_of(&cases[i], &implementations[k]);
+        time_all(&cases[i], took);
         printf("%-44s %10.0f %10.0f %13.0f %9.2f %9.2f\n", cases[i].name, took[LIBRARY], took[PLAIN_C],
                took[CHECKED_C], took[LIBRARY] / took[PLAIN_C], took[LIBRARY] / took[CHECKED_C]);
     }

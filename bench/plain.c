@@ -7,12 +7,6 @@
 #include <stdbool.h>
 #include <string.h>
 
-#ifdef PLAIN_CHECKS
-#define PLAIN(name) PLAIN_CHECKED(name)
-#else
-#define PLAIN(name) PLAIN_UNCHECKED(name)
-#endif
-
 enum { DONE = 0, FRAME_ENDED = 1, DAMAGED_ENDED = 2 };
 enum {
     BAD_CHAIN = 11,

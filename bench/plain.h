@@ -127,4 +127,11 @@ struct plain_network {
 PLAIN_CALLS(PLAIN_UNCHECKED)
 PLAIN_CALLS(PLAIN_CHECKED)
 
+/* The calls of the build that is being compiled. */
+#ifdef PLAIN_CHECKS
+#define PLAIN(name) PLAIN_CHECKED(name)
+#else
+#define PLAIN(name) PLAIN_UNCHECKED(name)
+#endif
+
 #endif

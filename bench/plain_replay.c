@@ -1,4 +1,4 @@
-/* The replay program over plain C that checks its network at each call, to measure the library's against. */
+/* The replay program over either build of plain C, to measure the library's against. */
 #include "plain.h"
 
 #include <stdbool.h>
@@ -44,7 +44,7 @@ static bool take_line_byte(const uint8_t *body)
     static uint8_t room[PLAIN_ROOM_LEN];
     uint8_t lengths[PLAIN_MOST_MODULES];
     size_t written;
-    if (checked_byte_by_place(&net, body[0], body[1], room, sizeof room, &written, lengths) > 2)
+    if (PLAIN(byte_by_place)(&net, body[0], body[1], room, sizeof room, &written, lengths) > 2)
         return false;
     if (written > 0)
         print_replies(room, lengths);
@@ -63,18 +63,18 @@ static bool take_record(uint8_t kind, const uint8_t *b)
 {
     if (kind == MODULE)
         return take_module(b[0]);
-    if (!running && checked_setup(&net, types, chain) != 0)
+    if (!running && PLAIN(setup)(&net, types, chain) != 0)
         return false;
     running = true;
     switch (kind) {
     case LINE_BYTE:
         return take_line_byte(b);
     case SERVO_SAMPLE:
-        return checked_servo_sample(&net, b[0], number_at(b + 3, 4), b[1], b[2]) == 0;
+        return PLAIN(servo_sample)(&net, b[0], number_at(b + 3, 4), b[1], b[2]) == 0;
     case IO_SAMPLE:
-        return checked_io_sample(&net, b[0], number_at(b + 1, 2), b[3], b[4], b[5], number_at(b + 6, 4)) == 0;
+        return PLAIN(io_sample)(&net, b[0], number_at(b + 1, 2), b[3], b[4], b[5], number_at(b + 6, 4)) == 0;
     default:
-        return checked_tick(&net) == 0;
+        return PLAIN(tick)(&net) == 0;
     }
 }
 
