@@ -1,4 +1,4 @@
-/* One case at one implementation, so many calls: what bench/instructions runs under callgrind. Without arguments it lists the cases. */
+/* One case at one implementation, so many calls, for bench/instructions; without arguments, the list of cases. */
 #include "cases.h"
 
 #include <stdio.h>
