@@ -1,0 +1,292 @@
+#include "cases.h"
+
+#include "plain.h"
+
+#include <stdio.h>
+#include <stdlib.h>
+#include <string.h>
+
+enum { COUNT = 65536, TOP = 4 * COUNT, RAMP = COUNT / 4, MOVE = 2002, GROUP = 0xFF };
+
+static uint8_t room[NMC_ROOM_LEN];
+static uint8_t last_byte;
+
+static void need(int holds)
+{
+    if (!holds) {
+        fprintf(stderr, "the bench does not measure what it says\n");
+        exit(1);
+    }
+}
+
+/* ---- bringing a network to where it is measured */
+
+static size_t write_frame(uint8_t address, uint8_t code, const uint8_t *data, size_t len, uint8_t *frame)
+{
+    size_t written;
+    need(nmc_write_frame(address, code, data, len, frame, NMC_FRAME_LEN, &written) == NMC_DONE);
+    return written;
+}
+
+static size_t feed(const struct implementation *at, const uint8_t *bytes, size_t len, uint32_t last)
+{
+    size_t written = 0;
+    for (size_t i = 0; i < len; i++) {
+        uint32_t number = at->byte(0, bytes[i], room, sizeof room, &written);
+        need(number == (i + 1 == len ? last : NMC_DONE));
+    }
+    return written;
+}
+
+static size_t send(const struct implementation *at, uint8_t address, uint8_t code, const uint8_t *data,
+                   size_t len)
+{
+    uint8_t frame[NMC_FRAME_LEN];
+    return feed(at, frame, write_frame(address, code, data, len, frame), NMC_FRAME);
+}
+
+/* A frame without its last byte, which is the one to be measured. */
+static void send_up_to_last(const struct implementation *at, uint8_t address, uint8_t code,
+                            const uint8_t *data, size_t len)
+{
+    uint8_t frame[NMC_FRAME_LEN];
+    size_t written = write_frame(address, code, data, len, frame);
+    feed(at, frame, written - 1, NMC_DONE);
+    last_byte = frame[written - 1];
+}
+
+/* Modules addressed 1, 2, ..., all leaders of one group. */
+static void address_all(const struct implementation *at, uint8_t type, size_t chain)
+{
+    uint8_t types[NMC_MOST_MODULES];
+    memset(types, type, sizeof types);
+    need(at->setup(types, chain) == NMC_DONE);
+    for (size_t place = 0; place < chain; place++) {
+        const uint8_t data[2] = {(uint8_t)(place + 1), GROUP & 0x7F};
+        need(send(at, 0, 1, data, sizeof data) == 2);
+    }
+}
+
+/* Servos with power, gains that follow and room for an error. */
+static void ready_servos(const struct implementation *at)
+{
+    const uint8_t gains[15] = {100, 0, 50, 0, 10, 0, 0xE8, 3, 0xFF, 0, 0xFF, 0x3F, 1, 0, 1};
+    address_all(at, NMC_TYPE_SERVO, NMC_MOST_MODULES);
+    for (uint32_t place = 0; place < NMC_MOST_MODULES; place++)
+        need(at->servo_sample(place, 0, 1, 0) == NMC_DONE);
+    need(at->tick() == NMC_DONE);
+    send(at, GROUP, 6, gains, sizeof gains);
+    send(at, GROUP, 11, NULL, 0);
+}
+
+static void put32(uint8_t *at, uint32_t x)
+{
+    for (int k = 0; k < 4; k++)
+        at[k] = (uint8_t)(x >> 8 * k);
+}
+
+/* All move at once, with the control byte of a trapezoid or of velocity mode. */
+static void start_all(const struct implementation *at, uint8_t control)
+{
+    uint8_t data[13] = {control};
+    size_t len = 1;
+    ready_servos(at);
+    if (control & 1) {
+        put32(data + len, MOVE);
+        len += 4;
+    }
+    put32(data + len, TOP);
+    put32(data + len + 4, RAMP);
+    need(send(at, GROUP, 4, data, len + 8) == 2 * NMC_MOST_MODULES);
+}
+
+static void tick_times(const struct implementation *at, unsigned times)
+{
+    while (times-- > 0)
+        need(at->tick() == NMC_DONE);
+}
+
+/* ---- cases */
+
+static void prepare_io(const struct implementation *at)
+{
+    address_all(at, NMC_TYPE_IO, NMC_MOST_MODULES);
+}
+
+static void prepare_servos_off(const struct implementation *at)
+{
+    address_all(at, NMC_TYPE_SERVO, NMC_MOST_MODULES);
+}
+
+static void prepare_one_servo(const struct implementation *at)
+{
+    address_all(at, NMC_TYPE_SERVO, 1);
+}
+
+static void prepare_one_io(const struct implementation *at)
+{
+    address_all(at, NMC_TYPE_IO, 1);
+}
+
+static void prepare_moving(const struct implementation *at)
+{
+    start_all(at, 0x97);
+    tick_times(at, 30); /* 16 ticks of ramp, then top speed */
+}
+
+static void prepare_velocity(const struct implementation *at)
+{
+    start_all(at, 0xB6);
+    tick_times(at, 30);
+}
+
+/* The tick in which all brake for the first time, to a speed between the lowest and the highest that may follow. */
+static void prepare_braking(const struct implementation *at)
+{
+    const struct implementation *model = &implementations[PLAIN_C];
+    const struct plain_servo *servo = &((struct plain_network *)model->network)->modules[0].as.servo;
+    unsigned ticks = 0;
+    start_all(model, 0x97);
+    for (tick_times(model, 30); servo->speed == TOP; ticks++)
+        tick_times(model, 1);
+    start_all(at, 0x97);
+    tick_times(at, 30 + ticks - 1);
+}
+
+static void prepare_holding(const struct implementation *at)
+{
+    const uint8_t abrupt = 5;
+    ready_servos(at);
+    send(at, GROUP, 7, &abrupt, 1);
+}
+
+static const uint8_t all_items = 0xFF;
+
+static void prepare_for_one_servo(const struct implementation *at)
+{
+    prepare_moving(at);
+    send_up_to_last(at, 7, 3, &all_items, 1);
+}
+
+static void prepare_for_one_io(const struct implementation *at)
+{
+    prepare_io(at);
+    send_up_to_last(at, 7, 3, &all_items, 1);
+}
+
+static void prepare_for_all_servos(const struct implementation *at)
+{
+    prepare_moving(at);
+    send_up_to_last(at, GROUP, 3, &all_items, 1);
+}
+
+static void prepare_for_all_io(const struct implementation *at)
+{
+    prepare_io(at);
+    send_up_to_last(at, GROUP, 3, &all_items, 1);
+}
+
+/* A null opens nothing. */
+static void take_null(const struct implementation *at)
+{
+    size_t written;
+    need(at->byte(0, 0, room, sizeof room, &written) == NMC_DONE);
+}
+
+static void take_last(const struct implementation *at)
+{
+    size_t written;
+    need(at->byte(0, last_byte, room, sizeof room, &written) == NMC_FRAME && written >= NMC_REPLY_LEN);
+}
+
+static void tick_once(const struct implementation *at)
+{
+    need(at->tick() == NMC_DONE);
+}
+
+static void sample_servo(const struct implementation *at)
+{
+    need(at->servo_sample(7, 0, 1, 0) == NMC_DONE);
+}
+
+static void sample_io(const struct implementation *at)
+{
+    need(at->io_sample(7, 0x123, 4, 5, 6, 789) == NMC_DONE);
+}
+
+static void take_outputs(const struct implementation *at)
+{
+    uint8_t outputs[NMC_OUTPUTS_LEN];
+    need(at->outputs(7, outputs) == NMC_DONE);
+}
+
+/* A place beyond the chain is refused right after the list: what is left is what validity costs. */
+static void only_list(const struct implementation *at)
+{
+    uint8_t outputs[NMC_OUTPUTS_LEN];
+    need(at->outputs(NMC_MOST_MODULES, outputs) == NMC_BAD_PLACE);
+}
+
+static void write_once(const struct implementation *at)
+{
+    static const uint8_t data[13] = {0x97, 0xD0, 7, 0, 0, 0, 0, 4, 0, 0, 0x40, 0, 0};
+    size_t written;
+    need(at->write_frame(7, 4, data, sizeof data, room, sizeof room, &written) == NMC_DONE && written == 17);
+}
+
+static uint8_t reply[NMC_REPLY_LEN];
+
+static void prepare_reply(const struct implementation *at)
+{
+    prepare_one_servo(at);
+    need(send(at, 1, 3, &all_items, 1) == NMC_REPLY_LEN);
+    memcpy(reply, room, NMC_REPLY_LEN);
+}
+
+static void read_once(const struct implementation *at)
+{
+    uint8_t reading[NMC_READING_LEN];
+    need(at->read_status(NMC_TYPE_SERVO, all_items, reply, sizeof reply, reading) == NMC_DONE);
+}
+
+const struct bench_case cases[] = {
+    {"byte, no frame ends, 32 servos moving", "byte", prepare_moving, take_null, NOTHING_BACK, 1000},
+    {"byte, no frame ends, 32 I/O", "byte", prepare_io, take_null, NOTHING_BACK, 1000},
+    {"byte, no frame ends, 1 servo", "byte", prepare_one_servo, take_null, NOTHING_BACK, 1000},
+    {"byte, no frame ends, 1 I/O", "byte", prepare_one_io, take_null, NOTHING_BACK, 1000},
+    {"byte, frame for one of 32 servos", "byte", prepare_for_one_servo, take_last, RECEIVER_BACK, 1000},
+    {"byte, frame for one of 32 I/O", "byte", prepare_for_one_io, take_last, RECEIVER_BACK, 1000},
+    {"byte, frame for a group of 32 servos", "byte", prepare_for_all_servos, take_last, RECEIVER_BACK, 1000},
+    {"byte, frame for a group of 32 I/O", "byte", prepare_for_all_io, take_last, RECEIVER_BACK, 1000},
+    {"tick, 32 servos, trapezoid at top speed", "tick", prepare_moving, tick_once, NOTHING_BACK, 400},
+    {"tick, 32 servos, trapezoid begins to brake", "tick", prepare_braking, tick_once, NETWORK_BACK, 20},
+    {"tick, 32 servos, velocity mode", "tick", prepare_velocity, tick_once, NOTHING_BACK, 400},
+    {"tick, 32 servos holding", "tick", prepare_holding, tick_once, NOTHING_BACK, 1000},
+    {"tick, 32 I/O", "tick", prepare_io, tick_once, NOTHING_BACK, 1000},
+    {"servo_sample, one of 32 moving", "servo_sample", prepare_moving, sample_servo, NOTHING_BACK, 1000},
+    {"io_sample, one of 32", "io_sample", prepare_io, sample_io, NOTHING_BACK, 1000},
+    {"outputs, one of 32 servos moving", "outputs", prepare_moving, take_outputs, NOTHING_BACK, 1000},
+    {"outputs, one of 32 I/O", "outputs", prepare_io, take_outputs, NOTHING_BACK, 1000},
+    {"write_frame, 13 data bytes", "write_frame", prepare_one_servo, write_once, NOTHING_BACK, 1000},
+    {"read_status, all items", "read_status", prepare_reply, read_once, NOTHING_BACK, 1000},
+    {"list alone, 32 servos moving", "outputs", prepare_moving, only_list, NOTHING_BACK, 1000},
+    {"list alone, 32 servos off", "outputs", prepare_servos_off, only_list, NOTHING_BACK, 1000},
+    {"list alone, 32 I/O", "outputs", prepare_io, only_list, NOTHING_BACK, 1000},
+};
+
+const unsigned case_count = sizeof cases / sizeof *cases;
+
+/* ---- keeping and putting back */
+
+static uint8_t kept[IMPLEMENTATIONS][sizeof(struct plain_network) + NMC_NET_LEN];
+
+void keep(const struct implementation *at)
+{
+    memcpy(kept[at - implementations], at->network, at->network_len);
+}
+
+void put_back(const struct implementation *at, enum restored restored)
+{
+    size_t len = restored == NETWORK_BACK ? at->network_len : restored == RECEIVER_BACK ? at->receiver_len : 0;
+    memcpy(at->network, kept[at - implementations], len);
+}

@@ -1,0 +1,81 @@
+#include "three.h"
+
+#include "plain.h"
+
+static uint8_t record[NMC_NET_LEN];
+static struct plain_network plain_net, checked_net;
+
+static uint32_t library_setup(const uint8_t *types, size_t chain)
+{
+    return nmc_setup(record, sizeof record, types, chain);
+}
+
+static uint32_t library_byte(uint32_t mark, uint8_t byte, uint8_t *room, size_t room_len, size_t *written)
+{
+    return nmc_byte(record, sizeof record, mark, byte, room, room_len, written);
+}
+
+static uint32_t library_servo_sample(uint32_t place, uint32_t raw, uint32_t power, uint8_t ad)
+{
+    return nmc_servo_sample(record, sizeof record, place, raw, power, ad);
+}
+
+static uint32_t library_io_sample(uint32_t place, uint32_t inputs, uint8_t ad1, uint8_t ad2, uint8_t ad3,
+                                  uint32_t counter)
+{
+    return nmc_io_sample(record, sizeof record, place, inputs, ad1, ad2, ad3, counter);
+}
+
+static uint32_t library_tick(void)
+{
+    return nmc_tick(record, sizeof record);
+}
+
+static uint32_t library_outputs(uint32_t place, uint8_t *outputs)
+{
+    return nmc_outputs(record, sizeof record, place, outputs);
+}
+
+/* The same for a build of plain.c and its network. */
+#define ON_STRUCTS(BUILD, NET)                                                                     \
+    static uint32_t BUILD##_setup_it(const uint8_t *types, size_t chain)                           \
+    {                                                                                              \
+        return BUILD##_setup(&NET, types, chain);                                                  \
+    }                                                                                              \
+    static uint32_t BUILD##_byte_it(uint32_t mark, uint8_t byte, uint8_t *room, size_t room_len,   \
+                                    size_t *written)                                               \
+    {                                                                                              \
+        return BUILD##_byte(&NET, mark, byte, room, room_len, written);                            \
+    }                                                                                              \
+    static uint32_t BUILD##_servo_sample_it(uint32_t place, uint32_t raw, uint32_t power,          \
+                                            uint8_t ad)                                            \
+    {                                                                                              \
+        return BUILD##_servo_sample(&NET, place, raw, power, ad);                                  \
+    }                                                                                              \
+    static uint32_t BUILD##_io_sample_it(uint32_t place, uint32_t inputs, uint8_t ad1, uint8_t ad2, \
+                                         uint8_t ad3, uint32_t counter)                            \
+    {                                                                                              \
+        return BUILD##_io_sample(&NET, place, inputs, ad1, ad2, ad3, counter);                     \
+    }                                                                                              \
+    static uint32_t BUILD##_tick_it(void)                                                          \
+    {                                                                                              \
+        return BUILD##_tick(&NET);                                                                 \
+    }                                                                                              \
+    static uint32_t BUILD##_outputs_it(uint32_t place, uint8_t *outputs)                           \
+    {                                                                                              \
+        return BUILD##_outputs(&NET, place, outputs);                                              \
+    }
+
+ON_STRUCTS(plain, plain_net)
+ON_STRUCTS(checked, checked_net)
+
+const struct implementation implementations[IMPLEMENTATIONS] = {
+    {"library", "nmc_", library_setup, library_byte, library_servo_sample, library_io_sample, library_tick,
+     library_outputs, nmc_write_frame, nmc_read_status, record, sizeof record, 19},
+    {"plain C", "plain_", plain_setup_it, plain_byte_it, plain_servo_sample_it, plain_io_sample_it,
+     plain_tick_it, plain_outputs_it, plain_write_frame, plain_read_status, &plain_net, sizeof plain_net,
+     sizeof plain_net.receiver},
+    {"C with checks", "checked_", checked_setup_it, checked_byte_it, checked_servo_sample_it,
+     checked_io_sample_it, checked_tick_it, checked_outputs_it, checked_write_frame, checked_read_status,
+     &checked_net, sizeof checked_net, sizeof checked_net.receiver},
+};

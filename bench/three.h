@@ -1,0 +1,29 @@
+/* The library and the two builds of plain C behind one set of calls, each with a network of its own. */
+#ifndef THREE_H
+#define THREE_H
+
+#include "doljurven.h"
+
+enum { LIBRARY, PLAIN_C, CHECKED_C, IMPLEMENTATIONS };
+
+struct implementation {
+    const char *name;
+    const char *prefix; /* of its calls' symbols */
+    uint32_t (*setup)(const uint8_t *types, size_t chain);
+    uint32_t (*byte)(uint32_t mark, uint8_t byte, uint8_t *room, size_t room_len, size_t *written);
+    uint32_t (*servo_sample)(uint32_t place, uint32_t raw, uint32_t power, uint8_t ad);
+    uint32_t (*io_sample)(uint32_t place, uint32_t inputs, uint8_t ad1, uint8_t ad2, uint8_t ad3,
+                          uint32_t counter);
+    uint32_t (*tick)(void);
+    uint32_t (*outputs)(uint32_t place, uint8_t *outputs);
+    uint32_t (*write_frame)(uint32_t address, uint32_t code, const uint8_t *data, size_t data_len,
+                            uint8_t *room, size_t room_len, size_t *written);
+    uint32_t (*read_status)(uint32_t type, uint8_t items, const uint8_t *reply, size_t reply_len,
+                            uint8_t *reading);
+    void *network; /* to be saved and put back; the receiver is its first part */
+    size_t network_len, receiver_len;
+};
+
+extern const struct implementation implementations[IMPLEMENTATIONS];
+
+#endif
