@@ -17,7 +17,7 @@ use Rattle.modules.specs.Types.{slots}
 use Rattle.inout.specs.Slot.{slot, decodeOf, okOf}
 use Rattle.inout.specs.Promises.{Lines}
 use Rattle.inout.proofs.Listed as Slot
-use Rattle.servoslot.specs.Slot as Positioner
+use Rattle.servoslot.specs.Slot as ServoSlot
 use Rattle.servoslot.proofs.Listed as Servo
 use Rattle.network.specs.Record.{slotsAt, blank, okReceiver, okSlots, valid}
 use Rattle.network.proofs.Tests.{and-true}
@@ -111,7 +111,7 @@ io-ok s l =
 slot-ok : (s : List ℕ) → Bytes s → SlotLines s → slots .ok s ≡ true
 slot-ok s b l = go (eqb (getD s 0 0) 0) refl
   where
-    go : (t : Bool) → eqb (getD s 0 0) 0 ≡ t → cond t (Positioner.okOf s) (okOf s) ≡ true
+    go : (t : Bool) → eqb (getD s 0 0) 0 ≡ t → cond t (ServoSlot.okOf s) (okOf s) ≡ true
     go true e = Servo.listed s b .1 (l .servo (eqb-true _ _ e))
     go false e = io-ok s (l .io (eqb-false _ _ e))
 

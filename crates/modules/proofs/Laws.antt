@@ -26,7 +26,7 @@ use Rattle.inout.specs.Slot as Inout
 use Rattle.inout.proofs.Reply as Inouts
 use Rattle.servo.specs.declared.Servo.{Servo}
 use Rattle.servo.proofs.Reply as Servos
-use Rattle.servoslot.specs.Slot as Positioner
+use Rattle.servoslot.specs.Slot as ServoSlot
 use Rattle.modules.specs.Types.{Module, kind, servoSlots, inoutSlots, slots, typeOf}
 
 -- a list's own beginning put at its start
@@ -51,8 +51,8 @@ module _ {M : Type 0} (a : Shape M) (room : a .codec .size ≤ slotSize) where
   }
 
 servo-lawful : Lawful servoSlots
-unfolding Positioner.encodeOf Positioner.decodeOf Positioner.okOf
-servo-lawful = slotted-lawful Positioner.slot (omega arith)
+unfolding ServoSlot.encodeOf ServoSlot.decodeOf ServoSlot.okOf
+servo-lawful = slotted-lawful ServoSlot.slot (omega arith)
 
 inout-lawful : Lawful inoutSlots
 unfolding Inout.encodeOf Inout.decodeOf Inout.okOf
@@ -60,7 +60,7 @@ inout-lawful = slotted-lawful Inout.slot (omega arith)
 
 -- the first byte of a slot is the module's type
 servo-first : (m : Servo) (s : List ℕ) → getD (pasted 0 (servoSlots .enc m) s) 0 0 ≡ 0
-unfolding Positioner.encodeOf
+unfolding ServoSlot.encodeOf
 servo-first m s = ap (λ (l : List ℕ). getD l 0 0) (pasted-start (servoSlots .enc m) s)
 
 inout-first : (m : Io) (s : List ℕ) → eqb (getD (pasted 0 (inoutSlots .enc m) s) 0 0) 0 ≡ false
@@ -72,7 +72,7 @@ lawful = either-lawful 0 servoSlots inoutSlots servo-lawful inout-lawful servo-f
 
 -- who the module in a slot is can be told without decoding it
 pub address-is : (t : List ℕ) → kind .address (slots .dec t) ≡ address .codec .dec 1 t
-unfolding Positioner.decodeOf Inout.decodeOf
+unfolding ServoSlot.decodeOf Inout.decodeOf
 address-is t = at (eqb (getD t 0 0) 0)
   where
     at : (k : Bool) → kind .address (cond k (inl (servoSlots .dec t)) (inr (inoutSlots .dec t))) ≡ address .codec .dec 1 t

@@ -1,4 +1,4 @@
-// The servo, type 0 version 10: what it is, and by the definitions what orders, samples and ticks make of it and what it tells.
+// The servo, type 0 version 10: what it consists of. What happens to it, and what it tells, is defined in specs/.
 use filter::Memory;
 use motion::Profile;
 use orders::Tuning;
