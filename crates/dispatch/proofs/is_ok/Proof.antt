@@ -1,4 +1,4 @@
--- `modules::is_ok` meets its contract. Assumes nothing.
+-- `dispatch::is_ok` meets its contract. Assumes nothing.
 use borrow.Author.Tests.{eq-eqb, ne-eqb}
 use borrow.Author.Needs.{needs}
 use Rattle.dispatch.proofs.is_ok.Statement.{statement}

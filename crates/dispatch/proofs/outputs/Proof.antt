@@ -1,4 +1,4 @@
--- `modules::outputs` meets its contract. Assumes nothing.
+-- `dispatch::outputs` meets its contract. Assumes nothing.
 use native.Mathlib.Omega.{arith}
 use borrow.Author.Tests.{eq-eqb, ne-eqb}
 use borrow.Author.Needs.{needs}

@@ -1,4 +1,4 @@
--- `modules::power_up` meets its contract. Assumes nothing.
+-- `dispatch::power_up` meets its contract. Assumes nothing.
 use borrow.Author.Tests.{eq-eqb, ne-eqb}
 use borrow.Author.Needs.{needs}
 use Rattle.dispatch.proofs.power_up.Statement.{statement}

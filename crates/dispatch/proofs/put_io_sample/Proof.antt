@@ -1,4 +1,4 @@
--- `modules::put_io_sample` meets its contract. Assumes nothing.
+-- `dispatch::put_io_sample` meets its contract. Assumes nothing.
 use Rattle.modules.proofs.Laws.{lawful}
 use mathlib.Core.Path.{sym}
 use native.Mathlib.Omega.{arith}

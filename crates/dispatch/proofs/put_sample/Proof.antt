@@ -1,4 +1,4 @@
--- `modules::put_sample` meets its contract. Assumes nothing.
+-- `dispatch::put_sample` meets its contract. Assumes nothing.
 use borrow.Author.Needs.{needs}
 use Rattle.dispatch.proofs.put_sample.Statement.{statement}
 use Rattle.dispatch.proofs.put_sample.Tie as tie

@@ -1,4 +1,4 @@
--- `modules::put_servo_sample` meets its contract. Assumes nothing.
+-- `dispatch::put_servo_sample` meets its contract. Assumes nothing.
 use Rattle.modules.proofs.Laws.{lawful}
 use mathlib.Core.Path.{sym}
 use native.Mathlib.Omega.{arith}

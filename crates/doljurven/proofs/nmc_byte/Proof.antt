@@ -1,3 +1,4 @@
+-- `doljurven::nmc_byte` meets its contract. Assumes nothing.
 use Rattle.calls.proofs.Refused.{byte-passes, byte-refused, byte-done}
 use mathlib.Core.Path.{sym, _∙_}
 use borrow.Author.Needs.{needs}

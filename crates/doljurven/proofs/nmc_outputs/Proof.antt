@@ -1,3 +1,4 @@
+-- `doljurven::nmc_outputs` meets its contract. Assumes nothing.
 use Rattle.calls.proofs.Refused.{refused, done, outputs-passes}
 use Rattle.network.specs.Calls.{outputsAt}
 use Rattle.network.specs.Record.{netIn}

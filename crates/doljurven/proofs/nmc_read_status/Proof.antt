@@ -1,3 +1,4 @@
+-- `doljurven::nmc_read_status` meets its contract. Assumes nothing.
 use Rattle.calls.specs.Calls.{readingBytes}
 use Rattle.host.specs.declared.Answered.{Answered}
 use mathlib.Core.Path.{sym, ap, _∙_}

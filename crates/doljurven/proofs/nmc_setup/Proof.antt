@@ -1,3 +1,4 @@
+-- `doljurven::nmc_setup` meets its contract. Assumes nothing.
 use Rattle.calls.proofs.Refused.{refused, done, setup-passes}
 use Rattle.network.specs.Calls.{fresh}
 use Rattle.calls.specs.Calls.{setupRecord}

@@ -1,3 +1,4 @@
+-- `doljurven::nmc_tick` meets its contract. Assumes nothing.
 use Rattle.calls.specs.Calls.{tickRecord}
 use borrow.Author.Tests.{not-true, not-false}
 use mathlib.Core.Path.{sym, refl, _∙_}

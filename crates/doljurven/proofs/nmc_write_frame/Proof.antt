@@ -1,3 +1,4 @@
+-- `doljurven::nmc_write_frame` meets its contract. Assumes nothing.
 use Rattle.host.specs.declared.Written.{Written}
 use mathlib.Core.Path.{sym, ap, _∙_}
 use borrow.Author.Needs.{needs}

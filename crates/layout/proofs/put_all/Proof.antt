@@ -1,4 +1,4 @@
--- `le::put_all` meets its contract. The invariant: the first i bytes are pasted, and the length is as it was. Assumes nothing.
+-- `layout::put_all` meets its contract. The invariant: the first i bytes are pasted, and the length is as it was. Assumes nothing.
 use mathlib.Core.Path.{_≡_}
 use Prim.Native.Nat.{_≤_, _-_}
 use native.Mathlib.Numerals.{add-one}

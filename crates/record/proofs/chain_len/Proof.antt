@@ -1,4 +1,4 @@
--- `network::chain_len` meets its contract. Assumes nothing.
+-- `record::chain_len` meets its contract. Assumes nothing.
 use Rattle.network.proofs.Exact.{length-modules}
 use Rattle.network.proofs.Valid.{valid-is}
 use Rattle.modules.specs.Types.{slots}

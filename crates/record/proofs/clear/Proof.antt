@@ -1,4 +1,4 @@
--- `network::clear` meets its contract. The invariant: the bytes passed are 0, the others as they were. Assumes nothing.
+-- `record::clear` meets its contract. The invariant: the bytes passed are 0, the others as they were. Assumes nothing.
 use mathlib.Core.Path.{_≡_, refl, _∙_}
 use mathlib.Core.List.{[], _++_, append-nil}
 use Prim.Native.Nat.{_-_, _≤_}

@@ -1,4 +1,4 @@
--- `network::is_all_known` meets its contract. The invariant: the types left are known exactly if all are. Assumes nothing.
+-- `record::is_all_known` meets its contract. The invariant: the types left are known exactly if all are. Assumes nothing.
 use mathlib.Core.Path.{_≡_, refl, sym, _∙_}
 use mathlib.Core.List.{[]}
 use mathlib.Core.Bool.{_&&_}

@@ -1,4 +1,4 @@
--- `network::is_blank` meets its contract. The invariant: what is left is blank exactly if all is. Assumes nothing.
+-- `record::is_blank` meets its contract. The invariant: what is left is blank exactly if all is. Assumes nothing.
 use mathlib.Core.Path.{_≡_, refl}
 use mathlib.Core.List.{[]}
 use Prim.Native.Nat.{_-_, _≤_}

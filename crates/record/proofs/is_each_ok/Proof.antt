@@ -1,4 +1,4 @@
--- `network::is_each_ok` meets its contract. The invariant: what the slots left say is what they all say. Assumes nothing.
+-- `record::is_each_ok` meets its contract. The invariant: what the slots left say is what they all say. Assumes nothing.
 use mathlib.Core.Path.{_≡_, refl, sym, _∙_}
 use mathlib.Core.Bool.{_&&_}
 use Prim.Native.Nat.{_+_, _*_, _-_}

@@ -1,4 +1,4 @@
--- `network::is_of_type` meets its contract. Assumes nothing.
+-- `record::is_of_type` meets its contract. Assumes nothing.
 use Rattle.network.proofs.Calls.{placed, type-at, type-beyond}
 use Prim.Native.Nat.{_<_}
 use lib.ListN.{length}

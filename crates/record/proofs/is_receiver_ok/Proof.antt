@@ -1,4 +1,4 @@
--- `network::is_receiver_ok` meets its contract: an idle receiver is blank, another has no more bytes in than announced. Assumes nothing.
+-- `record::is_receiver_ok` meets its contract: an idle receiver is blank, another has no more bytes in than announced. Assumes nothing.
 use Rattle.network.proofs.Tests.{idle-test}
 use Rattle.network.specs.Record.{okReceiver}
 use lib.Seq.{length-take-le}

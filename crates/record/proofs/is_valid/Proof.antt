@@ -1,4 +1,4 @@
--- `network::is_valid` meets its contract. Assumes nothing.
+-- `record::is_valid` meets its contract. Assumes nothing.
 use mathlib.Core.Path.{_≡_}
 use lib.ListN.{getD}
 use lib.Dec.{leb}

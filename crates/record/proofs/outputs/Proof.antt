@@ -1,4 +1,4 @@
--- `network::outputs` meets its contract. Assumes nothing.
+-- `record::outputs` meets its contract. Assumes nothing.
 use Rattle.network.proofs.Calls.{Placed, placed, outputs-is}
 use Prim.Native.Nat.{_+_, _*_, _-_}
 use mathlib.Core.Path.{_≡_}

@@ -1,4 +1,4 @@
--- `network::power_up_each` meets its contract. The invariant: the modules left, put into the record as it is, give the whole. Assumes nothing.
+-- `record::power_up_each` meets its contract. The invariant: the modules left, put into the record as it is, give the whole. Assumes nothing.
 use mathlib.Core.Path.{_≡_, refl, sym, _∙_}
 use mathlib.Core.List.{[], map}
 use mathlib.Core.Bool.{true}

@@ -1,4 +1,4 @@
--- `network::put_sample` meets its contract. Assumes nothing.
+-- `record::put_sample` meets its contract. Assumes nothing.
 use Rattle.network.proofs.Calls.{Placed, placed, sample-is}
 use Rattle.modules.specs.Types.{measured}
 use Prim.Native.Nat.{_+_, _*_, _-_}

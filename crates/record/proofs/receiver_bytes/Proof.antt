@@ -1,4 +1,4 @@
--- `network::receiver_bytes` meets its contract. Assumes nothing.
+-- `record::receiver_bytes` meets its contract. Assumes nothing.
 use Rattle.network.specs.Record.{receiverBytes}
 use borrow.Author.Needs.{needs}
 use Rattle.record.proofs.receiver_bytes.Statement.{statement}

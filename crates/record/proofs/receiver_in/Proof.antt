@@ -1,4 +1,4 @@
--- `network::receiver_in` meets its contract. Assumes nothing.
+-- `record::receiver_in` meets its contract. Assumes nothing.
 use Rattle.network.specs.Record.{receiverIn}
 use borrow.Author.Needs.{needs}
 use Rattle.record.proofs.receiver_in.Statement.{statement}

@@ -1,4 +1,4 @@
--- `network::set_up` meets its contract. Assumes nothing.
+-- `record::set_up` meets its contract. Assumes nothing.
 use Rattle.network.proofs.Calls.{set-up-is}
 use Rattle.network.specs.Record.{receiverBytes}
 use borrow.Author.Needs.{needs}

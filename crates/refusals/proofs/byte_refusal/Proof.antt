@@ -1,3 +1,4 @@
+-- `refusals::byte_refusal` meets its contract. Assumes nothing.
 use borrow.Author.Tests.{lt-ltb, le-ltb}
 use borrow.Author.Needs.{needs}
 use Rattle.refusals.proofs.byte_refusal.Statement.{statement}

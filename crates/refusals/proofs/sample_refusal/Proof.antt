@@ -1,4 +1,4 @@
--- `doljurven::sample_refusal` meets its contract. Assumes nothing.
+-- `refusals::sample_refusal` meets its contract. Assumes nothing.
 use borrow.Author.Needs.{needs}
 use mathlib.Core.Path.{sym, _∙_}
 use borrow.Author.Tests.{not-false}

@@ -1,3 +1,4 @@
+-- `refusals::setup_refusal` meets its contract. Assumes nothing.
 use borrow.Author.Tests.{eq-eqb, ne-eqb, not-true, not-false}
 use borrow.Author.Needs.{needs}
 use Rattle.refusals.proofs.setup_refusal.Statement.{statement}

@@ -1,4 +1,4 @@
--- `servoslot::counts_in` meets its contract. Assumes nothing.
+-- `servoread::counts_in` meets its contract. Assumes nothing.
 use borrow.Author.Needs.{needs}
 use Rattle.servoread.proofs.counts_in.Statement.{statement}
 use Rattle.servoread.proofs.counts_in.Tie as tie

@@ -1,4 +1,4 @@
--- `servoslot::decode` meets its contract. Assumes nothing.
+-- `servoread::decode` meets its contract. Assumes nothing.
 use Rattle.servoslot.specs.Slot.{decodeOf}
 use borrow.Author.Needs.{needs}
 use Rattle.servoread.proofs.decode.Statement.{statement}

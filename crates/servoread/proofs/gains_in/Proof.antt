@@ -1,4 +1,4 @@
--- `servoslot::gains_in` meets its contract. Assumes nothing.
+-- `servoread::gains_in` meets its contract. Assumes nothing.
 use borrow.Author.Needs.{needs}
 use Rattle.servoread.proofs.gains_in.Statement.{statement}
 use Rattle.servoread.proofs.gains_in.Tie as tie

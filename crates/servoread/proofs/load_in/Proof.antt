@@ -1,4 +1,4 @@
--- `servoslot::load_in` meets its contract. Assumes nothing.
+-- `servoread::load_in` meets its contract. Assumes nothing.
 use borrow.Author.Needs.{needs}
 use Rattle.servoread.proofs.load_in.Statement.{statement}
 use Rattle.servoread.proofs.load_in.Tie as tie

@@ -1,4 +1,4 @@
--- `servoslot::mode_in` meets its contract. Assumes nothing.
+-- `servoread::mode_in` meets its contract. Assumes nothing.
 use Rattle.servoslot.specs.Slot.{modeIn}
 use Rattle.servo.specs.declared.Mode.the-variants.{Trapezoid}
 use Prim.Native.Nat.{ℕ, zero, suc}

@@ -1,4 +1,4 @@
--- `servoslot::rates_in` meets its contract. Assumes nothing.
+-- `servoread::rates_in` meets its contract. Assumes nothing.
 use borrow.Author.Needs.{needs}
 use Rattle.servoread.proofs.rates_in.Statement.{statement}
 use Rattle.servoread.proofs.rates_in.Tie as tie

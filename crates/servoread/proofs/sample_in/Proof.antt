@@ -1,4 +1,4 @@
--- `servoslot::sample_in` meets its contract. Assumes nothing.
+-- `servoread::sample_in` meets its contract. Assumes nothing.
 use borrow.Author.Needs.{needs}
 use Rattle.servoread.proofs.sample_in.Statement.{statement}
 use Rattle.servoread.proofs.sample_in.Tie as tie

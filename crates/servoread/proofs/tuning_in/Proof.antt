@@ -1,4 +1,4 @@
--- `servoslot::tuning_in` meets its contract. Assumes nothing.
+-- `servoread::tuning_in` meets its contract. Assumes nothing.
 use borrow.Author.Needs.{needs}
 use Rattle.servoread.proofs.tuning_in.Statement.{statement}
 use Rattle.servoread.proofs.tuning_in.Tie as tie

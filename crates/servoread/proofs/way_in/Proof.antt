@@ -1,4 +1,4 @@
--- `servoslot::way_in` meets its contract. Assumes nothing.
+-- `servoread::way_in` meets its contract. Assumes nothing.
 use Rattle.servoslot.specs.Slot.{wayIn}
 use Rattle.servo.specs.declared.Way.the-variants.{Move}
 use Prim.Native.Nat.{ℕ, zero, suc}

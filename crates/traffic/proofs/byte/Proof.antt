@@ -1,4 +1,4 @@
--- `network::byte` meets its contract. Assumes nothing.
+-- `traffic::byte` meets its contract. Assumes nothing.
 use Rattle.network.proofs.Calls.{nothing-is, ended-is, sized}
 use Rattle.network.proofs.Valid.{Valid, valid-is}
 use Rattle.network.proofs.Head.{length-receiver}

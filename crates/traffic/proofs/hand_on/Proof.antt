@@ -1,4 +1,4 @@
--- `network::hand_on` meets its contract. Assumes nothing.
+-- `traffic::hand_on` meets its contract. Assumes nothing.
 use lib.Seq.{length-take-le}
 use native.Mathlib.Omega.{arith}
 use lib.ListN.{getD}

@@ -1,4 +1,4 @@
--- `network::take_turn` meets its contract. Assumes nothing.
+-- `traffic::take_turn` meets its contract. Assumes nothing.
 use Rattle.network.proofs.OneTurn.{touched-turn, passed-turn}
 use Rattle.station.specs.Touch.{frameOf}
 use Rattle.chain.specs.Slots.{slotSize}

@@ -1,4 +1,4 @@
--- `network::tick` meets its contract. Assumes nothing.
+-- `traffic::tick` meets its contract. Assumes nothing.
 use Rattle.network.proofs.Exact.{ticked-is}
 use Rattle.network.proofs.Valid.{Valid, valid-is}
 use Rattle.modules.proofs.Laws.{lawful}

@@ -1,4 +1,4 @@
--- `network::tick_each` meets its contract. The invariant: the ticks left, at the record as it is, give the whole. Assumes nothing.
+-- `traffic::tick_each` meets its contract. The invariant: the ticks left, at the record as it is, give the whole. Assumes nothing.
 use mathlib.Core.Path.{_≡_, refl, sym, _∙_}
 use Prim.Native.Nat.{_+_, _*_, _-_}
 use native.Mathlib.Omega.{arith}

@@ -1,4 +1,4 @@
--- `network::walk` meets its contract. The invariant: the rest of the walk, from the record as it is, gives the whole. Assumes nothing.
+-- `traffic::walk` meets its contract. The invariant: the rest of the walk, from the record as it is, gives the whole. Assumes nothing.
 use mathlib.Core.Path.{_≡_, refl, ap, ap₂, _∙_}
 use mathlib.Core.List.{List}
 use mathlib.Core.Bool.{true}
