@@ -4,6 +4,7 @@ use mathlib.Core.Bool.{Bool, true, false, cond, _&&_, and-false, true≢false}
 use mathlib.Core.Logic.{inl, inr}
 use Prim.Native.Nat.{ℕ}
 use Rattle.line.specs.Frames.{Frame}
+use Rattle.inout.proofs.Cause as InoutCause
 use Rattle.orders.specs.declared.Halt.the-variants.{Keep, Here}
 use Rattle.orders.specs.declared.Order.the-variants.{LoadTrajectory, Start, Stop}
 use Rattle.servo.specs.declared.Way.{Way}
@@ -15,7 +16,7 @@ use Rattle.servo.specs.Orders.{can, perform, withCause, execute}
 use Rattle.servo.proofs.Cause.{cause}
 use Rattle.servo.proofs.Starting.{starts, complete-is, start-now, twice as twice-from}
 use Rattle.servo.proofs.Stopping.{stops, stops-now}
-use Rattle.demands.specs.Motion.{byStart, byLoad, byStopHere, Missed, elsewhere, damaged, short, NoneReady, IsStart, Question, Twice}
+use Rattle.demands.specs.Motion.{byStart, byLoad, byStopHere, Missed, elsewhere, damaged, short, NoneReady, IsStart, OnlyTheCause, Question, Twice}
 use Rattle.demands.proofs.Asking.{start-asks, short-asks}
 
 -- a cause makes no load complete
@@ -46,6 +47,9 @@ missed-is load alone true m (short c n) = at (load .damaged) refl
     at : (d : Bool) → load .damaged ≡ d → (k : ℕ) × (execute load alone m ≡ withCause k m)
     at true d = (1, cause load alone m .damaged d)
     at false d = (2, cause load alone m .malformed d (short-asks load alone c n))
+
+pub only-the-cause : OnlyTheCause
+only-the-cause = (InoutCause.cause, cause)
 
 pub question : Question
 question m load start reached alone apart x n s =

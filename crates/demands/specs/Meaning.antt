@@ -35,10 +35,8 @@ frame address code ds = record { address = address; code = code; content = ds; d
 
 -- a frame has been handed along the chain: each module that it touches has executed it and, if it replies, replied
 abbrev pub handedAlong : Frame → Net Module → Outcome Module
-handedAlong f n = record {
-  net = record { receiver = idle; modules = handed kind f true (n .modules) };
-  replies = repliesFrom 0 (said kind f true (n .modules));
-}
+handedAlong f n =
+    record { net = record { receiver = idle; modules = handed kind f true (n .modules) }; replies = repliesFrom 0 (said kind f true (n .modules)) }
 
 -- What the host writes is what a module reads: the writer's bytes, without marks, to an idle receiver.
 abbrev pub ReadBack : Type 0
@@ -76,9 +74,7 @@ pub record Meaning : Type 0 where
   pub bytes : (k x : ℕ) → x < 256 ^ k → ofLe (le k x) ≡ x
   pub numbers : (bs : List ℕ) → Bytes bs → le (length bs) (ofLe bs) ≡ bs
 
--- ---- The bench sheet, cases (a) to (i)
-
--- a case: what is worked out, and what the sheet says
+-- The bench sheet. A case: what is worked out, and what the sheet says.
 pub data Case : Type 1 where
   gives : {A : Type 0} → A → A → Case
 

@@ -13,6 +13,7 @@ use Rattle.line.specs.Receive.{idle, taken}
 use Rattle.line.specs.Frames.{Byte, Frame, frameIn, values, AreBytes}
 use Rattle.station.specs.Touch.{individually}
 use Rattle.chain.specs.Chain.{Net, flat, addresses, touched}
+use Rattle.inout.specs.Promises as Inouts
 use Rattle.motion.specs.Profile.{left}
 use Rattle.orders.specs.declared.Carried.{Carried}
 use Rattle.orders.specs.declared.Halt.the-variants.{Here}
@@ -25,6 +26,7 @@ use Rattle.servo.specs.declared.Mode.the-variants.{Velocity, Trapezoid}
 use Rattle.servo.specs.declared.Servo.{Servo}
 use Rattle.servo.specs.Loads.{complete, loaded, startsNow}
 use Rattle.servo.specs.Orders.{withCause, execute}
+use Rattle.servo.specs.Promises as Servos
 use Rattle.servo.specs.LoadPromises.{Ready, Startable}
 use Rattle.servo.specs.RestPromises.{following}
 use Rattle.modules.specs.Types.{Module, kind, slots}
@@ -35,8 +37,6 @@ use Rattle.calls.specs.Calls.{setupRecord}
 use Rattle.calls.specs.Promises.{Passes, Refuses, ValidRecord}
 use Rattle.histories.specs.Events.{run, Reads}
 use Rattle.histories.specs.Calls.{Call, byte, servoSample, ioSample, tick, Handed, AllHanded, refusals, leaves, leftBy, writtenBy, doneBy}
-
--- ---- Any calls
 
 -- Setup, unless it is refused, leaves a valid record of the modules at power-up, whatever was lent.
 abbrev pub FromSetup : Type 0
@@ -61,7 +61,9 @@ RefusedIsNoStep =
     → (leftBy (before ++ c ∷ later) net ≡ leftBy (before ++ later) net)
     × (writtenBy (before ++ c ∷ later) net ≡ writtenBy (before ++ later) net)
 
--- ---- Motion and its starts
+-- A module of either type that can't carry out a frame keeps everything but its cause: 1, 2 or 3, tested in this order.
+abbrev pub OnlyTheCause : Type 0
+OnlyTheCause = Inouts.Cause × Servos.Cause
 
 -- Motion: a speed or a PWM value other than 0.
 abbrev pub Moves : Servo → Type 0
