@@ -29,16 +29,11 @@ pub fn is_within(limit: u32, z: i64) -> bool
     (low <= z) & (z <= high)
 }
 
-// The number that these 32 bits stand for in two's complement.
+// The number that these 32 bits stand for in two's complement. Half the range down and up again compiles to a sign extension.
 pub fn signed(n: u32) -> i64
     ensures { λ r. ⌜ r ≡ signed n ⌝ }
 {
-    let z = n as i64;
-    if n < 0x8000_0000 {
-        z
-    } else {
-        z - 0x1_0000_0000
-    }
+    less(n, 0x8000_0000) as i64 - 0x8000_0000
 }
 
 // The 32 bits that stand for z in two's complement.

@@ -1,6 +1,6 @@
 -- Tests that hold together, and tests made in turn. Assumes nothing.
-use mathlib.Core.Path.{_≡_, refl, sym, ap, ap₂, _∙_}
-use mathlib.Core.List.{List, [], _∷_, _++_}
+use mathlib.Core.Path.{_≡_, refl, sym, ap, _∙_}
+use mathlib.Core.List.{List, [], _∷_, map}
 use mathlib.Core.Bool.{Bool, true, false, cond, _&&_, and-assoc}
 use Prim.Native.Nat.{ℕ, zero, suc, _+_, _-_, _/_, _<_, _≤_}
 use native.Mathlib.Numerals.{add-one}
@@ -10,7 +10,7 @@ use lib.Seq.{drop-cons, drop-drop}
 use lib.Dec.{eqb, leb}
 use borrow.Author.Tests.{eq-eqb}
 use Rattle.layout.specs.Bytes.{readAt}
-use Rattle.layout.proofs.Laws.{readAt-part, read-add}
+use Rattle.layout.specs.Every.{every, everyFrom}
 use Rattle.chain.specs.Slots.{Slots, slotSize}
 use Rattle.modules.specs.Types.{known}
 use Rattle.network.specs.Calls.{allKnown}
@@ -23,10 +23,6 @@ cond-true false b e = let z : false ≡ true = e in (z, cc)
 pub and-true : (a b : Bool) → (a && b) ≡ true → (a ≡ true) × (b ≡ true)
 and-true true b e = (refl, e)
 and-true false b e = let z : false ≡ true = e in (z, cc)
-
--- a turn of the loop that looks for a byte that is not 0
-pub blank-turn : (s : List ℕ) (i : ℕ) → i < length s → blank (drop i s) ≡ (eqb (getD s i 0) 0 && blank (drop (i + 1) s))
-blank-turn s i h = rw (add-one i, drop-cons s i 0 h)
 
 module _ {M : Type 0} (L : Slots M) where
   -- a turn of the loop that tests the slots
@@ -43,23 +39,21 @@ module _ {M : Type 0} (L : Slots M) where
   unfolding okSlots
   slots-done at s = refl
 
-blank-both : (xs ys : List ℕ) → blank (xs ++ ys) ≡ (blank xs && blank ys)
-blank-both [] ys = refl
-blank-both (x ∷ xs) ys = rw (blank-both xs ys) (sym (and-assoc (eqb x 0) (blank xs) (blank ys)))
+-- bytes tested one after another
+blank-from : (bs : List ℕ) (a : Bool) → everyFrom a (map (λ b. eqb b 0) bs) ≡ (a && blank bs)
+blank-from [] true = refl
+blank-from [] false = refl
+blank-from (b ∷ bs) a = blank-from bs (a && eqb b 0) ∙ and-assoc a (eqb b 0) (blank bs)
 
--- an idle receiver is tested for being blank, the count of its bytes known to be 0
-pub idle-test : (s : List ℕ) {r : Bool} → 19 ≤ length s → getD s 17 0 ≡ 0 → r ≡ blank (take 17 s) → (r && eqb (getD s 18 0) 0) ≡ okReceiver s
+pub blank-every : (bs : List ℕ) → every (map (λ b. eqb b 0) bs) ≡ blank bs
+blank-every [] = refl
+blank-every (b ∷ bs) = blank-from bs (eqb b 0)
+
+-- an idle receiver is tested for being blank
+pub idle-test : (s : List ℕ) {r : Bool} → getD s 17 0 ≡ 0 → r ≡ blank (readAt 19 0 s) → r ≡ okReceiver s
 unfolding okReceiver
-idle-test s {r} h z e =
-    let t = eq-eqb (getD s 17 0) 0 z in
-    let last : blank (readAt 2 17 s) ≡ eqb (getD s 18 0) 0 = ap (λ (b : Bool). b && (eqb (getD s 18 0) 0 && true)) t ∙ and-true-r (eqb (getD s 18 0) 0) in
-    ap₂ (λ (a b : Bool). a && b) (e ∙ ap blank (sym (readAt-part 17 0 s (omega arith)))) (sym last)
-    ∙ sym (ap blank (read-add 17 2 0 s) ∙ blank-both (readAt 17 0 s) (readAt 2 17 s))
-    ∙ sym (ap (λ (b : Bool). cond b (blank (readAt 19 0 s)) (leb (getD s 17 0) (3 + getD s 16 0 / 16) && leb (getD s 18 0) 1)) t)
-  where
-    and-true-r : (b : Bool) → (b && true) ≡ b
-    and-true-r true = refl
-    and-true-r false = refl
+idle-test s z e =
+    e ∙ sym (ap (λ (b : Bool). cond b (blank (readAt 19 0 s)) (leb (getD s 17 0) (3 + getD s 16 0 / 16) && leb (getD s 18 0) 1)) (eq-eqb (getD s 17 0) 0 z))
 
 -- a turn of the loop that looks for an unknown type
 pub known-turn : (ts : List ℕ) (i : ℕ) → i < length ts → allKnown (drop i ts) ≡ (known (getD ts i 0) && allKnown (drop (i + 1) ts))

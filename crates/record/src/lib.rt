@@ -4,6 +4,7 @@ ghost use mathlib.Core.Bool.{true};
 ghost use mathlib.Core.List.{map};
 ghost use Prim.Native.Nat.{_+_, _*_, _≤_, _<_};
 ghost use lib.ListN.{length, replicate, drop};
+ghost use Rattle.layout.specs.Bytes.{readAt};
 ghost use Rattle.line.specs.declared.Answer;
 ghost use Rattle.chain.specs.Slots.{slotSize};
 ghost use Rattle.modules.specs.Types.{slots, powered, measured, outputs};
@@ -68,17 +69,30 @@ pub fn receiver_bytes(r: Receiver) -> [u8; 19]
     ]
 }
 
+// Whether the receiver's bytes are all 0. In a row they compile to one test.
 fn is_blank(s: &[u8]) -> bool
-    ensures { λ r. ⌜ r ≡ blank (now (s .entry)) ⌝ }
+    requires { ⌜ 19 ≤ length (now s) ⌝ }
+    ensures { λ r. ⌜ r ≡ blank (readAt 19 0 (now (s .entry))) ⌝ }
 {
-    let mut i = 0;
-    while i < s.len() {
-        if s[i] != 0 {
-            return false;
-        }
-        i += 1;
-    }
-    true
+    (s[0] == 0)
+        & (s[1] == 0)
+        & (s[2] == 0)
+        & (s[3] == 0)
+        & (s[4] == 0)
+        & (s[5] == 0)
+        & (s[6] == 0)
+        & (s[7] == 0)
+        & (s[8] == 0)
+        & (s[9] == 0)
+        & (s[10] == 0)
+        & (s[11] == 0)
+        & (s[12] == 0)
+        & (s[13] == 0)
+        & (s[14] == 0)
+        & (s[15] == 0)
+        & (s[16] == 0)
+        & (s[17] == 0)
+        & (s[18] == 0)
 }
 
 fn is_receiver_ok(s: &[u8]) -> bool
@@ -86,7 +100,7 @@ fn is_receiver_ok(s: &[u8]) -> bool
     ensures { λ r. ⌜ r ≡ okReceiver (now (s .entry)) ⌝ }
 {
     if s[17] == 0 {
-        return is_blank(&s[..17]) & (s[18] == 0);
+        return is_blank(s);
     }
     (s[17] <= 3 + s[16] / 16) & (s[18] <= 1)
 }

@@ -1,12 +1,10 @@
 // Whether a slot holds a valid servo: the tests of the list.
 ghost use mathlib.Core.Path.{_≡_};
 ghost use Prim.Native.Nat.{_≤_};
-ghost use lib.IntN.{pos};
 ghost use lib.ListN.{length};
 ghost use Rattle.layout.specs.Every.{every, everyFrom};
-ghost use Rattle.integers.specs.Whole.{same};
 ghost use Rattle.motion.specs.Profile.{Ranged};
-ghost use Rattle.servoslot.specs.List.{ratesFit, memoryFits, driveFits, emptied, live, modeFits, sound};
+ghost use Rattle.servoslot.specs.List.{ratesFit, memoryFits, driveFits, emptied, silent, unpulsed, still, live, modeFits, soundAt};
 ghost use Rattle.servoslot.specs.Slot.{okOf};
 ghost use Rattle.servoslot.specs.Parts.{frontTests, loadTests, motionTests};
 use filter::Memory;
@@ -14,7 +12,6 @@ use motion::Profile;
 use servo::Drive;
 use servo::Mode;
 use servo::Rates;
-use servo::Servo;
 
 fn do_rates_fit(r: Rates) -> bool
     ensures { λ q. ⌜ q ≡ ratesFit r ⌝ }
@@ -43,53 +40,49 @@ fn is_emptied(y: Memory) -> bool
 }
 
 fn is_silent(d: Drive) -> bool
-    ensures { λ r. ⌜ r ≡ same (d .output) (pos 0) ⌝ }
+    ensures { λ r. ⌜ r ≡ silent d ⌝ }
 {
     integers::is_same(d.output, 0)
 }
 
 fn is_unpulsed(d: Drive) -> bool
-    ensures { λ r. ⌜ r ≡ same (d .pulse) (pos 0) ⌝ }
+    ensures { λ r. ⌜ r ≡ unpulsed d ⌝ }
 {
     integers::is_same(d.pulse, 0)
 }
 
-fn is_at_rest(p: Profile) -> bool
-    ensures { λ r. ⌜ r ≡ same (p .speed) (pos 0) ⌝ }
+fn is_still(p: Profile) -> bool
+    ensures { λ r. ⌜ r ≡ still p ⌝ }
 {
     integers::is_same(p.speed, 0)
 }
 
-fn is_live(m: Servo) -> bool
-    ensures { λ r. ⌜ r ≡ live m ⌝ }
+fn is_live(power: u8, d: Drive) -> bool
+    ensures { λ r. ⌜ r ≡ live power d ⌝ }
 {
-    !m.drive.error & !(m.latched.power == 0)
+    !d.error & !(power == 0)
 }
 
 // What the mode asks.
-fn does_mode_fit(mode: Mode, m: Servo) -> bool
-    requires { ⌜ Ranged (m .profile) ⌝ }
-    ensures { λ r. ⌜ r ≡ modeFits mode m ⌝ }
+fn does_mode_fit(mode: Mode, power: u8, p: Profile, y: Memory, d: Drive) -> bool
+    requires { ⌜ Ranged p ⌝ }
+    ensures { λ r. ⌜ r ≡ modeFits mode power p y d ⌝ }
 {
-    let p = m.profile;
-    let y = m.memory;
-    let d = m.drive;
     match mode {
-        Mode::Off => is_at_rest(p) & is_silent(d) & is_emptied(y) & is_unpulsed(d),
-        Mode::Pwm => is_at_rest(p) & is_emptied(y) & is_live(m),
-        Mode::Hold => is_at_rest(p) & is_unpulsed(d) & is_live(m),
-        Mode::Velocity => is_unpulsed(d) & is_live(m),
-        Mode::Trapezoid => is_unpulsed(d) & is_live(m) & p.is_running(),
+        Mode::Off => is_still(p) & is_silent(d) & is_emptied(y) & is_unpulsed(d),
+        Mode::Pwm => is_still(p) & is_emptied(y) & is_live(power, d),
+        Mode::Hold => is_still(p) & is_unpulsed(d) & is_live(power, d),
+        Mode::Velocity => is_unpulsed(d) & is_live(power, d),
+        Mode::Trapezoid => is_unpulsed(d) & is_live(power, d) & p.is_running(),
     }
 }
 
-fn is_sound(m: Servo) -> bool
-    requires { ⌜ Ranged (m .profile) ⌝ }
-    ensures { λ r. ⌜ r ≡ sound m ⌝ }
+fn is_sound(power: u8, p: Profile, y: Memory, d: Drive) -> bool
+    requires { ⌜ Ranged p ⌝ }
+    ensures { λ r. ⌜ r ≡ soundAt power p y d ⌝ }
 {
-    let d = m.drive;
     let mode = d.mode;
-    ((m.latched.power == 1) | is_silent(d)) & does_mode_fit(mode, m)
+    ((power == 1) | is_silent(d)) & does_mode_fit(mode, power, p, y, d)
 }
 
 // The tests of the bytes up to place 38: type, station, both powers, gains and limits.
@@ -127,30 +120,32 @@ fn is_load_ok(ok: bool, s: &[u8], r: Rates) -> bool
 }
 
 // What was tested so far, and the tests of what runs.
-fn is_motion_ok(ok: bool, s: &[u8], m: Servo) -> bool
+fn is_motion_ok(ok: bool, s: &[u8], p: Profile, y: Memory, d: Drive) -> bool
     requires { ⌜ 106 ≤ length (now s) ⌝ }
-    ensures { λ q. ⌜ q ≡ everyFrom ok (motionTests m (now (s .entry))) ⌝ }
+    ensures { λ q. ⌜ q ≡ everyFrom ok (motionTests p y d (now (s .entry))) ⌝ }
 {
-    let p = m.profile;
     ok
         & p.is_in_range()
-        & does_memory_fit(m.memory)
+        & does_memory_fit(y)
         & (s[95] <= 4)
         & (s[104] <= 1)
         & (s[105] <= 1)
-        & does_drive_fit(m.drive)
+        & does_drive_fit(d)
 }
 
-// Whether a slot holds a valid servo.
+// Whether a slot holds a valid servo. Only what the tests ask for is read.
 pub fn is_ok(s: &[u8]) -> bool
     requires { ⌜ 106 ≤ length (now s) ⌝ }
     ensures { λ r. ⌜ r ≡ okOf (now (s .entry)) ⌝ }
 {
-    let m = servoread::decode(s);
+    let r = servoread::rates_in(s);
+    let p = servoread::profile_in(s);
+    let y = servoread::memory_in(s);
+    let d = servoread::drive_in(s);
     let front = is_front_ok(s);
-    let load = is_load_ok(front, s, m.rates);
-    if is_motion_ok(load, s, m) {
-        return is_sound(m);
+    let load = is_load_ok(front, s, r);
+    if is_motion_ok(load, s, p, y, d) {
+        return is_sound(s[18], p, y, d);
     }
     false
 }

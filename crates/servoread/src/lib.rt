@@ -86,7 +86,7 @@ fn tuning_in(s: &[u8]) -> Tuning
     }
 }
 
-fn rates_in(s: &[u8]) -> Rates
+pub fn rates_in(s: &[u8]) -> Rates
     requires { ⌜ 106 ≤ length (now s) ⌝ }
     ensures { λ r. ⌜ r ≡ rates .codec .dec 41 (now (s .entry)) ⌝ }
 {
@@ -113,7 +113,7 @@ fn load_in(s: &[u8]) -> Load
     }
 }
 
-fn profile_in(s: &[u8]) -> Profile
+pub fn profile_in(s: &[u8]) -> Profile
     requires { ⌜ 106 ≤ length (now s) ⌝ }
     ensures { λ r. ⌜ r ≡ profile .codec .dec 61 (now (s .entry)) ⌝ }
 {
@@ -127,7 +127,7 @@ fn profile_in(s: &[u8]) -> Profile
     }
 }
 
-fn memory_in(s: &[u8]) -> Memory
+pub fn memory_in(s: &[u8]) -> Memory
     requires { ⌜ 106 ≤ length (now s) ⌝ }
     ensures { λ r. ⌜ r ≡ memory .codec .dec 87 (now (s .entry)) ⌝ }
 {
@@ -137,7 +137,7 @@ fn memory_in(s: &[u8]) -> Memory
     }
 }
 
-fn drive_in(s: &[u8]) -> Drive
+pub fn drive_in(s: &[u8]) -> Drive
     requires { ⌜ 106 ≤ length (now s) ⌝ }
     ensures { λ r. ⌜ r ≡ drive .codec .dec 95 (now (s .entry)) ⌝ }
 {

@@ -23,9 +23,7 @@ use Rattle.servo.specs.declared.Mode.{Mode}
 use Rattle.servo.specs.declared.Mode.the-variants.{Off, Pwm, Hold, Velocity, Trapezoid}
 use Rattle.servo.specs.declared.Drive.{Drive}
 use Rattle.servo.specs.declared.Servo.{Servo}
-use Rattle.servo.specs.Servo.{powered}
-use Rattle.servo.specs.Loads.{atRest}
-use Rattle.servoslot.specs.List.{ratesFit, memoryFits, driveFits, emptied, silent, unpulsed, live, modeFits, sound}
+use Rattle.servoslot.specs.List.{ratesFit, memoryFits, driveFits, emptied, silent, unpulsed, still, live, modeFits, soundAt, sound}
 use Rattle.servoslot.specs.Slot.{sample, counts, tuning, rates, load, profile, memory, drive}
 use Rattle.servoslot.specs.Promises.{Fits}
 
@@ -139,75 +137,87 @@ drive-fits d p o = (
 
 -- ---- the list
 
-module _ (m : Servo) where
-  idle-good : atRest m ≡ true → emptied (m .memory) ≡ true → Idle (m .profile .speed) (m .memory)
+module _ (power : ℕ) (p : Profile) (y : Memory) (d : Drive) where
+  idle-good : still p ≡ true → emptied y ≡ true → Idle (p .speed) y
   unfolding emptied
   idle-good r e =
-      let h = every-hold (same (m .memory .integral) (pos 0) ∷ same (m .memory .previous) (pos 0) ∷ []) e in
+      let h = every-hold (same (y .integral) (pos 0) ∷ same (y .previous) (pos 0) ∷ []) e in
       record { rest = same-eq _ _ r; integral = same-eq _ _ (h .0); previous = same-eq _ _ (h .1 .0) }
 
-  live-good : live m ≡ true → Live (m .latched .power) (m .drive .error)
+  live-good : live power d ≡ true → Live power (d .error)
   live-good e =
-      let h = every-hold (not (m .drive .error) ∷ not (eqb (m .latched .power) 0) ∷ []) e in
+      let h = every-hold (not (d .error) ∷ not (eqb power 0) ∷ []) e in
       record { clear = not-true _ (h .0); alive = eqb-false _ _ (not-true _ (h .1 .0)) }
 
-  mode-good : (k : Mode) → modeFits k m ≡ true → InMode k (m .latched .power) (m .profile) (m .memory) (m .drive)
+  mode-good : (k : Mode) → modeFits k power p y d ≡ true → InMode k power p y d
   mode-good Off e =
-      let h = every-hold (atRest m ∷ silent m ∷ emptied (m .memory) ∷ unpulsed m ∷ []) e in
+      let h = every-hold (still p ∷ silent d ∷ emptied y ∷ unpulsed d ∷ []) e in
       (idle-good (h .0) (h .1 .1 .0), same-eq _ _ (h .1 .0), same-eq _ _ (h .1 .1 .1 .0))
   mode-good Pwm e =
-      let h = every-hold (atRest m ∷ emptied (m .memory) ∷ live m ∷ []) e in
+      let h = every-hold (still p ∷ emptied y ∷ live power d ∷ []) e in
       (idle-good (h .0) (h .1 .0), live-good (h .1 .1 .0))
   mode-good Hold e =
-      let h = every-hold (atRest m ∷ unpulsed m ∷ live m ∷ []) e in
+      let h = every-hold (still p ∷ unpulsed d ∷ live power d ∷ []) e in
       (same-eq _ _ (h .0), same-eq _ _ (h .1 .0), live-good (h .1 .1 .0))
   mode-good Velocity e =
-      let h = every-hold (unpulsed m ∷ live m ∷ []) e in
+      let h = every-hold (unpulsed d ∷ live power d ∷ []) e in
       (same-eq _ _ (h .0), live-good (h .1 .0))
   mode-good Trapezoid e =
-      let h = every-hold (unpulsed m ∷ live m ∷ running (m .profile) ∷ []) e in
-      (same-eq _ _ (h .0), live-good (h .1 .0), tested (m .profile) .0 (h .1 .1 .0))
+      let h = every-hold (unpulsed d ∷ live power d ∷ running p ∷ []) e in
+      (same-eq _ _ (h .0), live-good (h .1 .0), tested p .0 (h .1 .1 .0))
 
-  powerless-good : (powered m || silent m) ≡ true → (m .latched .power ≡ 1 → ⊥) → m .drive .output ≡ pos 0
+  powerless-good : (eqb power 1 || silent d) ≡ true → (power ≡ 1 → ⊥) → d .output ≡ pos 0
   powerless-good h n = same-eq _ _ (rw (ne-eqb _ _ n) at h)
 
-  emptied-fits : Idle (m .profile .speed) (m .memory) → emptied (m .memory) ≡ true
+  emptied-fits : Idle (p .speed) y → emptied y ≡ true
   unfolding emptied
   emptied-fits i =
-      hold-every (same (m .memory .integral) (pos 0) ∷ same (m .memory .previous) (pos 0) ∷ [])
+      hold-every (same (y .integral) (pos 0) ∷ same (y .previous) (pos 0) ∷ [])
       (eq-same _ _ (i .integral), (eq-same _ _ (i .previous), tt))
 
-  live-fits : Live (m .latched .power) (m .drive .error) → live m ≡ true
+  live-fits : Live power (d .error) → live power d ≡ true
   live-fits l =
-      hold-every (not (m .drive .error) ∷ not (eqb (m .latched .power) 0) ∷ []) (ap not (l .clear), (ap not (ne-eqb _ _ (l .alive)), tt))
+      hold-every (not (d .error) ∷ not (eqb power 0) ∷ []) (ap not (l .clear), (ap not (ne-eqb _ _ (l .alive)), tt))
 
-  pub mode-fits : (k : Mode) → InMode k (m .latched .power) (m .profile) (m .memory) (m .drive) → modeFits k m ≡ true
+  mode-fits : (k : Mode) → InMode k power p y d → modeFits k power p y d ≡ true
   mode-fits Off t =
-      hold-every (atRest m ∷ silent m ∷ emptied (m .memory) ∷ unpulsed m ∷ [])
+      hold-every (still p ∷ silent d ∷ emptied y ∷ unpulsed d ∷ [])
       (eq-same _ _ (t .0 .rest), (eq-same _ _ (t .1), (emptied-fits (t .0), (eq-same _ _ (t .2), tt))))
   mode-fits Pwm t =
-      hold-every (atRest m ∷ emptied (m .memory) ∷ live m ∷ []) (eq-same _ _ (t .0 .rest), (emptied-fits (t .0), (live-fits (t .1), tt)))
+      hold-every (still p ∷ emptied y ∷ live power d ∷ []) (eq-same _ _ (t .0 .rest), (emptied-fits (t .0), (live-fits (t .1), tt)))
   mode-fits Hold t =
-      hold-every (atRest m ∷ unpulsed m ∷ live m ∷ []) (eq-same _ _ (t .0), (eq-same _ _ (t .1), (live-fits (t .2), tt)))
-  mode-fits Velocity t = hold-every (unpulsed m ∷ live m ∷ []) (eq-same _ _ (t .0), (live-fits (t .1), tt))
+      hold-every (still p ∷ unpulsed d ∷ live power d ∷ []) (eq-same _ _ (t .0), (eq-same _ _ (t .1), (live-fits (t .2), tt)))
+  mode-fits Velocity t = hold-every (unpulsed d ∷ live power d ∷ []) (eq-same _ _ (t .0), (live-fits (t .1), tt))
   mode-fits Trapezoid t =
-      hold-every (unpulsed m ∷ live m ∷ running (m .profile) ∷ []) (eq-same _ _ (t .0), (live-fits (t .1), (tested (m .profile) .1 (t .2), tt)))
+      hold-every (unpulsed d ∷ live power d ∷ running p ∷ []) (eq-same _ _ (t .0), (live-fits (t .1), (tested p .1 (t .2), tt)))
 
-  pub powerless-fits : ((m .latched .power ≡ 1 → ⊥) → m .drive .output ≡ pos 0) → (powered m || silent m) ≡ true
-  powerless-fits h = at (powered m) refl
+  powerless-fits : ((power ≡ 1 → ⊥) → d .output ≡ pos 0) → (eqb power 1 || silent d) ≡ true
+  powerless-fits h = at (eqb power 1) refl
     where
-      at : (s : Bool) → powered m ≡ s → (s || silent m) ≡ true
+      at : (s : Bool) → eqb power 1 ≡ s → (s || silent d) ≡ true
       at true e = refl
       at false e = eq-same _ _ (h (eqb-false _ _ e))
 
-  -- ---- the whole
+  sound-good : soundAt power p y d ≡ true → ((power ≡ 1 → ⊥) → d .output ≡ pos 0) × InMode (d .mode) power p y d
+  unfolding soundAt
+  sound-good e =
+      let h = every-hold ((eqb power 1 || silent d) ∷ modeFits (d .mode) power p y d ∷ []) e in
+      (powerless-good (h .0), mode-good (d .mode) (h .1 .0))
 
+  pub sound-fits : ((power ≡ 1 → ⊥) → d .output ≡ pos 0) → InMode (d .mode) power p y d → soundAt power p y d ≡ true
+  unfolding soundAt
+  sound-fits h t =
+      hold-every ((eqb power 1 || silent d) ∷ modeFits (d .mode) power p y d ∷ []) (powerless-fits h, (mode-fits (d .mode) t, tt))
+
+-- ---- the whole
+
+module _ (m : Servo) where
   pub good : Fits m → Good m
   unfolding sound
   good t =
       let x = t .0 .1 in
       let run = x .1 .1 .1 .1 .1 .1 .1 in
-      let h = every-hold ((powered m || silent m) ∷ modeFits (m .drive .mode) m ∷ []) (t .1) in
+      let h = sound-good (m .latched .power) (m .profile) (m .memory) (m .drive) (t .1) in
       let d = drive-good (m .drive) (run .1 .1) in
       record {
         station = x .0;
@@ -223,8 +233,8 @@ module _ (m : Servo) where
               memory = memory-good (m .memory) (run .1 .0);
               pulse = d .0;
               output = d .1;
-              powerless = powerless-good (h .0);
-              mode = mode-good (m .drive .mode) (h .1 .0);
+              powerless = h .0;
+              mode = h .1;
             };
       }
 
@@ -239,5 +249,5 @@ module _ (m : Servo) where
           tt,
           (g .station, (g .waiting, (g .latched, (g .counts, (g .tuning, (rates-fit (m .rates) (g .rates), (g .load, (p, (y, d))))))))),
         ),
-        hold-every ((powered m || silent m) ∷ modeFits (m .drive .mode) m ∷ []) (powerless-fits (s .powerless), (mode-fits (m .drive .mode) (s .mode), tt)),
+        sound-fits (m .latched .power) (m .profile) (m .memory) (m .drive) (s .powerless) (s .mode),
       )

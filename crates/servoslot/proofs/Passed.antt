@@ -1,7 +1,7 @@
 -- A slot that satisfies the written list passes the tests. Assumes nothing.
 use mathlib.Core.Path.{_≡_, refl, sym, ap, _∙_}
 use mathlib.Core.List.{List, [], _∷_, _++_}
-use mathlib.Core.Bool.{Bool, true, _||_}
+use mathlib.Core.Bool.{Bool, true}
 use Prim.Native.Nat.{ℕ, _+_, _*_, _≤_}
 use native.Mathlib.Omega.{arith}
 use borrow.Author.Tests.{eq-eqb, le-leb}
@@ -14,12 +14,11 @@ use Rattle.motion.specs.Profile.{fastest, inRange}
 use Rattle.servo.specs.declared.Mode.{Mode}
 use Rattle.servo.specs.declared.Mode.the-variants.{Off, Pwm, Hold, Velocity, Trapezoid}
 use Rattle.servo.specs.declared.Servo.{Servo}
-use Rattle.servo.specs.Servo.{powered}
-use Rattle.servoslot.specs.List.{silent, modeFits, sound}
+use Rattle.servoslot.specs.List.{sound}
 use Rattle.servoslot.specs.Slot.{modeByte, slot, decodeOf, okOf}
 use Rattle.servoslot.specs.Parts.{frontTests, loadTests, motionTests}
 use Rattle.servoslot.specs.Promises.{Lines}
-use Rattle.servoslot.proofs.Good.{Live, InMode, rates-fit, memory-fits, drive-fits, mode-fits, powerless-fits}
+use Rattle.servoslot.proofs.Good.{Live, InMode, rates-fit, memory-fits, drive-fits, sound-fits}
 
 -- the facts of a list of tests, one after another
 infixr 40 _and_
@@ -52,8 +51,7 @@ module _ {s : List ℕ} {m : Servo} (l : Lines s m) where
   sound-holds : sound m ≡ true
   unfolding sound
   sound-holds =
-      hold-every ((powered m || silent m) ∷ modeFits (m .drive .mode) m ∷ [])
-      (powerless-fits m (l .powerless) and mode-fits m (m .drive .mode) (in-mode (m .drive .mode) refl) and tt)
+      sound-fits (m .latched .power) (m .profile) (m .memory) (m .drive) (l .powerless) (in-mode (m .drive .mode) refl)
 
   -- ---- the tests of rates, load and what runs
 
@@ -76,7 +74,7 @@ module _ {s : List ℕ} {m : Servo} (l : Lines s m) where
       hold-every (leb (natAbs (p .speed)) fastest ∷ leb (natAbs (p .aim)) fastest ∷ leb (p .acceleration) fastest ∷ leb (p .top) fastest ∷ [])
       (le-leb _ _ (l .speed) and le-leb _ _ (l .aim) and le-leb _ _ (l .runningAcceleration) and le-leb _ _ (l .top) and tt)
 
-  motion-holds : All (motionTests m s)
+  motion-holds : All (motionTests (m .profile) (m .memory) (m .drive) s)
   motion-holds =
       range-holds
       and memory-fits (m .memory) (record { integral = l .integral; previous = l .previous }) .1
@@ -111,8 +109,8 @@ module _ (s : List ℕ) (l : Lines s (decodeOf s)) where
   passed =
       let m : Servo = decodeOf s in
       let last : List Bool = sound m ∷ [] in
-      let run : List Bool = motionTests m s ++ last in
+      let run : List Bool = motionTests (m .profile) (m .memory) (m .drive) s ++ last in
       let load : List Bool = loadTests (m .rates) s ++ run in
       hold-every (slot .codec .tests 0 s)
       (hold-both (frontTests s) load front-holds
-      (hold-both (loadTests (m .rates) s) run (load-holds l) (hold-both (motionTests m s) last (motion-holds l) (sound-holds l, tt))))
+      (hold-both (loadTests (m .rates) s) run (load-holds l) (hold-both (motionTests (m .profile) (m .memory) (m .drive) s) last (motion-holds l) (sound-holds l, tt))))

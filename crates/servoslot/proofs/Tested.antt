@@ -5,36 +5,40 @@ use mathlib.Core.Bool.{Bool, true, _&&_}
 use Prim.Native.Nat.{ℕ, _<_}
 use native.Mathlib.Omega.{arith}
 use lib.IntN.{natAbs}
+use lib.ListN.{getD}
 use Rattle.layout.specs.Bytes.{Bytes}
 use Rattle.layout.specs.Every.{every, everyFrom}
 use Rattle.layout.proofs.Codec.{head-sound}
 use Rattle.layout.proofs.Every.{every-hold}
 use Rattle.line.specs.Frames.{Frame}
+use Rattle.motion.specs.declared.Profile.{Profile}
 use Rattle.motion.specs.Profile.{Ranged, inRange}
 use Rattle.motion.proofs.Tests.{in-ranges}
-use Rattle.servo.specs.declared.Servo.{Servo}
+use Rattle.filter.specs.declared.Memory.{Memory}
+use Rattle.servo.specs.declared.Rates.{Rates}
+use Rattle.servo.specs.declared.Drive.{Drive}
 use Rattle.servo.specs.Orders.{execute}
 use Rattle.servo.specs.Tick.{Steady}
-use Rattle.servoslot.specs.List.{sound}
-use Rattle.servoslot.specs.Slot.{slot, profile, decodeOf, okOf}
+use Rattle.servoslot.specs.List.{soundAt, sound}
+use Rattle.servoslot.specs.Slot.{slot, rates, profile, memory, drive, decodeOf, okOf}
 use Rattle.servoslot.specs.Parts.{frontTests, loadTests, motionTests}
 use Rattle.servoslot.specs.Promises.{Fits}
 use Rattle.servoslot.proofs.Good.{good}
 use Rattle.servoslot.proofs.Within.{kept, defined}
 
-module _ (s : List ℕ) {m : Servo} {front load run : Bool} (em : m ≡ decodeOf s) (ef : front ≡ every (frontTests s))
-    (el : load ≡ everyFrom front (loadTests (m .rates) s)) (er : run ≡ everyFrom load (motionTests m s)) where
-  pub ok-is : okOf s ≡ (run && sound m)
-  unfolding okOf decodeOf
-  ok-is = rw (er, el, ef, em)
+module _ (s : List ℕ) {r : Rates} {p : Profile} {y : Memory} {d : Drive} {front load run : Bool} (er : r ≡ rates .codec .dec 41 s)
+    (ep : p ≡ profile .codec .dec 61 s) (ey : y ≡ memory .codec .dec 87 s) (ed : d ≡ drive .codec .dec 95 s) (ef : front ≡ every (frontTests s))
+    (el : load ≡ everyFrom front (loadTests r s)) (eu : run ≡ everyFrom load (motionTests p y d s)) where
+  pub ok-is : okOf s ≡ (run && soundAt (getD s 18 0) p y d)
+  unfolding okOf sound
+  ok-is = rw (eu, el, ef, ed, ey, ep, er)
 
   -- the last test is only made where the profile is in range
-  pub ranged-in : Bytes s → run ≡ true → Ranged (m .profile)
-  unfolding decodeOf
+  pub ranged-in : Bytes s → run ≡ true → Ranged p
   ranged-in bytes e =
-      let h = every-hold (load ∷ motionTests m s) (sym er ∙ e) .1 .0 in
-      let t = profile .lawful .sound 61 s bytes (ap (λ (x : Servo). inRange (x .profile)) (sym em) ∙ h, tt) in
-      rw em (in-ranges (decodeOf s .profile) (t .0 .0) (t .0 .1 .1 .0) .0 (t .1))
+      let h = every-hold (load ∷ motionTests p y d s) (sym eu ∙ e) .1 .0 in
+      let t = profile .lawful .sound 61 s bytes (ap inRange (sym ep) ∙ h, tt) in
+      rw ep (in-ranges (profile .codec .dec 61 s) (t .0 .0) (t .0 .1 .1 .0) .0 (t .1))
 
 module _ (s : List ℕ) (bytes : Bytes s) (ok : okOf s ≡ true) where
   fits-in : Fits (decodeOf s)

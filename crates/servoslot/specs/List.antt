@@ -1,8 +1,10 @@
 -- What a servo in a slot satisfies beyond the ranges of its bytes (document 01, "Numbers given back", the list for 16).
 use mathlib.Core.Bool.{Bool, not, _&&_, _||_}
+use Prim.Native.Nat.{ℕ}
 use lib.Dec.{eqb, leb}
 use lib.IntN.{pos, natAbs}
 use Rattle.integers.specs.Whole.{same}
+use Rattle.motion.specs.declared.Profile.{Profile}
 use Rattle.motion.specs.Profile.{fastest, running}
 use Rattle.filter.specs.declared.Memory.{Memory}
 use Rattle.servo.specs.declared.Rates.{Rates}
@@ -10,8 +12,6 @@ use Rattle.servo.specs.declared.Mode.{Mode}
 use Rattle.servo.specs.declared.Mode.the-variants.{Off, Pwm, Hold, Velocity, Trapezoid}
 use Rattle.servo.specs.declared.Drive.{Drive}
 use Rattle.servo.specs.declared.Servo.{Servo}
-use Rattle.servo.specs.Servo.{powered}
-use Rattle.servo.specs.Loads.{atRest}
 
 -- loaded velocity and acceleration are at most the greatest; an acceleration that was loaded is not 0
 unfoldable pub ratesFit : Rates → Bool
@@ -29,24 +29,30 @@ driveFits d = leb (natAbs (d .pulse)) 255 && leb (natAbs (d .output)) 255
 unfoldable pub emptied : Memory → Bool
 emptied y = same (y .integral) (pos 0) && same (y .previous) (pos 0)
 
-abbrev pub silent : Servo → Bool
-silent m = same (m .drive .output) (pos 0)
+abbrev pub silent : Drive → Bool
+silent d = same (d .output) (pos 0)
 
-abbrev pub unpulsed : Servo → Bool
-unpulsed m = same (m .drive .pulse) (pos 0)
+abbrev pub unpulsed : Drive → Bool
+unpulsed d = same (d .pulse) (pos 0)
+
+abbrev pub still : Profile → Bool
+still p = same (p .speed) (pos 0)
 
 -- what every mode but off needs: a clear error bit, and power that is not low
-abbrev pub live : Servo → Bool
-live m = not (m .drive .error) && not (eqb (m .latched .power) 0)
+abbrev pub live : ℕ → Drive → Bool
+live power d = not (d .error) && not (eqb power 0)
 
 -- each mode's own conditions; a trapezoid goes toward its goal and can still stop within the distance left
-abbrev pub modeFits : Mode → Servo → Bool
-modeFits Off m = atRest m && silent m && emptied (m .memory) && unpulsed m
-modeFits Pwm m = atRest m && emptied (m .memory) && live m
-modeFits Hold m = atRest m && unpulsed m && live m
-modeFits Velocity m = unpulsed m && live m
-modeFits Trapezoid m = unpulsed m && live m && running (m .profile)
+abbrev pub modeFits : Mode → ℕ → Profile → Memory → Drive → Bool
+modeFits Off power p y d = still p && silent d && emptied y && unpulsed d
+modeFits Pwm power p y d = still p && emptied y && live power d
+modeFits Hold power p y d = still p && unpulsed d && live power d
+modeFits Velocity power p y d = unpulsed d && live power d
+modeFits Trapezoid power p y d = unpulsed d && live power d && running p
 
 -- without good power there is no output
+unfoldable pub soundAt : ℕ → Profile → Memory → Drive → Bool
+soundAt power p y d = (eqb power 1 || silent d) && modeFits (d .mode) power p y d
+
 unfoldable pub sound : Servo → Bool
-sound m = (powered m || silent m) && modeFits (m .drive .mode) m
+sound m = soundAt (m .latched .power) (m .profile) (m .memory) (m .drive)

@@ -5,8 +5,11 @@ use mathlib.Core.Bool.{Bool}
 use lib.ListN.{getD}
 use lib.Dec.{eqb, leb}
 use Rattle.station.specs.Slot.{station}
+use Rattle.motion.specs.declared.Profile.{Profile}
 use Rattle.motion.specs.Profile.{inRange}
+use Rattle.filter.specs.declared.Memory.{Memory}
 use Rattle.servo.specs.declared.Rates.{Rates}
+use Rattle.servo.specs.declared.Drive.{Drive}
 use Rattle.servo.specs.declared.Servo.{Servo}
 use Rattle.servoslot.specs.List.{ratesFit, memoryFits, driveFits}
 use Rattle.servoslot.specs.Slot.{typeByte, sample, counts, tuning, rates, load, profile, memory, drive}
@@ -57,12 +60,12 @@ loadTests r s =
     ∷ leb (getD s 60 0) 1
     ∷ []
 
-abbrev pub motionTests : Servo → List ℕ → List Bool
-motionTests m s =
-    inRange (m .profile)
-    ∷ memoryFits (m .memory)
+abbrev pub motionTests : Profile → Memory → Drive → List ℕ → List Bool
+motionTests p y d s =
+    inRange p
+    ∷ memoryFits y
     ∷ leb (getD s 95 0) 4
     ∷ leb (getD s 104 0) 1
     ∷ leb (getD s 105 0) 1
-    ∷ driveFits (m .drive)
+    ∷ driveFits d
     ∷ []

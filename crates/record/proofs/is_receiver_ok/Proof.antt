@@ -1,22 +1,17 @@
 -- `record::is_receiver_ok` meets its contract: an idle receiver is blank, another has no more bytes in than announced. Assumes nothing.
 use Rattle.network.proofs.Tests.{idle-test}
 use Rattle.network.specs.Record.{okReceiver}
-use lib.Seq.{length-take-le}
 use borrow.Author.Tests.{ne-eqb}
 use native.Mathlib.Omega.{arith}
-use mathlib.Core.Path.{sym}
 use borrow.Author.Needs.{needs}
 use Rattle.record.proofs.is_receiver_ok.Statement.{statement}
 use Rattle.record.proofs.is_receiver_ok.Tie as tie
 
-slice-aggregate-is-blank : tie.Need-slice-aggregate-is-blank
-slice-aggregate-is-blank c = sym (length-take-le 17 (c .before .before .before .before .args .s .now) (omega arith))
-
 returns : tie.Need-returns
-returns c = let s = c .before .before .before .before .before .before in idle-test (s .args .s .now) (omega arith) (c .before .before .before .if1 .taken) (c .before .is-blank .ensures)
+returns c = idle-test (c .before .before .before .before .args .s .now) (c .before .if1 .taken) (c .is-blank .ensures)
 
 add-result : tie.Need-add-result
-add-result c = omega (arith, c .shared-slice-known5 .given 16)
+add-result c = omega (arith, c .shared-slice-known4 .given 16)
 
 returns-2 : tie.Need-returns-2
 unfolding okReceiver
@@ -27,9 +22,7 @@ is-receiver-ok-spec =
     tie.close
     (tie.spec
     (λ c. search needs)
-    slice-aggregate-is-blank
     (λ c κs. search needs)
-    (λ c. search needs)
     returns
     (λ c. search needs)
     (λ c. search needs)

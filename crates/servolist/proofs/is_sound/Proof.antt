@@ -1,11 +1,11 @@
 -- `servolist::is_sound` meets its contract. Assumes nothing.
-use Rattle.servoslot.specs.List.{sound}
+use Rattle.servoslot.specs.List.{soundAt}
 use borrow.Author.Needs.{needs}
 use Rattle.servolist.proofs.is_sound.Statement.{statement}
 use Rattle.servolist.proofs.is_sound.Tie as tie
 
 returns : tie.Need-returns
-unfolding sound
+unfolding soundAt
 returns c = rw (c .does-mode-fit .ensures, c .before .is-silent .ensures)
 
 pub is-sound-spec : {M : Type 1} → statement M
