@@ -1,10 +1,9 @@
 // The I/O module's bytes in a slot: told from them, put into them, and whether they are valid.
 ghost use mathlib.Core.Path.{_≡_};
 ghost use Prim.Native.Nat.{_+_, _≤_};
-ghost use mathlib.Core.List.{_∷_, _++_};
+ghost use mathlib.Core.List.{_++_};
 ghost use lib.ListN.{length};
 ghost use Rattle.layout.specs.Bytes.{pasted};
-ghost use Rattle.station.specs.Slot.{station};
 ghost use Rattle.inout.specs.Slot.{sample, pins, synch, capture, encodeOf, decodeOf, okOf};
 use inout::Capture;
 use inout::Io;
@@ -78,22 +77,6 @@ pub fn decode(s: &[u8]) -> Io
     }
 }
 
-// A slot begins with the type and the station.
-fn head_bytes(s: Station) -> [u8; 8]
-    ensures { λ r. ⌜ r ≡ 2 ∷ station .codec .enc s ⌝ }
-{
-    [
-        2,
-        s.address.individual,
-        s.address.group,
-        s.address.leader as u8,
-        s.address.low as u8,
-        s.cause,
-        s.items,
-        s.baud,
-    ]
-}
-
 fn sample_bytes(x: Sample) -> [u8; 9]
     ensures { λ r. ⌜ r ≡ sample .codec .enc x ⌝ }
 {
@@ -146,7 +129,7 @@ pub fn put(s: &mut [u8], m: Io)
     requires { ⌜ 43 ≤ length (now s) ⌝ }
     ensures { λ _. ⌜ now (s .exit) ≡ pasted 0 (encodeOf m) (now (s .entry)) ⌝ }
 {
-    let head = head_bytes(m.station);
+    let head = station::head_bytes(2, m.station);
     let waiting = sample_bytes(m.waiting);
     let latched = sample_bytes(m.latched);
     let outputs = outputs_bytes(m.pins, m.synch);

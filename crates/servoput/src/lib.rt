@@ -5,7 +5,6 @@ ghost use mathlib.Core.List.{[], _∷_, _++_};
 ghost use lib.ListN.{length};
 ghost use Rattle.layout.specs.Bytes.{le, pasted};
 ghost use Rattle.layout.specs.Codec.{bit};
-ghost use Rattle.station.specs.Slot.{station};
 ghost use Rattle.servoslot.specs.Slot.{wayByte, modeByte, sample, tuning, rates, load, profile, memory, drive, encodeOf};
 ghost use Rattle.servoslot.specs.Parts.{frontOf, backOf};
 use filter::Memory;
@@ -18,7 +17,6 @@ use servo::Rates;
 use servo::Sample;
 use servo::Servo;
 use servo::Way;
-use station::Station;
 
 fn way_byte(w: Way) -> u8
     ensures { λ r. ⌜ r ≡ wayByte w ⌝ }
@@ -40,22 +38,6 @@ fn mode_byte(m: Mode) -> u8
         Mode::Velocity => 3,
         Mode::Trapezoid => 4,
     }
-}
-
-// A slot begins with the type and the station.
-fn head_bytes(s: Station) -> [u8; 8]
-    ensures { λ r. ⌜ r ≡ 0 ∷ station .codec .enc s ⌝ }
-{
-    [
-        0,
-        s.address.individual,
-        s.address.group,
-        s.address.leader as u8,
-        s.address.low as u8,
-        s.cause,
-        s.items,
-        s.baud,
-    ]
 }
 
 fn sample_bytes(x: Sample) -> [u8; 6]
@@ -237,7 +219,7 @@ fn put_front(s: &mut [u8], m: Servo)
     requires { ⌜ 106 ≤ length (now s) ⌝ }
     ensures { λ _. ⌜ now (s .exit) ≡ pasted 0 (frontOf m) (now (s .entry)) ⌝ }
 {
-    let head = head_bytes(m.station);
+    let head = station::head_bytes(0, m.station);
     let waiting = sample_bytes(m.waiting);
     let latched = sample_bytes(m.latched);
     let counts = pair_bytes(m.counts.offset, m.counts.last);

@@ -1,5 +1,6 @@
 // What every module type has: its addresses, its last cause, the items that it reports and its baud byte.
 ghost use mathlib.Core.Path.{_≡_};
+ghost use mathlib.Core.List.{_∷_};
 ghost use Prim.Native.Nat.{_+_, _≤_, _<_};
 ghost use lib.ListN.{length, getD};
 ghost use Rattle.layout.specs.Bytes.{pasted};
@@ -147,6 +148,22 @@ impl Station {
             Setting::Nothing => self,
         }
     }
+}
+
+// A slot begins with the type and the station.
+pub fn head_bytes(t: u8, s: Station) -> [u8; 8]
+    ensures { λ r. ⌜ r ≡ t ∷ station .codec .enc s ⌝ }
+{
+    [
+        t,
+        s.address.individual,
+        s.address.group,
+        s.address.leader as u8,
+        s.address.low as u8,
+        s.cause,
+        s.items,
+        s.baud,
+    ]
 }
 
 // What is asked where the count is right.
