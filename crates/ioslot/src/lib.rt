@@ -1,7 +1,7 @@
 // The I/O module's bytes in a slot: told from them, put into them, and whether they are valid.
 ghost use mathlib.Core.Path.{_≡_};
 ghost use Prim.Native.Nat.{_+_, _≤_};
-ghost use mathlib.Core.List.{_++_};
+ghost use mathlib.Core.List.{_∷_, _++_};
 ghost use lib.ListN.{length};
 ghost use Rattle.layout.specs.Bytes.{pasted};
 ghost use Rattle.inout.specs.Slot.{sample, pins, synch, capture, encodeOf, decodeOf, okOf};
