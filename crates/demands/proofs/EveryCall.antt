@@ -31,6 +31,7 @@ use Rattle.network.specs.Record.{netIn}
 use Rattle.network.specs.Calls.{byteOf, sampleStep}
 use Rattle.network.specs.Promises.{Each}
 use Rattle.network.proofs.Stored as Stored
+use Rattle.calls.specs.Table.{byteTable}
 use Rattle.calls.specs.Calls.{servoSampleOf, ioSampleOf}
 use Rattle.calls.specs.Promises.{ValidRecord, Refuses, Passes}
 use Rattle.calls.proofs.Kept.{holds}
@@ -53,19 +54,20 @@ each-at (x ∷ ms) (suc i) m h e = each-at ms i m (h .1) e
 fits-at : (net : List ℕ) (i : ℕ) (m : Servo) → ValidRecord net → At net i m → Fits m
 fits-at net i m v e = each-at (netIn slots net .modules) i m (Stored.holds lawful net (v .1) (v .0) .each) e
 
--- what a call can make of the servo m at place i of a network
-data Made (n : Net Module) (i : ℕ) (m : Servo) : Call → Servo → Type 0 where
-  same : (c : Call) → Made n i m c m
+-- what a call can make of the servo m at place i of a record's network
+data Made (net : List ℕ) (i : ℕ) (m : Servo) : Call → Servo → Type 0 where
+  same : (c : Call) → Made net i m c m
   framed : (mark x : ℕ) (room : List ℕ) (d : Bool)
-      → taken (n .receiver) x (eqb mark 1) .answer ≡ Ended d
-      → touched true (n .receiver .address) (addresses kind (n .modules)) i ≡ true
-      → Made n i m (byte mark x room) (execute (frameIn (n .receiver) d) (individually (n .receiver .address) (m .station .address)) m)
-  measured : (c : Call) (x : Sample) → (c ≡ tick → ⊥) → Made n i m c (sampled x m)
-  timed : Made n i m tick (ticked m)
+      → Passes (byteTable net mark room)
+      → taken (netIn slots net .receiver) x (eqb mark 1) .answer ≡ Ended d
+      → touched true (netIn slots net .receiver .address) (addresses kind (netIn slots net .modules)) i ≡ true
+      → Made net i m (byte mark x room) (execute (frameIn (netIn slots net .receiver) d) (individually (netIn slots net .receiver .address) (m .station .address)) m)
+  measured : (c : Call) (x : Sample) → (c ≡ tick → ⊥) → Made net i m c (sampled x m)
+  timed : Made net i m tick (ticked m)
 
 -- after a step that is not refused place i has a servo that such a step can make
-Makes : Net Module → ℕ → Servo → Call → Type 0
-Makes n i m c = (k : Servo) × (getElem? (event kind (does c) n .net .modules) i ≡ some (inl k)) × Made n i m c k
+Makes : List ℕ → ℕ → Servo → Call → Type 0
+Makes net i m c = (k : Servo) × (getElem? (event kind (does c) (netIn slots net) .net .modules) i ≡ some (inl k)) × Made net i m c k
 
 isTick : Call → Bool
 isTick (byte mark x room) = false
@@ -77,13 +79,16 @@ no-tick : (c : Call) → isTick c ≡ false → c ≡ tick → ⊥
 unfolding isTick
 no-tick c e q = true≢false (ap isTick (sym q) ∙ e)
 
-module _ (n : Net Module) (i : ℕ) (m : Servo) (before : getElem? (n .modules) i ≡ some (inl m)) where
+module _ (net : List ℕ) (i : ℕ) (m : Servo) (before : At net i m) where
+  abbrev n : Net Module
+  n = netIn slots net
+
   -- a byte
-  after-frame : (mark x : ℕ) (room : List ℕ) (d : Bool) (r : Receiver) → taken (n .receiver) x (eqb mark 1) ≡ record { next = r; answer = Ended d }
+  after-frame : (mark x : ℕ) (room : List ℕ) → Passes (byteTable net mark room) → (d : Bool) (r : Receiver) → taken (n .receiver) x (eqb mark 1) ≡ record { next = r; answer = Ended d }
       → (t : Bool) → touched true (n .receiver .address) (addresses kind (n .modules)) i ≡ t
-      → Makes n i m (byte mark x room)
+      → Makes net i m (byte mark x room)
   unfolding Makes
-  after-frame mark x room d r e t q =
+  after-frame mark x room goes d r e t q =
       let f : Frame = frameIn (n .receiver) d in
       let p : getElem? (byteStep kind n (byteOf x (eqb mark 1)) .net .modules) i ≡ some (cond t (executed kind f (inl m)) (inl m)) =
       ap (λ (s : Step Module). getElem? (s .net .modules) i) (step-end kind n (byteOf x (eqb mark 1)) r d e)
@@ -94,16 +99,16 @@ module _ (n : Net Module) (i : ℕ) (m : Servo) (before : getElem? (n .modules) 
     where
       by : (t : Bool) → touched true (n .receiver .address) (addresses kind (n .modules)) i ≡ t
           → getElem? (byteStep kind n (byteOf x (eqb mark 1)) .net .modules) i ≡ some (cond t (executed kind (frameIn (n .receiver) d) (inl m)) (inl m))
-          → Makes n i m (byte mark x room)
-      by true q p = (_, p, framed mark x room d (ap (λ (r : Received). r .answer) e) q)
+          → Makes net i m (byte mark x room)
+      by true q p = (_, p, framed mark x room d goes (ap (λ (r : Received). r .answer) e) q)
       by false q p = (m, p, same (byte mark x room))
 
-  after-byte : (mark x : ℕ) (room : List ℕ) (a : Answer) (r : Receiver) → taken (n .receiver) x (eqb mark 1) ≡ record { next = r; answer = a }
-      → Makes n i m (byte mark x room)
+  after-byte : (mark x : ℕ) (room : List ℕ) → Passes (byteTable net mark room) → (a : Answer) (r : Receiver) → taken (n .receiver) x (eqb mark 1) ≡ record { next = r; answer = a }
+      → Makes net i m (byte mark x room)
   unfolding Makes
-  after-byte mark x room Nothing r e =
+  after-byte mark x room goes Nothing r e =
       (m, ap (λ (s : Step Module). getElem? (s .net .modules) i) (step-on kind n (byteOf x (eqb mark 1)) r e) ∙ before, same (byte mark x room))
-  after-byte mark x room (Ended d) r e = after-frame mark x room d r e (touched true (n .receiver .address) (addresses kind (n .modules)) i) refl
+  after-byte mark x room goes (Ended d) r e = after-frame mark x room goes d r e (touched true (n .receiver .address) (addresses kind (n .modules)) i) refl
 
   -- a sample, of either type, for place i or another
   sample-seen : (place : ℕ) (x : AnySample)
@@ -113,7 +118,7 @@ module _ (n : Net Module) (i : ℕ) (m : Servo) (before : getElem? (n .modules) 
       ∙ ap (λ (o : Option Module). Option·map (λ (m : Module). cond (eqb i place) (kind .sample x m) m) o) before
 
   after-sample : (c : Call) (place : ℕ) (x : Sample) → isTick c ≡ false → (t : Bool)
-      → getElem? (event kind (does c) n .net .modules) i ≡ some (cond t (kind .sample (inl x) (inl m)) (inl m)) → Makes n i m c
+      → getElem? (event kind (does c) n .net .modules) i ≡ some (cond t (kind .sample (inl x) (inl m)) (inl m)) → Makes net i m c
   unfolding Makes
   after-sample c place x e true p = (sampled x m, p, measured c x (no-tick c e))
   after-sample c place x e false p = (m, p, same c)
@@ -122,24 +127,24 @@ module _ (n : Net Module) (i : ℕ) (m : Servo) (before : getElem? (n .modules) 
   unmoved true o = refl
   unmoved false o = refl
 
-  makes : (c : Call) → Makes n i m c
+  makes : (c : Call) → Passes (refusals net c) → Makes net i m c
   unfolding Makes isTick
-  makes (byte mark x room) = after-byte mark x room (taken (n .receiver) x (eqb mark 1) .answer) (taken (n .receiver) x (eqb mark 1) .next) refl
-  makes (servoSample place raw power ad) =
+  makes (byte mark x room) goes = after-byte mark x room goes (taken (n .receiver) x (eqb mark 1) .answer) (taken (n .receiver) x (eqb mark 1) .next) refl
+  makes (servoSample place raw power ad) goes =
       after-sample (servoSample place raw power ad) place (record { raw = raw; power = power; ad = ad }) refl (eqb i place) (sample-seen place (servoSampleOf raw power ad))
-  makes (ioSample place inputs ad1 ad2 ad3 counter) =
+  makes (ioSample place inputs ad1 ad2 ad3 counter) goes =
       (m, sample-seen place (ioSampleOf inputs ad1 ad2 ad3 counter) ∙ ap some (unmoved (eqb i place) (inl m)), same (ioSample place inputs ad1 ad2 ad3 counter))
-  makes tick = (ticked m, map-at (kind .tick) (n .modules) i ∙ ap (λ (o : Option Module). Option·map (kind .tick) o) before, timed)
+  makes tick goes = (ticked m, map-at (kind .tick) (n .modules) i ∙ ap (λ (o : Option Module). Option·map (kind .tick) o) before, timed)
 
 -- the servo that a call leaves, refused or not
 made : (net : List ℕ) (c : Call) (i : ℕ) (m : Servo) → Handed c → ValidRecord net → At net i m
-    → (k : Servo) × At (leaves net c) i k × Made (netIn slots net) i m c k
+    → (k : Servo) × At (leaves net c) i k × Made net i m c k
 unfolding Makes
 made net c i m h v e = at (passes? (refusals net c))
   where
-    at : Passes (refusals net c) ⊎ Refuses (refusals net c) → (k : Servo) × At (leaves net c) i k × Made (netIn slots net) i m c k
+    at : Passes (refusals net c) ⊎ Refuses (refusals net c) → (k : Servo) × At (leaves net c) i k × Made net i m c k
     at (inl p) =
-        let (k, q, d) = makes (netIn slots net) i m e c in
+        let (k, q, d) = makes net i m e c p in
         (k, ap (λ (n : Net Module). getElem? (n .modules) i) (passed-leaves net c h v p) ∙ q, d)
     at (inr r) = (m, ap (λ (s : List ℕ). getElem? (netIn slots s .modules) i) (refused-leaves net c r) ∙ e, same c)
 
@@ -177,10 +182,10 @@ command net c i m k h v e q n b =
     let z : k ≡ k′ = same-place (netIn slots (leaves net c) .modules) i k k′ q q′ in
     by c k′ d n (subst (Begins m) z b)
   where
-    by : (c : Call) (k : Servo) → Made (netIn slots net) i m c k → (c ≡ tick → ⊥) → Begins m k → CallStarts net i m c
+    by : (c : Call) (k : Servo) → Made net i m c k → (c ≡ tick → ⊥) → Begins m k → CallStarts net i m c
     by _ _ (same c) n b = absurd (nothing-begins m b)
-    by _ _ (framed mark x room d a t) n b =
-        line-starts (netIn slots net) i m mark x d a t (frame-starts _ _ m (fits-at net i m v e) b)
+    by _ _ (framed mark x room d goes a t) n b =
+        (goes, line-starts (netIn slots net) i m mark x d a t (frame-starts _ _ m (fits-at net i m v e) b))
     by _ _ (measured c x u) n b = absurd (sampled-begins x m b)
     by _ _ timed n b = absurd (n refl)
 
@@ -194,7 +199,7 @@ tick-call net i m k v e q =
     t : Fits m
     t = fits-at net i m v e
 
-    by : (k : Servo) → Made (netIn slots net) i m tick k → ((Moves m → ⊥) → Moves k → Bound m) × (Bound k → Bound m)
+    by : (k : Servo) → Made net i m tick k → ((Moves m → ⊥) → Moves k → Bound m) × (Bound k → Bound m)
     by _ (same c) = (λ n z. absurd (n z), λ b. b)
     by _ (measured c x u) = absurd (u refl)
     by _ timed = (ticked-moves m t, ticked-bound m t)
@@ -222,13 +227,13 @@ every-call = record {
 -- ---- histories of calls
 
 -- at rest a servo stays, unless the call starts it
-stays : (net : List ℕ) (c : Call) (i : ℕ) (m k : Servo) → Fits m → Resting m → Made (netIn slots net) i m c k → CallStarts net i m c ⊎ Resting k
+stays : (net : List ℕ) (c : Call) (i : ℕ) (m k : Servo) → Fits m → Resting m → Made net i m c k → CallStarts net i m c ⊎ Resting k
 stays net _ i m _ t r (same c) = inr r
-stays net _ i m _ t r (framed mark x room d a u) = at (frame-rests (frameIn (netIn slots net .receiver) d) _ m t r)
+stays net _ i m _ t r (framed mark x room d goes a u) = at (frame-rests (frameIn (netIn slots net .receiver) d) _ m t r)
   where
     at : {A : Type 0} → Starts (frameIn (netIn slots net .receiver) d) (individually (netIn slots net .receiver .address) (m .station .address)) m ⊎ A
         → CallStarts net i m (byte mark x room) ⊎ A
-    at (inl s) = inl (line-starts (netIn slots net) i m mark x d a u s)
+    at (inl s) = inl (goes, line-starts (netIn slots net) i m mark x d a u s)
     at (inr z) = inr z
 stays net _ i m _ t r (measured c x u) = inr (stays-resting .sampling x m r)
 stays net _ i m _ t r timed = inr (ticked-rests m t r)

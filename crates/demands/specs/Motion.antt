@@ -32,7 +32,7 @@ use Rattle.servo.specs.RestPromises.{following}
 use Rattle.modules.specs.Types.{Module, kind, slots}
 use Rattle.network.specs.Record.{netIn}
 use Rattle.network.specs.Calls.{byteOf, setUp}
-use Rattle.calls.specs.Table.{setupTable}
+use Rattle.calls.specs.Table.{setupTable, byteTable}
 use Rattle.calls.specs.Calls.{setupRecord}
 use Rattle.calls.specs.Promises.{Passes, Refuses, ValidRecord}
 use Rattle.histories.specs.Events.{run, Reads}
@@ -115,9 +115,9 @@ pub record LineStarts (n : Net Module) (b : Byte) (i : ℕ) (m : Servo) : Type 0
   pub touches : touched true (n .receiver .address) (addresses kind (n .modules)) i ≡ true
   pub starts : Starts (frameIn (n .receiver) false) (individually (n .receiver .address) (m .station .address)) m
 
--- a call hands over such a byte: no other call starts anything
+-- a call that is not refused hands over such a byte: no other call starts anything
 abbrev pub CallStarts : List ℕ → ℕ → Servo → Call → Type 0
-CallStarts net i m (byte mark x room) = LineStarts (netIn slots net) (byteOf x (eqb mark 1)) i m
+CallStarts net i m (byte mark x room) = Passes (byteTable net mark room) × LineStarts (netIn slots net) (byteOf x (eqb mark 1)) i m
 CallStarts net i m (servoSample place raw power ad) = ⊥
 CallStarts net i m (ioSample place inputs ad1 ad2 ad3 counter) = ⊥
 CallStarts net i m tick = ⊥
