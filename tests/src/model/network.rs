@@ -8,8 +8,8 @@ use crate::branches::{either, reach, Branch};
 use crate::calls::{BAD_FIELD, BAD_PLACE};
 use crate::slips::Slip;
 
-/// A module of whatever type. Boxed: with plain variants rustc 1.95.0 (LLVM 22.1) at opt-level 3 leaves two bytes of an
-/// `Io` that `record::decode` gives back unset, though no unsafe code is involved.
+/// A module of whatever type. Boxed: with plain variants rustc 1.95.0 (LLVM 22.1) leaves, at some levels of
+/// optimisation, two bytes of an `Io` that `record::decode` gives back unset, though no unsafe code is involved.
 #[derive(Clone, Debug, PartialEq, Eq)]
 pub enum Module {
     Servo(Box<Servo>),
