@@ -30,13 +30,13 @@ pub fn touch(s: &mut [u8], f: Head, ds: &[u8], room: &mut [u8], from: usize) -> 
     0
 }
 
-// The servo in a slot, after a tick.
+// The servo in a slot, after a tick; what a tick leaves stands there already.
 pub fn tick(s: &mut [u8])
     requires { ⌜ (106 ≤ length (now s)) × (okOf (now s) ≡ true) ⌝ }
     ensures { λ _. ⌜ now (s .exit) ≡ pasted 0 (encodeOf (ticked (decodeOf (now (s .entry))))) (now (s .entry)) ⌝ }
 {
     let m = servoread::decode(s);
-    servoput::put(s, motor::ticked(m));
+    servoput::put_ticked(s, motor::ticked(m));
 }
 
 // The servo in a slot, with a sample waiting.

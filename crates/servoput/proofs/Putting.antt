@@ -11,7 +11,7 @@ use Rattle.station.specs.Slot.{station}
 use Rattle.motion.specs.declared.Profile.{Profile}
 use Rattle.servo.specs.declared.Servo.{Servo}
 use Rattle.servoslot.specs.Slot.{sample, counts, tuning, rates, load, profile, memory, drive, encodeOf}
-use Rattle.servoslot.specs.Parts.{frontOf, backOf}
+use Rattle.servoslot.specs.Parts.{frontOf, backOf, tickedOver}
 
 -- what stands after the setpoint
 course : ℕ → ℕ → Profile → List ℕ
@@ -57,3 +57,28 @@ pub all-put : (m : Servo) (s : List ℕ) {a b : List ℕ} → 106 ≤ length s �
     → b ≡ pasted 0 (encodeOf m) s
 unfolding frontOf backOf encodeOf
 all-put m s h = put-next (frontOf m) (backOf m) s 0 41 refl (omega arith)
+
+-- ---- what a tick changes
+
+pub pace-put : (p : Profile) (s : List ℕ) {speed : ℕ} {x a b : List ℕ} → speed ≡ word (p .speed) → x ≡ le 6 (p .setpoint)
+    → a ≡ pasted 61 x s → b ≡ pasted 67 (le 4 speed) a
+    → b ≡ pasted 67 (le 4 (word (p .speed))) (pasted 61 (le 6 (p .setpoint)) s)
+pace-put p s ev ex pa pb = pb ∙ ap₂ (λ (v : ℕ) (l : List ℕ). pasted 67 (le 4 v) l) ev (pa ∙ ap (λ (l : List ℕ). pasted 61 l s) ex)
+
+pub ticked-put : (m : Servo) (s : List ℕ) {latched kept driven a b c d e : List ℕ}
+    → latched ≡ sample .codec .enc (m .latched)
+    → kept ≡ memory .codec .enc (m .memory)
+    → driven ≡ drive .codec .enc (m .drive)
+    → a ≡ pasted 14 latched s
+    → b ≡ pasted 24 (le 4 (m .counts .last)) a
+    → c ≡ pasted 67 (le 4 (word (m .profile .speed))) (pasted 61 (le 6 (m .profile .setpoint)) b)
+    → d ≡ pasted 87 kept c → e ≡ pasted 95 driven d
+    → e ≡ tickedOver m s
+unfolding tickedOver
+ticked-put m s el ek ed pa pb pc pd pe =
+    let pace : List ℕ → List ℕ = λ l. pasted 67 (le 4 (word (m .profile .speed))) (pasted 61 (le 6 (m .profile .setpoint)) l) in
+    pe
+    ∙ ap₂ (pasted 95) ed
+    (pd
+    ∙ ap₂ (pasted 87) ek
+    (pc ∙ ap pace (pb ∙ ap (pasted 24 (le 4 (m .counts .last))) (pa ∙ ap (λ (l : List ℕ). pasted 14 l s) el))))

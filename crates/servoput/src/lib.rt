@@ -3,10 +3,11 @@ ghost use mathlib.Core.Path.{_≡_};
 ghost use Prim.Native.Nat.{_≤_};
 ghost use mathlib.Core.List.{[], _∷_, _++_};
 ghost use lib.ListN.{length};
+ghost use Rattle.integers.specs.Whole.{word};
 ghost use Rattle.layout.specs.Bytes.{le, pasted};
 ghost use Rattle.layout.specs.Codec.{bit};
 ghost use Rattle.servoslot.specs.Slot.{wayByte, modeByte, sample, tuning, rates, load, profile, memory, drive, encodeOf};
-ghost use Rattle.servoslot.specs.Parts.{frontOf, backOf};
+ghost use Rattle.servoslot.specs.Parts.{frontOf, backOf, tickedOver};
 use filter::Memory;
 use motion::Profile;
 use orders::Tuning;
@@ -254,4 +255,30 @@ pub fn put(s: &mut [u8], m: Servo)
 {
     put_front(s, m);
     put_back(s, m);
+}
+
+// Puts the setpoint and the speed of a profile into a slot.
+fn put_pace(s: &mut [u8], p: Profile)
+    requires { ⌜ 106 ≤ length (now s) ⌝ }
+    ensures { λ _. ⌜ now (s .exit) ≡ pasted 67 (le 4 (word (p .speed))) (pasted 61 (le 6 (p .setpoint)) (now (s .entry))) ⌝ }
+{
+    let speed = integers::word(p.speed);
+    let setpoint = setpoint_bytes(p.setpoint);
+    layout::put_all(s, 61, &setpoint);
+    layout::put_number(s, 67, 4, speed);
+}
+
+// Puts only what a tick changes into the slot of a servo that ticked.
+pub fn put_ticked(s: &mut [u8], m: Servo)
+    requires { ⌜ 106 ≤ length (now s) ⌝ }
+    ensures { λ _. ⌜ now (s .exit) ≡ tickedOver m (now (s .entry)) ⌝ }
+{
+    let seen = sample_bytes(m.latched);
+    let memory = memory_bytes(m.memory);
+    let drive = drive_bytes(m.drive);
+    layout::put_all(s, 14, &seen);
+    layout::put_number(s, 24, 4, m.counts.last);
+    put_pace(s, m.profile);
+    layout::put_all(s, 87, &memory);
+    layout::put_all(s, 95, &drive);
 }

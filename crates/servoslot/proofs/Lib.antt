@@ -7,3 +7,4 @@ pub mod Within
 pub mod Passed
 pub mod Listed
 pub mod Tested
+pub mod Over

@@ -4,6 +4,8 @@ use mathlib.Core.List.{List, [], _∷_, _++_}
 use mathlib.Core.Bool.{Bool}
 use lib.ListN.{getD}
 use lib.Dec.{eqb, leb}
+use Rattle.integers.specs.Whole.{word}
+use Rattle.layout.specs.Bytes.{le, pasted}
 use Rattle.station.specs.Slot.{station}
 use Rattle.motion.specs.declared.Profile.{Profile}
 use Rattle.motion.specs.Profile.{inRange}
@@ -31,6 +33,16 @@ backOf m =
     ++ profile .codec .enc (m .profile)
     ++ memory .codec .enc (m .memory)
     ++ drive .codec .enc (m .drive)
+
+-- a slot over which only what a tick changes is put: the latched sample, the last position, setpoint and speed, memory and drive
+unfoldable pub tickedOver : Servo → List ℕ → List ℕ
+tickedOver m s =
+    pasted 95 (drive .codec .enc (m .drive))
+    (pasted 87 (memory .codec .enc (m .memory))
+    (pasted 67 (le 4 (word (m .profile .speed)))
+    (pasted 61 (le 6 (m .profile .setpoint))
+    (pasted 24 (le 4 (m .counts .last))
+    (pasted 14 (sample .codec .enc (m .latched)) s)))))
 
 -- the tests of a slot in its order, but for the last one, which is `sound`
 abbrev pub frontTests : List ℕ → List Bool
