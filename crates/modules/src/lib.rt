@@ -1,5 +1,4 @@
 // The table of module types. Types, definitions and promises; no function.
-ghost use Rattle.modules.specs.Types.{measured};
 
 // A sample, as it was measured for a module of either type.
 pub enum Measured {

@@ -1,6 +1,4 @@
 // The network: the lent record and what the calls make of it. Types, definitions and promises; no function.
-ghost use lib.ListN.{length};
-ghost use Rattle.line.specs.declared.Answer;
 
 // What a byte call hands back: its number, the length of all replies, and of the reply of each place.
 pub struct Called {

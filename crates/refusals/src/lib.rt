@@ -54,7 +54,7 @@ pub fn outputs_refusal(net: &[u8], place: u32) -> u32
     if !record::is_valid(net) {
         return 16;
     }
-    if !(place < record::chain_len(net) as u32) {
+    if !(place < intake::chain_len(net) as u32) {
         return 13;
     }
     0

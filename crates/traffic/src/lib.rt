@@ -115,10 +115,10 @@ pub fn byte(net: &mut [u8], value: u8, mark: bool, room: &mut [u8]) -> Called
     ensures { λ _. ⌜ now (net .exit) ≡ stored slots (byteStep kind (netIn slots (now (net .entry))) (byteOf value mark) .net) (now (net .entry)) ⌝ }
     ensures { λ _. ⌜ now (room .exit) ≡ pasted 0 (flat (byteStep kind (netIn slots (now (net .entry))) (byteOf value mark) .replies)) (now (room .entry)) ⌝ }
 {
-    let r = record::receiver_in(net);
+    let r = intake::receiver_in(net);
     let got = r.take(value, mark);
     let next = got.next;
-    let bytes = record::receiver_bytes(next);
+    let bytes = intake::receiver_bytes(next);
     layout::put_all(net, 0, &bytes);
     let answer = got.answer;
     let Answer::Ended(damaged) = answer else {

@@ -6,7 +6,7 @@ use Rattle.refusals.proofs.outputs_refusal.Statement.{statement}
 use Rattle.refusals.proofs.outputs_refusal.Tie as tie
 use Rattle.refusals.proofs.outputs_refusal.Reads as reads
 use Rattle.refusals.proofs.outputs_refusal.Lts as lts
-use Rattle.record.proofs.chain_len.Reads as chain-len-reads
+use Rattle.intake.proofs.chain_len.Reads as chain-len-reads
 use Rattle.record.proofs.is_valid.Reads as is-valid-reads
 
 is-valid-requires : tie.Need-is-valid-requires

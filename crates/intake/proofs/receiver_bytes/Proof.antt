@@ -1,8 +1,8 @@
--- `record::receiver_bytes` meets its contract. Assumes nothing.
+-- `intake::receiver_bytes` meets its contract. Assumes nothing.
 use Rattle.network.specs.Record.{receiverBytes}
 use borrow.Author.Needs.{needs}
-use Rattle.record.proofs.receiver_bytes.Statement.{statement}
-use Rattle.record.proofs.receiver_bytes.Tie as tie
+use Rattle.intake.proofs.receiver_bytes.Statement.{statement}
+use Rattle.intake.proofs.receiver_bytes.Tie as tie
 
 returns : tie.Need-returns
 unfolding receiverBytes

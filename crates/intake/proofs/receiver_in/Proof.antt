@@ -1,15 +1,15 @@
--- `record::is_blank` meets its contract. Assumes nothing.
-use Rattle.layout.specs.Bytes.{readAt}
-use Rattle.network.proofs.Tests.{blank-every}
+-- `intake::receiver_in` meets its contract. Assumes nothing.
+use Rattle.network.specs.Record.{receiverIn}
 use borrow.Author.Needs.{needs}
-use Rattle.record.proofs.is_blank.Statement.{statement}
-use Rattle.record.proofs.is_blank.Tie as tie
+use Rattle.intake.proofs.receiver_in.Statement.{statement}
+use Rattle.intake.proofs.receiver_in.Tie as tie
 
 returns : tie.Need-returns
-returns c = blank-every (readAt 19 0 (c .before .before .before .before .before .before .before .before .before .before .before .before .before .before .before .before .before .before .before .args .s .now))
+unfolding receiverIn
+returns c = search needs
 
-pub is-blank-spec : {M : Type 1} → statement M
-is-blank-spec =
+pub receiver-in-spec : {M : Type 1} → statement M
+receiver-in-spec =
     tie.close
     (tie.spec
     (λ c. search needs)

@@ -1,11 +1,11 @@
--- `record::is_receiver_ok` meets its contract: an idle receiver is blank, another has no more bytes in than announced. Assumes nothing.
+-- `intake::is_receiver_ok` meets its contract: an idle receiver is blank, another has no more bytes in than announced. Assumes nothing.
 use Rattle.network.proofs.Tests.{idle-test}
 use Rattle.network.specs.Record.{okReceiver}
 use borrow.Author.Tests.{ne-eqb}
 use native.Mathlib.Omega.{arith}
 use borrow.Author.Needs.{needs}
-use Rattle.record.proofs.is_receiver_ok.Statement.{statement}
-use Rattle.record.proofs.is_receiver_ok.Tie as tie
+use Rattle.intake.proofs.is_receiver_ok.Statement.{statement}
+use Rattle.intake.proofs.is_receiver_ok.Tie as tie
 
 returns : tie.Need-returns
 returns c = idle-test (c .before .before .before .before .args .s .now) (c .before .if1 .taken) (c .is-blank .ensures)

@@ -1,11 +1,11 @@
--- `record::chain_len` meets its contract. Assumes nothing.
+-- `intake::chain_len` meets its contract. Assumes nothing.
 use Rattle.network.proofs.Exact.{length-modules}
 use Rattle.network.proofs.Valid.{valid-is}
 use Rattle.modules.specs.Types.{slots}
 use native.Mathlib.Omega.{arith}
 use mathlib.Core.Path.{sym}
-use Rattle.record.proofs.chain_len.Statement.{statement}
-use Rattle.record.proofs.chain_len.Tie as tie
+use Rattle.intake.proofs.chain_len.Statement.{statement}
+use Rattle.intake.proofs.chain_len.Tie as tie
 
 shared-slice-read-result : tie.Need-shared-slice-read-result
 shared-slice-read-result c = let w = valid-is slots (c .before .args .net .now) (c .before .pre) in omega (arith, w .size)
