@@ -64,7 +64,7 @@ pub fn put_reply(m: Servo, f: Head, ds: &[u8], room: &mut [u8], from: usize) -> 
     ensures { λ r. ⌜ r ≡ length (reply (frameOf f (now (ds .entry))) m) ⌝ }
     ensures { λ _. ⌜ now (room .exit) ≡ pasted from (reply (frameOf f (now (ds .entry))) m) (now (room .entry)) ⌝ }
 {
-    station::put_reply(
+    replies::put_reply(
         room,
         from,
         f,

@@ -135,7 +135,7 @@ pub extern "C" fn nmc_write_frame(
     ensures { λ _. ⌜ now (room .exit) ≡ roomAfter address code (now (ds .entry)) (now (room .entry)) ⌝ }
     ensures { λ _. ⌜ now (written .exit) ≡ writtenOf address code (now (ds .entry)) (now (room .entry)) .len ⌝ }
 {
-    let w = host::write_frame(address, code, ds, room);
+    let w = writer::write_frame(address, code, ds, room);
     *written = w.len;
     w.number
 }

@@ -68,7 +68,7 @@ fn step(
     let at = s.at;
     let start = s.start;
     let end = s.end;
-    let t = capture::turn(at, types, net, &buf[start..end], s.last, out);
+    let t = player::turn(at, types, net, &buf[start..end], s.last, out);
     let wrote = t.wrote;
     let is_written = io::write_all(STDOUT_FILENO, &out[..wrote]);
     let next = t.next;

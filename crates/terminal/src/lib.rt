@@ -259,7 +259,7 @@ pub fn put_reply(m: Io, f: Head, ds: &[u8], room: &mut [u8], from: usize) -> usi
     ensures { λ _. ⌜ now (room .exit) ≡ pasted from (reply (frameOf f (now (ds .entry))) m) (now (room .entry)) ⌝ }
 {
     let status = station::cause_bit(m.station.cause);
-    station::put_reply(
+    replies::put_reply(
         room,
         from,
         f,

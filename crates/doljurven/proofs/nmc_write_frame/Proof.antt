@@ -6,7 +6,7 @@ use Rattle.doljurven.proofs.nmc_write_frame.Statement.{statement}
 use Rattle.doljurven.proofs.nmc_write_frame.Tie as tie
 use Rattle.doljurven.proofs.nmc_write_frame.Reads as reads
 use Rattle.doljurven.proofs.nmc_write_frame.Lts as lts
-use Rattle.host.proofs.write_frame.Reads as write-frame-reads
+use Rattle.writer.proofs.write_frame.Reads as write-frame-reads
 
 write-frame-requires : tie.Need-write-frame-requires
 write-frame-requires c κs = search needs
