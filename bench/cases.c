@@ -263,6 +263,8 @@ const struct bench_case cases[] = {
     {"tick, 32 servos, velocity mode", "tick", prepare_velocity, tick_once, NOTHING_BACK, 400},
     {"tick, 32 servos holding", "tick", prepare_holding, tick_once, NOTHING_BACK, 1000},
     {"tick, 32 I/O", "tick", prepare_io, tick_once, NOTHING_BACK, 1000},
+    {"tick, 1 servo", "tick", prepare_one_servo, tick_once, NOTHING_BACK, 1000},
+    {"tick, 1 I/O", "tick", prepare_one_io, tick_once, NOTHING_BACK, 1000},
     {"servo_sample, one of 32 moving", "servo_sample", prepare_moving, sample_servo, NOTHING_BACK, 1000},
     {"io_sample, one of 32", "io_sample", prepare_io, sample_io, NOTHING_BACK, 1000},
     {"outputs, one of 32 servos moving", "outputs", prepare_moving, take_outputs, NOTHING_BACK, 1000},
