@@ -1,5 +1,6 @@
 -- What is promised of a servo's frames, answers and samples; Load-, Stop-, Tick- and RestPromises have the rest. Each is proved under its name, with small letters, in proofs/.
 use mathlib.Core.Path.{_≡_}
+use mathlib.Core.Logic.{_↔_}
 use Prim.Native.Nat.{_%_, _^_, _<_, _≤_}
 use mathlib.Core.List.{[]}
 use mathlib.Core.Bool.{Bool, true, false, not, _&&_}
@@ -11,6 +12,7 @@ use Rattle.integers.specs.Whole.{less}
 use Rattle.line.specs.Frames.{Frame}
 use Rattle.station.specs.Touch.{powerUp}
 use Rattle.station.specs.Report.{report, servoSizes, Fit}
+use Rattle.motion.specs.Profile.{left}
 use Rattle.orders.specs.declared.Tuning.{Tuning}
 use Rattle.orders.specs.declared.Order.{Order}
 use Rattle.orders.specs.declared.Order.the-variants.{SetGain}
@@ -18,7 +20,7 @@ use Rattle.orders.specs.declared.Request.the-variants.{Malformed, Wants}
 use Rattle.integers.specs.Bits.{bit}
 use Rattle.orders.specs.Orders.{request, gainsIn, tuningIn, gainsFit}
 use Rattle.servo.specs.declared.Sample.{Sample}
-use Rattle.servo.specs.declared.Mode.the-variants.{Off}
+use Rattle.servo.specs.declared.Mode.the-variants.{Off, Velocity, Trapezoid}
 use Rattle.servo.specs.declared.Servo.{Servo}
 use Rattle.servo.specs.Servo.{position, powered, fresh, withTuning, sampled}
 use Rattle.servo.specs.Loads.{signedBy}
@@ -55,6 +57,15 @@ pub record Status (m : Servo) : Type 0 where
 
 abbrev pub StatusBits : Type 0
 StatusBits = (m : Servo) → Status m
+
+-- Move done: in velocity mode exactly at the goal speed, in a trapezoid exactly with no distance and no speed left, else always (01 Tick).
+pub record Finished (m : Servo) : Type 0 where
+  pub velocity : m .drive .mode ≡ Velocity → (done m ≡ true) ↔ (m .profile .speed ≡ m .profile .aim)
+  pub trapezoid : m .drive .mode ≡ Trapezoid → (done m ≡ true) ↔ ((left (m .profile) ≡ pos 0) × (m .profile .speed ≡ pos 0))
+  pub others : (m .drive .mode ≡ Velocity → ⊥) → (m .drive .mode ≡ Trapezoid → ⊥) → done m ≡ true
+
+abbrev pub MoveDone : Type 0
+MoveDone = (m : Servo) → Finished m
 
 -- A reply, which an executed Hard Reset alone does not draw, begins with that status byte.
 abbrev pub StatusFirst : Type 0
