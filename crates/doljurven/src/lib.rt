@@ -1,13 +1,13 @@
 // The calls for the board's C code. Each refuses what its table says, in the table's order, and changes nothing then.
 ghost use mathlib.Core.Path.{_≡_};
 ghost use lib.ListN.{length};
-ghost use Rattle.layout.specs.Bytes.{pasted};
-ghost use Rattle.host.specs.Writing.{writtenOf, roomAfter};
-ghost use Rattle.host.specs.Reading.{statusOf};
-ghost use Rattle.calls.specs.Table.{first, setupTable, servoSampleTable, ioSampleTable, tickTable, outputsTable};
-ghost use Rattle.calls.specs.Calls.{setupRecord, byteNumber, byteRecord, byteRoom, byteWritten, servoSampleOf, ioSampleOf, sampleRecord, tickRecord, outputsBytes, numbersBytes, readingBytes};
-use host::Reading;
-use modules::Measured;
+ghost use Rattle.base_layout.specs.Bytes.{pasted};
+ghost use Rattle.host_status.specs.Writing.{writtenOf, roomAfter};
+ghost use Rattle.host_status.specs.Reading.{statusOf};
+ghost use Rattle.api_rules.specs.Table.{first, setupTable, servoSampleTable, ioSampleTable, tickTable, outputsTable};
+ghost use Rattle.api_rules.specs.Calls.{setupRecord, byteNumber, byteRecord, byteRoom, byteWritten, servoSampleOf, ioSampleOf, sampleRecord, tickRecord, outputsBytes, numbersBytes, readingBytes};
+use host_status::Reading;
+use types_rules::Measured;
 
 // A network of the given types at power-up: 0, or 16, 11, 12.
 #[no_mangle]
@@ -15,11 +15,11 @@ pub extern "C" fn nmc_setup(net: &mut [u8], types: &[u8]) -> u32
     ensures { λ r. ⌜ r ≡ first (setupTable (now (net .entry)) (now (types .entry))) ⌝ }
     ensures { λ _. ⌜ now (net .exit) ≡ setupRecord (now (net .entry)) (now (types .entry)) ⌝ }
 {
-    let number = refusals::setup_refusal(net, types);
+    let number = api_refusals::setup_refusal(net, types);
     if number != 0 {
         return number;
     }
-    record::set_up(net, types);
+    net_record::set_up(net, types);
     0
 }
 
@@ -37,12 +37,12 @@ pub extern "C" fn nmc_byte(
     ensures { λ _. ⌜ now (room .exit) ≡ byteRoom (now (net .entry)) mark byte (now (room .entry)) ⌝ }
     ensures { λ _. ⌜ now (written .exit) ≡ byteWritten (now (net .entry)) mark byte (now (room .entry)) ⌝ }
 {
-    let number = refusals::byte_refusal(net, mark, room);
+    let number = api_refusals::byte_refusal(net, mark, room);
     if number != 0 {
         *written = 0;
         return number;
     }
-    let called = traffic::byte(net, byte, mark == 1, room);
+    let called = net_traffic::byte(net, byte, mark == 1, room);
     *written = called.written;
     called.number
 }
@@ -53,16 +53,16 @@ pub extern "C" fn nmc_servo_sample(net: &mut [u8], place: u32, raw: u32, power: 
     ensures { λ r. ⌜ r ≡ first (servoSampleTable (now (net .entry)) place power) ⌝ }
     ensures { λ _. ⌜ now (net .exit) ≡ sampleRecord (servoSampleTable (now (net .entry)) place power) (now (net .entry)) place (servoSampleOf raw power ad) ⌝ }
 {
-    let number = refusals::sample_refusal(net, place, 0, 2 < power);
+    let number = api_refusals::sample_refusal(net, place, 0, 2 < power);
     if number != 0 {
         return number;
     }
-    let x = servo::Sample {
+    let x = servo_rules::Sample {
         raw,
         power: power as u8,
         ad,
     };
-    record::put_sample(net, place as usize, Measured::Servo(x));
+    net_record::put_sample(net, place as usize, Measured::Servo(x));
     0
 }
 
@@ -80,18 +80,18 @@ pub extern "C" fn nmc_io_sample(
     ensures { λ r. ⌜ r ≡ first (ioSampleTable (now (net .entry)) place inputs) ⌝ }
     ensures { λ _. ⌜ now (net .exit) ≡ sampleRecord (ioSampleTable (now (net .entry)) place inputs) (now (net .entry)) place (ioSampleOf inputs ad1 ad2 ad3 counter) ⌝ }
 {
-    let number = refusals::sample_refusal(net, place, 2, 4095 < inputs);
+    let number = api_refusals::sample_refusal(net, place, 2, 4095 < inputs);
     if number != 0 {
         return number;
     }
-    let x = inout::Sample {
+    let x = inout_rules::Sample {
         inputs: inputs as u16,
         ad1,
         ad2,
         ad3,
         counter,
     };
-    record::put_sample(net, place as usize, Measured::Io(x));
+    net_record::put_sample(net, place as usize, Measured::Io(x));
     0
 }
 
@@ -101,10 +101,10 @@ pub extern "C" fn nmc_tick(net: &mut [u8]) -> u32
     ensures { λ r. ⌜ r ≡ first (tickTable (now (net .entry))) ⌝ }
     ensures { λ _. ⌜ now (net .exit) ≡ tickRecord (now (net .entry)) ⌝ }
 {
-    if !record::is_valid(net) {
+    if !net_record::is_valid(net) {
         return 16;
     }
-    traffic::tick(net);
+    net_traffic::tick(net);
     0
 }
 
@@ -114,11 +114,11 @@ pub extern "C" fn nmc_outputs(net: &[u8], place: u32, outputs: &mut [u8; 8]) -> 
     ensures { λ r. ⌜ r ≡ first (outputsTable (now (net .entry)) place) ⌝ }
     ensures { λ _. ⌜ now (outputs .exit) ≡ outputsBytes (now (net .entry)) place (now (outputs .entry)) ⌝ }
 {
-    let number = refusals::outputs_refusal(net, place);
+    let number = api_refusals::outputs_refusal(net, place);
     if number != 0 {
         return number;
     }
-    *outputs = record::outputs(net, place as usize);
+    *outputs = net_record::outputs(net, place as usize);
     0
 }
 
@@ -135,7 +135,7 @@ pub extern "C" fn nmc_write_frame(
     ensures { λ _. ⌜ now (room .exit) ≡ roomAfter address code (now (ds .entry)) (now (room .entry)) ⌝ }
     ensures { λ _. ⌜ now (written .exit) ≡ writtenOf address code (now (ds .entry)) (now (room .entry)) .len ⌝ }
 {
-    let w = writer::write_frame(address, code, ds, room);
+    let w = host_frame::write_frame(address, code, ds, room);
     *written = w.len;
     w.number
 }
@@ -148,7 +148,7 @@ fn put_numbers(s: &mut [u8], ns: [u32; 8])
     let mut at: usize = 1;
     let mut i: usize = 0;
     while i < 8 {
-        layout::put_number(s, at, 4, ns[i]);
+        base_layout::put_number(s, at, 4, ns[i]);
         at += 4;
         i += 1;
     }
@@ -170,7 +170,7 @@ pub extern "C" fn nmc_read_status(kind: u32, items: u8, reply: &[u8], reading: &
     ensures { λ r. ⌜ r ≡ statusOf kind items (now (reply .entry)) .number ⌝ }
     ensures { λ _. ⌜ now (reading .exit) ≡ readingBytes (statusOf kind items (now (reply .entry)) .reading) ⌝ }
 {
-    let answered = host::take_status(kind, items, reply);
+    let answered = host_status::take_status(kind, items, reply);
     let r = answered.reading;
     *reading = reading_bytes(r);
     answered.number

@@ -4,9 +4,9 @@ ghost use mathlib.Core.Path.{_≡_};
 ghost use Prim.Native.Nat.{_+_, _-_, _^_, _<_, _≤_};
 ghost use lib.ListN.{length, drop};
 ghost use lib.Seq.{paste};
-ghost use Rattle.capture.specs.Turns.{Held};
-use capture::Place;
+ghost use Rattle.replay_file.specs.Turns.{Held};
 use libc::STDOUT_FILENO;
+use replay_file::Place;
 
 // Where the program is: the replay's place, the bytes of the buffer that are not taken yet, whether the file has no more, and whether to stop.
 struct State {
@@ -68,7 +68,7 @@ fn step(
     let at = s.at;
     let start = s.start;
     let end = s.end;
-    let t = player::turn(at, types, net, &buf[start..end], s.last, out);
+    let t = replay_play::turn(at, types, net, &buf[start..end], s.last, out);
     let wrote = t.wrote;
     let is_written = io::write_all(STDOUT_FILENO, &out[..wrote]);
     let next = t.next;

@@ -1,13 +1,13 @@
 -- `doljurven::nmc_byte` meets its contract. Assumes nothing.
-use Rattle.calls.proofs.Refused.{byte-passes, byte-refused, byte-done}
+use Rattle.api_rules.proofs.Refused.{byte-passes, byte-refused, byte-done}
 use mathlib.Core.Path.{sym, _∙_}
 use borrow.Author.Needs.{needs}
 use Rattle.doljurven.proofs.nmc_byte.Statement.{statement}
 use Rattle.doljurven.proofs.nmc_byte.Tie as tie
 use Rattle.doljurven.proofs.nmc_byte.Reads as reads
 use Rattle.doljurven.proofs.nmc_byte.Lts as lts
-use Rattle.refusals.proofs.byte_refusal.Reads as byte-refusal-reads
-use Rattle.traffic.proofs.byte.Reads as byte-reads
+use Rattle.api_refusals.proofs.byte_refusal.Reads as byte-refusal-reads
+use Rattle.net_traffic.proofs.byte.Reads as byte-reads
 
 byte-refusal-requires : tie.Need-byte-refusal-requires
 byte-refusal-requires c κs = search needs

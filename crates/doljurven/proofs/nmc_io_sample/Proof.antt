@@ -1,10 +1,10 @@
 -- `doljurven::nmc_io_sample` meets its contract. Assumes nothing.
 use borrow.Author.Needs.{needs}
-use Rattle.calls.proofs.Refused.{sample-passes, sample-refused, sample-done}
-use Rattle.calls.specs.Calls.{ioSampleOf}
-use Rattle.calls.specs.Table.{ioSampleTable}
-use Rattle.network.specs.Record.{netIn, valid}
-use Rattle.modules.specs.Types.{slots}
+use Rattle.api_rules.proofs.Refused.{sample-passes, sample-refused, sample-done}
+use Rattle.api_rules.specs.Calls.{ioSampleOf}
+use Rattle.api_rules.specs.Table.{ioSampleTable}
+use Rattle.net_rules.specs.Record.{netIn, valid}
+use Rattle.types_rules.specs.Types.{slots}
 use lib.Dec.{ltb}
 use lib.ListN.{length}
 use Prim.Native.Nat.{_<_}

@@ -1,10 +1,10 @@
 -- `doljurven::nmc_outputs` meets its contract. Assumes nothing.
-use Rattle.calls.proofs.Refused.{refused, done, outputs-passes}
-use Rattle.network.specs.Calls.{outputsAt}
-use Rattle.network.specs.Record.{netIn}
-use Rattle.modules.specs.Types.{slots}
-use Rattle.calls.specs.Calls.{outputsBytes}
-use Rattle.calls.specs.Table.{outputsTable}
+use Rattle.api_rules.proofs.Refused.{refused, done, outputs-passes}
+use Rattle.net_rules.specs.Calls.{outputsAt}
+use Rattle.net_rules.specs.Record.{netIn}
+use Rattle.types_rules.specs.Types.{slots}
+use Rattle.api_rules.specs.Calls.{outputsBytes}
+use Rattle.api_rules.specs.Table.{outputsTable}
 use mathlib.Core.Path.{sym, _∙_}
 use native.Mathlib.Omega.{arith}
 use borrow.Author.Needs.{needs}
@@ -12,8 +12,8 @@ use Rattle.doljurven.proofs.nmc_outputs.Statement.{statement}
 use Rattle.doljurven.proofs.nmc_outputs.Tie as tie
 use Rattle.doljurven.proofs.nmc_outputs.Reads as reads
 use Rattle.doljurven.proofs.nmc_outputs.Lts as lts
-use Rattle.refusals.proofs.outputs_refusal.Reads as outputs-refusal-reads
-use Rattle.record.proofs.outputs.Reads as outputs-reads
+use Rattle.api_refusals.proofs.outputs_refusal.Reads as outputs-refusal-reads
+use Rattle.net_record.proofs.outputs.Reads as outputs-reads
 
 outputs-refusal-requires : tie.Need-outputs-refusal-requires
 outputs-refusal-requires c κs = search needs

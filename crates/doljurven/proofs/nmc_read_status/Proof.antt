@@ -1,6 +1,6 @@
 -- `doljurven::nmc_read_status` meets its contract. Assumes nothing.
-use Rattle.calls.specs.Calls.{readingBytes}
-use Rattle.host.specs.declared.Answered.{Answered}
+use Rattle.api_rules.specs.Calls.{readingBytes}
+use Rattle.host_status.specs.declared.Answered.{Answered}
 use mathlib.Core.Path.{sym, ap, _∙_}
 use borrow.Author.Needs.{needs}
 use Rattle.doljurven.proofs.nmc_read_status.Statement.{statement}
@@ -8,7 +8,7 @@ use Rattle.doljurven.proofs.nmc_read_status.Tie as tie
 use Rattle.doljurven.proofs.nmc_read_status.Reads as reads
 use Rattle.doljurven.proofs.nmc_read_status.Lts as lts
 use Rattle.doljurven.proofs.reading_bytes.Reads as reading-bytes-reads
-use Rattle.host.proofs.take_status.Reads as take-status-reads
+use Rattle.host_status.proofs.take_status.Reads as take-status-reads
 
 take-status-requires : tie.Need-take-status-requires
 take-status-requires c κs = search needs

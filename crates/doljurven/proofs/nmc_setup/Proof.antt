@@ -1,16 +1,16 @@
 -- `doljurven::nmc_setup` meets its contract. Assumes nothing.
-use Rattle.calls.proofs.Refused.{refused, done, setup-passes}
-use Rattle.network.specs.Calls.{fresh}
-use Rattle.calls.specs.Calls.{setupRecord}
-use Rattle.calls.specs.Table.{setupTable}
+use Rattle.api_rules.proofs.Refused.{refused, done, setup-passes}
+use Rattle.net_rules.specs.Calls.{fresh}
+use Rattle.api_rules.specs.Calls.{setupRecord}
+use Rattle.api_rules.specs.Table.{setupTable}
 use mathlib.Core.Path.{sym, _∙_}
 use borrow.Author.Needs.{needs}
 use Rattle.doljurven.proofs.nmc_setup.Statement.{statement}
 use Rattle.doljurven.proofs.nmc_setup.Tie as tie
 use Rattle.doljurven.proofs.nmc_setup.Reads as reads
 use Rattle.doljurven.proofs.nmc_setup.Lts as lts
-use Rattle.refusals.proofs.setup_refusal.Reads as setup-refusal-reads
-use Rattle.record.proofs.set_up.Reads as set-up-reads
+use Rattle.api_refusals.proofs.setup_refusal.Reads as setup-refusal-reads
+use Rattle.net_record.proofs.set_up.Reads as set-up-reads
 
 setup-refusal-requires : tie.Need-setup-refusal-requires
 setup-refusal-requires c κs = search needs

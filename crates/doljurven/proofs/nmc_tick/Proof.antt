@@ -1,5 +1,5 @@
 -- `doljurven::nmc_tick` meets its contract. Assumes nothing.
-use Rattle.calls.specs.Calls.{tickRecord}
+use Rattle.api_rules.specs.Calls.{tickRecord}
 use borrow.Author.Tests.{not-true, not-false}
 use mathlib.Core.Path.{sym, refl, _∙_}
 use borrow.Author.Needs.{needs}
@@ -7,8 +7,8 @@ use Rattle.doljurven.proofs.nmc_tick.Statement.{statement}
 use Rattle.doljurven.proofs.nmc_tick.Tie as tie
 use Rattle.doljurven.proofs.nmc_tick.Reads as reads
 use Rattle.doljurven.proofs.nmc_tick.Lts as lts
-use Rattle.record.proofs.is_valid.Reads as is-valid-reads
-use Rattle.traffic.proofs.tick.Reads as tick-reads
+use Rattle.net_record.proofs.is_valid.Reads as is-valid-reads
+use Rattle.net_traffic.proofs.tick.Reads as tick-reads
 
 is-valid-requires : tie.Need-is-valid-requires
 is-valid-requires c κs = search needs

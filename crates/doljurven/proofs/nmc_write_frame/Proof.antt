@@ -1,12 +1,12 @@
 -- `doljurven::nmc_write_frame` meets its contract. Assumes nothing.
-use Rattle.host.specs.declared.Written.{Written}
+use Rattle.host_status.specs.declared.Written.{Written}
 use mathlib.Core.Path.{sym, ap, _∙_}
 use borrow.Author.Needs.{needs}
 use Rattle.doljurven.proofs.nmc_write_frame.Statement.{statement}
 use Rattle.doljurven.proofs.nmc_write_frame.Tie as tie
 use Rattle.doljurven.proofs.nmc_write_frame.Reads as reads
 use Rattle.doljurven.proofs.nmc_write_frame.Lts as lts
-use Rattle.writer.proofs.write_frame.Reads as write-frame-reads
+use Rattle.host_frame.proofs.write_frame.Reads as write-frame-reads
 
 write-frame-requires : tie.Need-write-frame-requires
 write-frame-requires c κs = search needs

@@ -4,10 +4,10 @@ use Prim.Native.Nat.{ℕ, _+_, _*_, _-_, _≤_}
 use native.Mathlib.Omega.{arith}
 use borrow.Author.Needs.{needs}
 use lib.ListN.{length}
-use Rattle.layout.specs.Bytes.{pasted}
-use Rattle.layout.proofs.Pasted.{pasted-none}
-use Rattle.calls.specs.Calls.{numbersBytes}
-use Rattle.calls.proofs.Numbers.{numbers-turn}
+use Rattle.base_layout.specs.Bytes.{pasted}
+use Rattle.base_layout.proofs.Pasted.{pasted-none}
+use Rattle.api_rules.specs.Calls.{numbersBytes}
+use Rattle.api_rules.proofs.Numbers.{numbers-turn}
 use Rattle.doljurven.proofs.put_numbers.Statement.{statement}
 use Rattle.doljurven.proofs.put_numbers.Tie as tie
 

@@ -1,5 +1,5 @@
 -- `doljurven::reading_bytes` meets its contract. Assumes nothing.
-use Rattle.calls.specs.Calls.{readingBytes}
+use Rattle.api_rules.specs.Calls.{readingBytes}
 use borrow.Author.Needs.{needs}
 use Rattle.doljurven.proofs.reading_bytes.Statement.{statement}
 use Rattle.doljurven.proofs.reading_bytes.Tie as tie

@@ -4,9 +4,9 @@ use mathlib.Core.Path.{_≡_, refl}
 use Prim.Native.Nat.{_+_, _*_, _^_, _<_, _≤_}
 use native.Mathlib.Omega.{arith}
 use lib.ListN.{length}
-use Rattle.layout.specs.Bytes.{Bytes}
-use Rattle.capture.specs.Turns.{start, Held}
-use Rattle.capture.proofs.Fine.{begun}
+use Rattle.base_layout.specs.Bytes.{Bytes}
+use Rattle.replay_file.specs.Turns.{start, Held}
+use Rattle.replay_file.proofs.Fine.{begun}
 use Rattle.replay.proofs.run.Statement.{statement}
 use Rattle.replay.proofs.run.Tie as tie
 

@@ -1,0 +1,61 @@
+// Which refusal a call meets, by its table.
+ghost use mathlib.Core.Path.{_≡_};
+ghost use Rattle.api_rules.specs.Table.{first, setupTable, byteTable, sampleTable, outputsTable};
+
+pub fn setup_refusal(net: &[u8], types: &[u8]) -> u32
+    ensures { λ r. ⌜ r ≡ first (setupTable (now (net .entry)) (now (types .entry))) ⌝ }
+{
+    if net.len() != 4116 {
+        return 16;
+    }
+    if (types.len() == 0) | (32 < types.len()) {
+        return 11;
+    }
+    if !net_record::is_all_known(types) {
+        return 12;
+    }
+    0
+}
+
+pub fn byte_refusal(net: &[u8], mark: u32, room: &[u8]) -> u32
+    ensures { λ r. ⌜ r ≡ first (byteTable (now (net .entry)) mark (now (room .entry))) ⌝ }
+{
+    if !net_record::is_valid(net) {
+        return 16;
+    }
+    if 1 < mark {
+        return 14;
+    }
+    if room.len() < 608 {
+        return 15;
+    }
+    0
+}
+
+// A sample for a module of type t at a place; far says that a field is out of range.
+pub fn sample_refusal(net: &[u8], place: u32, t: u8, far: bool) -> u32
+    ensures { λ r. ⌜ r ≡ first (sampleTable t (now (net .entry)) place far) ⌝ }
+{
+    if !net_record::is_valid(net) {
+        return 16;
+    }
+    if !net_record::is_of_type(net, place as usize, t) {
+        return 13;
+    }
+    if far {
+        return 14;
+    }
+    0
+}
+
+pub fn outputs_refusal(net: &[u8], place: u32) -> u32
+    ensures { λ r. ⌜ r ≡ first (outputsTable (now (net .entry)) place) ⌝ }
+{
+    if !net_record::is_valid(net) {
+        return 16;
+    }
+    if !(place < net_receiver::chain_len(net) as u32) {
+        return 13;
+    }
+    0
+}

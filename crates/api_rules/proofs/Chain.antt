@@ -1,0 +1,36 @@
+-- What a chain of any modules promises holds of this network's: who is touched, whose record changes, who replies. Assumes nothing.
+use Rattle.chain_rules.specs.Promises.{TouchedBefore, Enabled, OwnRecord, Untouched, SpeaksBefore, Says, RepliesAre, InOrder, Lengths, ByteTaken}
+use Rattle.chain_rules.proofs.Touching as Touching
+use Rattle.chain_rules.proofs.Replies as Replies
+use Rattle.chain_rules.proofs.Bytes as Bytes
+use Rattle.types_rules.specs.Types.{kind}
+
+pub touched-before : TouchedBefore kind
+touched-before = Touching.touched-before kind
+
+pub enabled : Enabled
+enabled = Touching.enabled
+
+pub own-record : OwnRecord kind
+own-record = Touching.own-record kind
+
+pub untouched : Untouched kind
+untouched = Touching.untouched kind
+
+pub speaks-before : SpeaksBefore kind
+speaks-before = Touching.speaks-before kind
+
+pub says : Says kind
+says = Touching.says kind
+
+pub replies-are : RepliesAre kind
+replies-are = Replies.replies-are kind
+
+pub in-order : InOrder kind
+in-order = Replies.in-order kind
+
+pub lengths : Lengths
+lengths = Replies.lengths
+
+pub byte-taken : ByteTaken kind
+byte-taken = Bytes.byte-taken kind

@@ -1,0 +1,120 @@
+-- Tables of refusals: what a call that was refused, or was not, may use. Assumes nothing.
+use mathlib.Core.Path.{_≡_, refl, sym, ap, _∙_}
+use mathlib.Core.List.{List}
+use mathlib.Core.Bool.{Bool, true, false, cond, _||_}
+use Prim.Native.Nat.{ℕ, zero, suc, _<_, _≤_}
+use native.Mathlib.Omega.{arith}
+use borrow.Author.Tests.{eq-eqb, ne-eqb, eqb-true, eqb-false, ltb-true, ltb-false, not-false}
+use lib.ListN.{length}
+use lib.Dec.{eqb, ltb}
+use Rattle.base_layout.specs.Bytes.{pasted}
+use Rattle.chain_rules.specs.Chain.{Step, flat}
+use Rattle.types_rules.specs.Types.{Module, AnySample, slots}
+use Rattle.net_rules.specs.declared.Called.{Called}
+use Rattle.net_rules.specs.Record.{recordSize, netIn, stored, valid}
+use Rattle.net_rules.specs.Calls.{allKnown, byteOf, calledBy, sampleStep}
+use Rattle.net_rules.proofs.Calls.{of-type-below}
+use Rattle.api_rules.specs.Table.{Line, first, setupTable, byteTable, sampleTable, tickTable, outputsTable}
+use Rattle.api_rules.specs.Promises.{Passes}
+use Rattle.api_rules.specs.Calls.{unless, stepOf, sampleRecord, byteNumber, byteRecord, byteRoom, byteWritten}
+use Rattle.api_rules.proofs.Tables.{none-applies}
+
+-- by the number that a refusing function gave
+pub refused : {A : Type 0} (ls : List Line) (x y : A) {n : ℕ} → n ≡ first ls → (n ≡ 0 → ⊥) → x ≡ unless ls x y
+refused {A} ls x y e h = sym (ap (λ (t : Bool). cond t y x) (ne-eqb (first ls) 0 (λ z. h (e ∙ z))))
+
+pub done : {A : Type 0} (ls : List Line) (x y : A) {n : ℕ} → n ≡ first ls → n ≡ 0 → y ≡ unless ls x y
+done {A} ls x y e h = sym (ap (λ (t : Bool). cond t y x) (eq-eqb (first ls) 0 (sym e ∙ h)))
+
+-- what holds of a thing refused, and of the thing done, holds of what a call gives
+pub either-way : {A : Type 0} (P : A → Type 0) (ls : List Line) (x y : A) → P x → (Passes ls → P y) → P (unless ls x y)
+either-way P ls x y p q = go (eqb (first ls) 0) refl
+  where
+    go : (t : Bool) → eqb (first ls) 0 ≡ t → P (cond t y x)
+    go true e = q (eqb-true _ _ e)
+    go false e = p
+
+-- a table that refuses nothing
+or-false : (a b : Bool) → (a || b) ≡ false → (a ≡ false) × (b ≡ false)
+or-false false b e = (refl, e)
+or-false true b e = let z : true ≡ false = e in (z, cc)
+
+pub setup-passes : (net types : List ℕ) → first (setupTable net types) ≡ 0 → (length net ≡ recordSize) × (length types ≤ 32) × (allKnown types ≡ true)
+setup-passes net types e =
+    let n = none-applies (setupTable net types) (omega arith, (omega arith, (omega arith, tt))) e in
+    (eqb-true _ _ (not-false _ (n .0)), ltb-false _ _ (or-false (eqb (length types) 0) (ltb 32 (length types)) (n .1 .0) .1), not-false _ (n .1 .1 .0))
+
+pub setup-some : (net types : List ℕ) → first (setupTable net types) ≡ 0 → 1 ≤ length types
+setup-some net types e =
+    let n = none-applies (setupTable net types) (omega arith, (omega arith, (omega arith, tt))) e in
+    let h = eqb-false _ _ (or-false (eqb (length types) 0) (ltb 32 (length types)) (n .1 .0) .0) in
+    positive (length types) h
+  where
+    positive : (k : ℕ) → (k ≡ 0 → ⊥) → 1 ≤ k
+    positive zero h = absurd (h refl)
+    positive (suc k) h = omega arith
+
+pub byte-passes : (net : List ℕ) (mark : ℕ) (room : List ℕ) → first (byteTable net mark room) ≡ 0 → (valid slots net ≡ true) × (608 ≤ length room)
+byte-passes net mark room e =
+    let n = none-applies (byteTable net mark room) (omega arith, (omega arith, (omega arith, tt))) e in
+    (not-false _ (n .0), ltb-false _ _ (n .1 .1 .0))
+
+pub sample-passes : (t : ℕ) (net : List ℕ) (place : ℕ) (far : Bool) → first (sampleTable t net place far) ≡ 0
+    → (valid slots net ≡ true) × (place < length (netIn slots net .modules)) × (far ≡ false)
+sample-passes t net place far e =
+    let n = none-applies (sampleTable t net place far) (omega arith, (omega arith, (omega arith, tt))) e in
+    (not-false _ (n .0), of-type-below (netIn slots net) place t (not-false _ (n .1 .0)), n .1 .1 .0)
+
+-- a sample's call, refused and done
+module _ (ls : List Line) (net : List ℕ) (place : ℕ) (x : AnySample) {n : ℕ} (e : n ≡ first ls) where
+  pub sample-refused : (n ≡ 0 → ⊥) → (n ≡ first ls) × (net ≡ sampleRecord ls net place x)
+  unfolding sampleRecord
+  sample-refused h = (e, refused ls net (stored slots (sampleStep place x (netIn slots net)) net) e h)
+
+  pub sample-done : n ≡ 0 → {net′ : List ℕ} → net′ ≡ stored slots (sampleStep place x (netIn slots net)) net
+      → (0 ≡ first ls) × (net′ ≡ sampleRecord ls net place x)
+  unfolding sampleRecord
+  sample-done z p = (sym z ∙ e, p ∙ done ls net (stored slots (sampleStep place x (netIn slots net)) net) e z)
+
+pub tick-passes : (net : List ℕ) → Passes (tickTable net) → valid slots net ≡ true
+tick-passes net e = let n = none-applies (tickTable net) (omega arith, tt) e in not-false _ (n .0)
+
+pub outputs-passes : (net : List ℕ) (place : ℕ) → first (outputsTable net place) ≡ 0 → (valid slots net ≡ true) × (place < length (netIn slots net .modules))
+outputs-passes net place e =
+    let n = none-applies (outputsTable net place) (omega arith, (omega arith, tt)) e in
+    (not-false _ (n .0), ltb-true _ _ (not-false _ (n .1 .0)))
+
+-- the byte call, refused and done
+module _ (net : List ℕ) (mark byte : ℕ) (room : List ℕ) {n : ℕ} (e : n ≡ first (byteTable net mark room)) where
+  pub byte-refused : (n ≡ 0 → ⊥)
+      → (n ≡ byteNumber net mark byte room)
+      × ((net ≡ byteRecord net mark byte room) × ((room ≡ byteRoom net mark byte room) × (0 ≡ byteWritten net mark byte room)))
+  unfolding byteNumber byteRecord byteRoom byteWritten
+  byte-refused h =
+      let ls : List Line = byteTable net mark room in
+      let t : Step Module = stepOf net mark byte in (
+        e ∙ refused ls (first ls) (t .number) e h,
+        (
+          refused ls net (stored slots (t .net) net) e h,
+          (refused ls room (pasted 0 (flat (t .replies)) room) e h, refused ls 0 (length (flat (t .replies))) e h),
+        ),
+      )
+
+  pub byte-done : n ≡ 0 → {c : Called} {net′ room′ : List ℕ}
+      → (c ≡ calledBy (netIn slots net) (byteOf byte (eqb mark 1)))
+      × ((net′ ≡ stored slots (stepOf net mark byte .net) net) × (room′ ≡ pasted 0 (flat (stepOf net mark byte .replies)) room))
+      → (c .number ≡ byteNumber net mark byte room)
+      × ((net′ ≡ byteRecord net mark byte room) × ((room′ ≡ byteRoom net mark byte room) × (c .written ≡ byteWritten net mark byte room)))
+  unfolding byteNumber byteRecord byteRoom byteWritten calledBy
+  byte-done z p =
+      let ls : List Line = byteTable net mark room in
+      let t : Step Module = stepOf net mark byte in (
+        ap (λ (c : Called). c .number) (p .0) ∙ done ls (first ls) (t .number) e z,
+        (
+          p .1 .0 ∙ done ls net (stored slots (t .net) net) e z,
+          (
+            p .1 .1 ∙ done ls room (pasted 0 (flat (t .replies)) room) e z,
+            ap (λ (c : Called). c .written) (p .0) ∙ done ls 0 (length (flat (t .replies))) e z,
+          ),
+        ),
+      )

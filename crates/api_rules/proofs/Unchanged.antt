@@ -1,0 +1,84 @@
+-- A refused call changes nothing, and the byte call's number tells whether it was refused. Assumes nothing.
+use mathlib.Core.Path.{_≡_, refl, sym}
+use mathlib.Core.List.{List}
+use mathlib.Core.Bool.{Bool, true, false, cond, not}
+use Prim.Native.Nat.{ℕ, _≤_}
+use native.Mathlib.Omega.{arith}
+use lib.ListN.{length}
+use lib.Dec.{ltb}
+use Rattle.line_receiver.specs.declared.Receiver.{Receiver}
+use Rattle.line_receiver.specs.declared.Received.{Received}
+use Rattle.line_receiver.specs.declared.Answer.{Answer}
+use Rattle.line_receiver.specs.declared.Answer.the-variants.{Ended, Nothing}
+use Rattle.line_receiver.specs.Receive.{taken, numberOf}
+use Rattle.line_receiver.specs.Frames.{Byte}
+use Rattle.chain_rules.specs.Chain.{Net, byteStep}
+use Rattle.chain_rules.proofs.Bytes.{step-on, step-end}
+use Rattle.types_rules.specs.Types.{Module, kind, slots}
+use Rattle.net_rules.specs.Record.{netIn, stored, valid}
+use Rattle.net_rules.specs.Calls.{fresh, tickStep, sampleStep, outputsAt}
+use Rattle.api_rules.specs.Table.{Line, first, setupTable, byteTable, servoSampleTable, ioSampleTable, tickTable, outputsTable}
+use Rattle.api_rules.specs.Calls.{unless, stepOf, servoSampleOf, ioSampleOf, sampleRecord, setupRecord, byteNumber, tickRecord, outputsBytes}
+use Rattle.api_rules.specs.Promises.{Refuses, Passes, Unchanged, Answers}
+use Rattle.api_rules.proofs.Refused.{refused, done, byte-refused}
+
+-- what is refused is as it was
+same : {A : Type 0} (ls : List Line) (x y : A) → Refuses ls → unless ls x y ≡ x
+same ls x y h = sym (refused ls x y refl h)
+
+pub unchanged : Unchanged
+unfolding setupRecord sampleRecord tickRecord outputsBytes
+unchanged = record {
+  setup = λ net types h. same (setupTable net types) net (fresh types) h;
+  byte = λ net mark byte room h.
+      let p = byte-refused net mark byte room refl h in
+      record { number = sym (p .0); netKept = sym (p .1 .0); roomKept = sym (p .1 .1 .0); written = sym (p .1 .1 .1) };
+  servoSample = λ net place raw power ad h.
+      same (servoSampleTable net place power) net (stored slots (sampleStep place (servoSampleOf raw power ad) (netIn slots net)) net) h;
+  ioSample = λ net place inputs ad1 ad2 ad3 counter h.
+      same (ioSampleTable net place inputs) net (stored slots (sampleStep place (ioSampleOf inputs ad1 ad2 ad3 counter) (netIn slots net)) net) h;
+  tick = λ net h. same (tickTable net) net (stored slots (tickStep (netIn slots net)) net) h;
+  outputs = λ net place bytes h. same (outputsTable net place) bytes (outputsAt (netIn slots net) place) h;
+}
+
+-- a byte's own number
+ended-small : (d : Bool) → numberOf (Ended d) ≤ 2
+ended-small true = omega arith
+ended-small false = omega arith
+
+pub step-small : (n : Net Module) (b : Byte) → byteStep kind n b .number ≤ 2
+step-small n b =
+    let t : Received = taken (n .receiver) (b .value) (b .mark) in
+    go (t .answer) (t .next) refl
+  where
+    go : (a : Answer) (r : Receiver) → taken (n .receiver) (b .value) (b .mark) ≡ record { next = r; answer = a } → byteStep kind n b .number ≤ 2
+    go Nothing r e = rw (step-on kind n b r e) (omega arith)
+    go (Ended d) r e = rw (step-end kind n b r d e) (ended-small d)
+
+-- a byte call's number where it is not refused
+pub number-done : (net : List ℕ) (mark byte : ℕ) (room : List ℕ) → Passes (byteTable net mark room) → byteNumber net mark byte room ≡ stepOf net mark byte .number
+unfolding byteNumber
+number-done net mark byte room p =
+    sym (done (byteTable net mark room) (first (byteTable net mark room)) (stepOf net mark byte .number) refl p)
+
+-- the numbers of the byte call's table
+refusal-big : (a b c : Bool) → (_≡_ {A = ℕ} (cond a 16 (cond b 14 (cond c 15 0))) 0 → ⊥) → 11 ≤ cond a 16 (cond b 14 (cond c 15 0))
+refusal-big true b c h = omega arith
+refusal-big false true c h = omega arith
+refusal-big false false true h = omega arith
+refusal-big false false false h = absurd (h refl)
+
+pub answers : Answers
+answers net mark byte room =
+    let small : Passes (byteTable net mark room) → byteNumber net mark byte room ≤ 2 =
+    λ p. rw (number-done net mark byte room p) (step-small (netIn slots net) _) in
+    record {
+      done = small;
+      refused = (
+        λ g p. let s = small p in absurd (omega arith),
+        λ h.
+            let big = refusal-big (not (valid slots net)) (ltb 1 mark) (ltb (length room) 608) h in
+            let q = unchanged .byte net mark byte room h .number in
+            rw q big,
+      );
+    }

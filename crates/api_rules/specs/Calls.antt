@@ -1,0 +1,67 @@
+-- What each exported call of a network gives back and leaves behind, for all inputs: one thing where a line of its table applies, another
+-- where none does (document 01, "Numbers given back", "How tight the statements are").
+use Prim.Native.Nat.{ℕ, zero, suc, _+_}
+use mathlib.Core.List.{List, [], _∷_, _++_}
+use mathlib.Core.Bool.{Bool, cond}
+use mathlib.Core.Logic.{inl, inr}
+use lib.ListN.{length, getD}
+use lib.Dec.{eqb}
+use Rattle.base_layout.specs.Bytes.{le, pasted}
+use Rattle.chain_rules.specs.Chain.{Step, flat, byteStep}
+use Rattle.types_rules.specs.Types.{Module, AnySample, kind, slots}
+use Rattle.inout_rules.specs.declared.Sample as Inouts
+use Rattle.servo_rules.specs.declared.Sample as Servos
+use Rattle.net_rules.specs.Record.{netIn, stored}
+use Rattle.net_rules.specs.Calls.{byteOf, fresh, tickStep, sampleStep, outputsAt}
+use Rattle.host_status.specs.declared.Reading.{Reading}
+use Rattle.api_rules.specs.Table.{Line, first, setupTable, byteTable, tickTable, outputsTable}
+
+-- what holds where no line of a table applies, and what where one does
+abbrev pub unless : {A : Type 0} → List Line → A → A → A
+unless ls refused done = cond (eqb (first ls) 0) done refused
+
+-- setup
+unfoldable pub setupRecord : List ℕ → List ℕ → List ℕ
+setupRecord net types = unless (setupTable net types) net (fresh types)
+
+-- a line byte: the step of the network that the record holds
+abbrev pub stepOf : List ℕ → ℕ → ℕ → Step Module
+stepOf net mark byte = byteStep kind (netIn slots net) (byteOf byte (eqb mark 1))
+
+unfoldable pub byteNumber : List ℕ → ℕ → ℕ → List ℕ → ℕ
+byteNumber net mark byte room = unless (byteTable net mark room) (first (byteTable net mark room)) (stepOf net mark byte .number)
+
+unfoldable pub byteRecord : List ℕ → ℕ → ℕ → List ℕ → List ℕ
+byteRecord net mark byte room = unless (byteTable net mark room) net (stored slots (stepOf net mark byte .net) net)
+
+unfoldable pub byteRoom : List ℕ → ℕ → ℕ → List ℕ → List ℕ
+byteRoom net mark byte room = unless (byteTable net mark room) room (pasted 0 (flat (stepOf net mark byte .replies)) room)
+
+unfoldable pub byteWritten : List ℕ → ℕ → ℕ → List ℕ → ℕ
+byteWritten net mark byte room = unless (byteTable net mark room) 0 (length (flat (stepOf net mark byte .replies)))
+
+-- samples, as C hands their fields over
+abbrev pub servoSampleOf : ℕ → ℕ → ℕ → AnySample
+servoSampleOf raw power ad = inl (record { raw = raw; power = power; ad = ad })
+
+abbrev pub ioSampleOf : ℕ → ℕ → ℕ → ℕ → ℕ → AnySample
+ioSampleOf inputs ad1 ad2 ad3 counter = inr (record { inputs = inputs; ad1 = ad1; ad2 = ad2; ad3 = ad3; counter = counter })
+
+unfoldable pub sampleRecord : List Line → List ℕ → ℕ → AnySample → List ℕ
+sampleRecord table net place x = unless table net (stored slots (sampleStep place x (netIn slots net)) net)
+
+-- a tick
+unfoldable pub tickRecord : List ℕ → List ℕ
+tickRecord net = unless (tickTable net) net (stored slots (tickStep (netIn slots net)) net)
+
+-- the outputs
+unfoldable pub outputsBytes : List ℕ → ℕ → List ℕ → List ℕ
+outputsBytes net place bytes = unless (outputsTable net place) bytes (outputsAt (netIn slots net) place)
+
+-- what the status reader hands to C: the status byte, and k numbers of four bytes from number i on
+abbrev pub numbersBytes : ℕ → ℕ → List ℕ → List ℕ
+numbersBytes zero i ns = []
+numbersBytes (suc k) i ns = le 4 (getD ns i 0) ++ numbersBytes k (i + 1) ns
+
+unfoldable pub readingBytes : Reading → List ℕ
+readingBytes r = r .status ∷ numbersBytes 8 0 (r .numbers)

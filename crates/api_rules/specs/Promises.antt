@@ -1,0 +1,229 @@
+-- What is promised of the calls. Each promise is proved under its name, with small letters, in proofs/. That a chain of this network's modules
+-- keeps what the chain promises is in proofs/Chain.antt.
+use mathlib.Core.Path.{_≡_}
+use mathlib.Core.Logic.{_↔_}
+use Prim.Native.Nat.{ℕ, _+_, _*_, _/_, _<_, _≤_}
+use mathlib.Core.List.{List, [], _∷_, map}
+use mathlib.Core.Bool.{true, false}
+use lib.ListN.{length, getD, take, drop}
+use Rattle.base_layout.specs.Bytes.{Bytes}
+use Rattle.line_receiver.specs.Frames.{Frame}
+use Rattle.module_station.specs.Report.{itemsFor, causeBit}
+use Rattle.chain_rules.specs.Chain.{flat, executed, replied}
+use Rattle.types_rules.specs.Types.{slots}
+use Rattle.inout_rules.specs.declared.Io.{Io}
+use Rattle.inout_rules.specs.Module as Inout
+use Rattle.inout_rules.specs.Promises as InoutPromises
+use Rattle.servo_rules.specs.declared.Servo.{Servo}
+use Rattle.servo_rules.specs.Answers as ServoAnswers
+use Rattle.servo_slot_rules.specs.Slot.{decodeOf}
+use Rattle.servo_slot_rules.specs.Promises as ServoPromises
+use Rattle.net_rules.specs.Record.{netIn, valid}
+use Rattle.net_rules.specs.Calls.{setUp, tickStep, sampleStep}
+use Rattle.net_rules.specs.Promises.{There, Back}
+use Rattle.host_status.specs.declared.Answered.{Answered}
+use Rattle.host_status.specs.Reading.{statusOf}
+use Rattle.host_status.specs.Promises.{shown}
+use Rattle.api_rules.specs.Table.{Line, first, setupTable, byteTable, servoSampleTable, ioSampleTable, tickTable, outputsTable}
+use Rattle.api_rules.specs.Calls.{setupRecord, stepOf, byteNumber, byteRecord, byteRoom, byteWritten, servoSampleOf, ioSampleOf, sampleRecord, tickRecord, outputsBytes}
+
+-- n is given by a table: a line with the number n applies, and no line before it does
+pub data Given (n : ℕ) : List Line → Type 0 where
+  here : {l : Line} {ls : List Line} → l .number ≡ n → l .applies ≡ true → Given n (l ∷ ls)
+  later : {l : Line} {ls : List Line} → l .applies ≡ false → Given n ls → Given n (l ∷ ls)
+
+-- no line of a table applies
+abbrev pub NoneApplies : List Line → Type 0
+NoneApplies [] = Unit {0}
+NoneApplies (l ∷ ls) = (l .applies ≡ false) × NoneApplies ls
+
+-- no line has the number 0
+abbrev pub Numbered : List Line → Type 0
+Numbered [] = Unit {0}
+Numbered (l ∷ ls) = (0 < l .number) × Numbered ls
+
+-- A number other than 0 is given exactly when a line with it applies and none before it; 0 is given exactly when none applies.
+abbrev pub Exactly : Type 0
+Exactly =
+    (ls : List Line)
+    → Numbered ls
+    → ((n : ℕ) → (n ≡ 0 → ⊥) → (first ls ≡ n) ↔ Given n ls)
+    × ((first ls ≡ 0) ↔ NoneApplies ls)
+
+-- these are the numbers of a table, in its order, and none is 0
+abbrev pub Ordered : List Line → List ℕ → Type 0
+Ordered ls ns = (map (λ (l : Line). l .number) ls ≡ ns) × Numbered ls
+
+-- The tables have the order of document 01, "Numbers given back": 16, 11, 12, 13, 14, 15.
+pub record Tables : Type 0 where
+  pub setup : (net types : List ℕ) → Ordered (setupTable net types) (16 ∷ 11 ∷ 12 ∷ [])
+  pub byte : (net : List ℕ) (mark : ℕ) (room : List ℕ) → Ordered (byteTable net mark room) (16 ∷ 14 ∷ 15 ∷ [])
+  pub servoSample : (net : List ℕ) (place power : ℕ) → Ordered (servoSampleTable net place power) (16 ∷ 13 ∷ 14 ∷ [])
+  pub ioSample : (net : List ℕ) (place inputs : ℕ) → Ordered (ioSampleTable net place inputs) (16 ∷ 13 ∷ 14 ∷ [])
+  pub tick : (net : List ℕ) → Ordered (tickTable net) (16 ∷ [])
+  pub outputs : (net : List ℕ) (place : ℕ) → Ordered (outputsTable net place) (16 ∷ 13 ∷ [])
+
+-- a table refuses, or lets the call be done
+abbrev pub Refuses : List Line → Type 0
+Refuses ls = first ls ≡ 0 → ⊥
+
+abbrev pub Passes : List Line → Type 0
+Passes ls = first ls ≡ 0
+
+-- what a refused byte call gives and leaves
+pub record Untouched (net : List ℕ) (mark byte : ℕ) (room : List ℕ) : Type 0 where
+  pub number : byteNumber net mark byte room ≡ first (byteTable net mark room)
+  pub netKept : byteRecord net mark byte room ≡ net
+  pub roomKept : byteRoom net mark byte room ≡ room
+  pub written : byteWritten net mark byte room ≡ 0
+
+-- A call that its table refuses gives the table's number, leaves all that was lent as it was, and reports 0 bytes written. (The number of the
+-- calls other than the byte call is the table's by their contract.)
+pub record Unchanged : Type 0 where
+  pub setup : (net types : List ℕ) → Refuses (setupTable net types) → setupRecord net types ≡ net
+  pub byte : (net : List ℕ) (mark byte : ℕ) (room : List ℕ) → Refuses (byteTable net mark room) → Untouched net mark byte room
+  pub servoSample : (net : List ℕ) (place raw power ad : ℕ)
+      → Refuses (servoSampleTable net place power)
+      → sampleRecord (servoSampleTable net place power) net place (servoSampleOf raw power ad) ≡ net
+  pub ioSample : (net : List ℕ) (place inputs ad1 ad2 ad3 counter : ℕ)
+      → Refuses (ioSampleTable net place inputs)
+      → sampleRecord (ioSampleTable net place inputs) net place (ioSampleOf inputs ad1 ad2 ad3 counter) ≡ net
+  pub tick : (net : List ℕ) → Refuses (tickTable net) → tickRecord net ≡ net
+  pub outputs : (net : List ℕ) (place : ℕ) (bytes : List ℕ) → Refuses (outputsTable net place) → outputsBytes net place bytes ≡ bytes
+
+-- The byte call gives 0, 1 or 2 where its table does not refuse it, and 11 or more exactly where it does.
+pub record Answer (net : List ℕ) (mark byte : ℕ) (room : List ℕ) : Type 0 where
+  pub done : Passes (byteTable net mark room) → byteNumber net mark byte room ≤ 2
+  pub refused : (11 ≤ byteNumber net mark byte room) ↔ Refuses (byteTable net mark room)
+
+abbrev pub Answers : Type 0
+Answers = (net : List ℕ) (mark byte : ℕ) (room : List ℕ) → Answer net mark byte room
+
+-- a valid record, all of it bytes
+abbrev pub ValidRecord : List ℕ → Type 0
+ValidRecord s = (valid slots s ≡ true) × Bytes s
+
+-- what C can hand over as a servo sample, but for its power, which the call tests; and as an I/O sample, but for its inputs
+abbrev pub ServoHanded : ℕ → ℕ → Type 0
+ServoHanded raw ad = (raw < 4294967296) × (ad < 256)
+
+abbrev pub IoHanded : ℕ → ℕ → ℕ → ℕ → Type 0
+IoHanded ad1 ad2 ad3 counter = (ad1 < 256) × (ad2 < 256) × (ad3 < 256) × (counter < 4294967296)
+
+-- Setup, unless it is refused, leaves a valid record, whatever was lent; every other call, refused or not, keeps a valid record valid.
+pub record Kept : Type 0 where
+  pub setup : (net types : List ℕ) → Passes (setupTable net types) → ValidRecord (setupRecord net types)
+  pub byte : (net : List ℕ) (mark byte : ℕ) (room : List ℕ) → byte < 256 → ValidRecord net → ValidRecord (byteRecord net mark byte room)
+  pub servoSample : (net : List ℕ) (place raw power ad : ℕ)
+      → ServoHanded raw ad
+      → ValidRecord net
+      → ValidRecord (sampleRecord (servoSampleTable net place power) net place (servoSampleOf raw power ad))
+  pub ioSample : (net : List ℕ) (place inputs ad1 ad2 ad3 counter : ℕ)
+      → IoHanded ad1 ad2 ad3 counter
+      → ValidRecord net
+      → ValidRecord (sampleRecord (ioSampleTable net place inputs) net place (ioSampleOf inputs ad1 ad2 ad3 counter))
+  pub tick : (net : List ℕ) → ValidRecord net → ValidRecord (tickRecord net)
+
+-- After a call that was not refused the record holds the network that the step of the definitions makes of the one that it held.
+pub record Holds : Type 0 where
+  pub setup : (net types : List ℕ) → Passes (setupTable net types) → netIn slots (setupRecord net types) ≡ setUp types
+  pub byte : (net : List ℕ) (mark byte : ℕ) (room : List ℕ)
+      → byte < 256
+      → Bytes net
+      → Passes (byteTable net mark room)
+      → netIn slots (byteRecord net mark byte room) ≡ stepOf net mark byte .net
+  pub servoSample : (net : List ℕ) (place raw power ad : ℕ)
+      → ServoHanded raw ad
+      → Bytes net
+      → Passes (servoSampleTable net place power)
+      → netIn slots (sampleRecord (servoSampleTable net place power) net place (servoSampleOf raw power ad))
+      ≡ sampleStep place (servoSampleOf raw power ad) (netIn slots net)
+  pub ioSample : (net : List ℕ) (place inputs ad1 ad2 ad3 counter : ℕ)
+      → IoHanded ad1 ad2 ad3 counter
+      → Bytes net
+      → Passes (ioSampleTable net place inputs)
+      → netIn slots (sampleRecord (ioSampleTable net place inputs) net place (ioSampleOf inputs ad1 ad2 ad3 counter))
+      ≡ sampleStep place (ioSampleOf inputs ad1 ad2 ad3 counter) (netIn slots net)
+  pub tick : (net : List ℕ) → Bytes net → Passes (tickTable net) → netIn slots (tickRecord net) ≡ tickStep (netIn slots net)
+
+-- To write the network of a valid record into it changes no byte; a sound network that is written into a record comes back from it, and the
+-- record is then valid.
+abbrev pub ThereAndBack : Type 0
+ThereAndBack = There slots × Back slots
+
+-- what the status reader makes of a reply with this status byte, these items asked for and these numbers
+abbrev pub readOf : ℕ → ℕ → List ℕ → Answered
+readOf status items numbers = record { number = 0; reading = record { status = status; numbers = shown items numbers } }
+
+abbrev pub servoRead : Frame → Servo → Answered
+servoRead f m = readOf (ServoAnswers.status m) (itemsFor f (m .station)) (ServoAnswers.numbers m)
+
+abbrev pub ioRead : Frame → Io → Answered
+ioRead f m = readOf (causeBit (m .station .cause)) (itemsFor f (m .station)) (Inout.numbers m)
+
+-- The status reader takes apart whatever a module replies: of the record after the frame, and so on the line, of the record before it.
+pub record StatusRead : Type 0 where
+  pub servoAfter : (f : Frame) (m : Servo)
+      → ServoPromises.Fits m
+      → (ServoAnswers.reply f m ≡ [] → ⊥)
+      → statusOf 0 (itemsFor f (m .station)) (ServoAnswers.reply f m) ≡ servoRead f m
+  pub servoBefore : (f : Frame) (m : Servo)
+      → Bytes (f .content)
+      → ServoPromises.Fits m
+      → (replied ServoAnswers.servo f m ≡ [] → ⊥)
+      → statusOf 0 (itemsFor f (executed ServoAnswers.servo f m .station)) (replied ServoAnswers.servo f m)
+      ≡ servoRead f (executed ServoAnswers.servo f m)
+  pub ioAfter : (f : Frame) (m : Io)
+      → InoutPromises.Fits m
+      → (Inout.reply f m ≡ [] → ⊥)
+      → statusOf 2 (itemsFor f (m .station)) (Inout.reply f m) ≡ ioRead f m
+  pub ioBefore : (f : Frame) (m : Io)
+      → Bytes (f .content)
+      → InoutPromises.Fits m
+      → (replied Inout.inout f m ≡ [] → ⊥)
+      → statusOf 2 (itemsFor f (executed Inout.inout f m .station)) (replied Inout.inout f m) ≡ ioRead f (executed Inout.inout f m)
+
+-- the lines of a slot: a servo's where its first byte is 0, an I/O module's where it is another, which must then be 2
+pub record SlotLines (s : List ℕ) : Type 0 where
+  pub servo : getD s 0 0 ≡ 0 → ServoPromises.Lines s (decodeOf s)
+  pub io : (getD s 0 0 ≡ 0 → ⊥) → InoutPromises.Lines s
+
+-- the list that a valid record satisfies, line by line
+pub record Satisfies (s : List ℕ) : Type 0 where
+  pub size : length s ≡ 4116
+  pub some : 1 ≤ getD s 19 0
+  pub most : getD s 19 0 ≤ 32
+  -- the receiver: idle it is 19 bytes of 0; in a frame there are never more bytes in than the command announces, and the mark is 0 or 1
+  pub idle : getD s 17 0 ≡ 0 → (i : ℕ) → i < 19 → getD s i 0 ≡ 0
+  pub within : getD s 17 0 ≤ 3 + getD s 16 0 / 16
+  pub mark : getD s 18 0 ≤ 1
+  -- each module's slot
+  pub each : (i : ℕ) → i < getD s 19 0 → SlotLines (take 128 (drop (20 + 128 * i) s))
+
+-- A record of bytes is valid exactly when it satisfies the list.
+abbrev pub Listed : Type 0
+Listed = (s : List ℕ) → Bytes s → (valid slots s ≡ true) ↔ Satisfies s
+
+-- A byte call that is not refused writes the replies at the room's start and reports their length; the rest of the room is as it was, and
+-- 19 bytes for each module, so 608, are always enough.
+pub record Written (net : List ℕ) (mark byte : ℕ) (room : List ℕ) : Type 0 where
+  pub reported : Passes (byteTable net mark room) → byteWritten net mark byte room ≡ length (flat (stepOf net mark byte .replies))
+  pub begins : Passes (byteTable net mark room)
+      → take (byteWritten net mark byte room) (byteRoom net mark byte room) ≡ flat (stepOf net mark byte .replies)
+  pub rest : drop (byteWritten net mark byte room) (byteRoom net mark byte room) ≡ drop (byteWritten net mark byte room) room
+  pub long : length (byteRoom net mark byte room) ≡ length room
+  pub short : byteWritten net mark byte room ≤ 19 * length (netIn slots net .modules)
+  pub most : byteWritten net mark byte room ≤ 608
+
+abbrev pub WrittenRoom : Type 0
+WrittenRoom = (net : List ℕ) (mark byte : ℕ) (room : List ℕ) → Written net mark byte room
+
+-- A byte that ends no frame, for which the call gives 0, changes no byte of the record but the receiver's 19, and none of the room.
+abbrev pub NoFrame : Type 0
+NoFrame =
+    (net : List ℕ) (mark byte : ℕ) (room : List ℕ)
+    → Bytes net
+    → byteNumber net mark byte room ≡ 0
+    → (drop 19 (byteRecord net mark byte room) ≡ drop 19 net)
+    × (byteRoom net mark byte room ≡ room)
+    × (byteWritten net mark byte room ≡ 0)

@@ -1,0 +1,95 @@
+-- What is promised of any chain, whatever its module type. Each is proved under its name, with small letters, in proofs/.
+use mathlib.Core.Path.{_≡_}
+use Prim.Native.Nat.{ℕ, suc, _≤_}
+use mathlib.Core.List.{List, [], _∷_, map}
+use mathlib.Core.Bool.{Bool, true, false, cond, _&&_}
+use mathlib.Core.Option.{some, none, Option·map}
+use lib.ListN.{length, getElem?}
+use Rattle.line_receiver.specs.declared.Receiver.{Receiver}
+use Rattle.line_receiver.specs.declared.Answer.the-variants.{Ended}
+use Rattle.line_receiver.specs.Receive.{total, waits, taken}
+use Rattle.line_receiver.specs.Frames.{Byte, Frame, frameIn}
+use Rattle.module_station.specs.declared.Address.{Address}
+use Rattle.module_station.specs.Touch.{named, speaks}
+use Rattle.chain_rules.specs.Chain.{Kind, Net, Reply, flat, join, repliesOf, once, addresses, touched, enabledAt, executed, replied, handed, said, repliesFrom, frameStep, byteStep}
+
+-- After a frame the module at place i is the one that was there, executed exactly if the addresses before the frame say that it is touched.
+abbrev pub TouchedBefore : {M S : Type 0} → Kind M S → Type 0
+TouchedBefore {M} K =
+    (f : Frame) (ms : List M) (i : ℕ)
+    → getElem? (handed K f true ms) i
+    ≡ Option·map (λ (m : M). cond (touched true (f .address) (addresses K ms) i) (executed K f m) m) (getElem? ms i)
+
+-- A module is touched exactly if its place is enabled and it has the frame's address; place 0 is always enabled, another exactly if the
+-- ADDR_OUT of its direct predecessor is low, whatever stands before that one.
+abbrev pub Enabled : Type 0
+Enabled =
+    (a i : ℕ) (ws : List Address) (w : Address)
+    → getElem? ws i ≡ some w
+    → touched true a ws i ≡ (enabledAt ws i && named a w)
+
+-- A module's record after a frame, and what it says, hang on the frame, its own record before it and whether its place is enabled: in two
+-- chains of any lengths, with any neighbours, they are the same.
+abbrev pub OwnRecord : {M S : Type 0} → Kind M S → Type 0
+OwnRecord {M} K =
+    (f : Frame) (ms ns : List M) (i j : ℕ) (m : M)
+    → getElem? ms i ≡ some m
+    → getElem? ns j ≡ some m
+    → enabledAt (addresses K ms) i ≡ enabledAt (addresses K ns) j
+    → (getElem? (handed K f true ms) i ≡ getElem? (handed K f true ns) j)
+    × (getElem? (said K f true ms) i ≡ getElem? (said K f true ns) j)
+
+-- A module that is not touched is unchanged, and says nothing.
+abbrev pub Untouched : {M S : Type 0} → Kind M S → Type 0
+Untouched {M} K =
+    (f : Frame) (ms : List M) (i : ℕ) (m : M)
+    → getElem? ms i ≡ some m
+    → touched true (f .address) (addresses K ms) i ≡ false
+    → (getElem? (handed K f true ms) i ≡ some m) × (getElem? (said K f true ms) i ≡ some [])
+
+-- Whether a touched module replies is judged on its address before the frame; its reply is that of its record after the frame.
+abbrev pub SpeaksBefore : {M S : Type 0} → Kind M S → Type 0
+SpeaksBefore {M} K =
+    ((f : Frame) (m : M) → speaks (f .address) (K .address m) ≡ false → replied K f m ≡ [])
+    × ((f : Frame) (m : M) → speaks (f .address) (K .address m) ≡ true → replied K f m ≡ K .reply f (executed K f m))
+
+-- Place i says its module's reply if it is touched, and nothing if not.
+abbrev pub Says : {M S : Type 0} → Kind M S → Type 0
+Says {M} K =
+    (f : Frame) (ms : List M) (i : ℕ)
+    → getElem? (said K f true ms) i
+    ≡ Option·map (λ (m : M). cond (touched true (f .address) (addresses K ms) i) (replied K f m) []) (getElem? ms i)
+
+-- Among the replies to a frame, those of place i are the one that it says, or none if it says nothing; beyond the chain there are none.
+abbrev pub RepliesAre : {M S : Type 0} → Kind M S → Type 0
+RepliesAre {M} K =
+    ((f : Frame) (ms : List M) (i : ℕ) (m : M)
+    → getElem? ms i ≡ some m
+    → repliesOf i (repliesFrom 0 (said K f true ms))
+    ≡ once (cond (touched true (f .address) (addresses K ms) i) (replied K f m) []))
+    × ((f : Frame) (ms : List M) (i : ℕ) → getElem? ms i ≡ none → repliesOf i (repliesFrom 0 (said K f true ms)) ≡ [])
+
+-- replies in chain order, from place i on: each at a place after those of the replies before it
+abbrev pub Rising : ℕ → List Reply → Type 0
+Rising i [] = Unit {0}
+Rising i (r ∷ rs) = (i ≤ r .place) × Rising (suc (r .place)) rs
+
+-- The replies to a frame come in chain order, no place twice.
+abbrev pub InOrder : {M S : Type 0} → Kind M S → Type 0
+InOrder {M} K = (f : Frame) (ms : List M) → Rising 0 (repliesFrom 0 (said K f true ms))
+
+-- The bytes of the replies, one after another, are what the places say, one after another; they are as many as the replies' lengths together.
+abbrev pub Lengths : Type 0
+Lengths =
+    ((i : ℕ) (ws : List (List ℕ)) → flat (repliesFrom i ws) ≡ join ws)
+    × ((rs : List Reply) → length (flat rs) ≡ total (map (λ (r : Reply). length (r .bytes)) rs))
+
+-- A byte that ends no frame changes the receiver only, gives 0 and draws no reply; one that ends a frame hands that frame along the chain.
+abbrev pub ByteTaken : {M S : Type 0} → Kind M S → Type 0
+ByteTaken {M} K =
+    ((n : Net M) (b : Byte) (r : Receiver)
+    → taken (n .receiver) (b .value) (b .mark) ≡ waits r
+    → byteStep K n b ≡ record { number = 0; net = record { receiver = r; modules = n .modules }; replies = [] })
+    × ((n : Net M) (b : Byte) (r : Receiver) (d : Bool)
+    → taken (n .receiver) (b .value) (b .mark) ≡ record { next = r; answer = Ended d }
+    → byteStep K n b ≡ frameStep K (frameIn (n .receiver) d) r (n .modules))

@@ -1,0 +1,26 @@
+-- A history a byte at a time makes of a network what it makes of it frame by frame. Assumes nothing.
+use mathlib.Core.Path.{_≡_, refl, sym, ap, _∙_}
+use mathlib.Core.List.{List, [], _∷_, _++_, map, append-nil, append-assoc}
+use Rattle.line_receiver.specs.Frames.{Byte}
+use Rattle.chain_rules.specs.Chain.{Kind, Net, Reply, byteStep}
+use Rattle.demands_history_rules.specs.Events.{Event, sent, sampled, ticked, Outcome, after, taking, event, run, singly}
+
+module _ {M S : Type 0} (K : Kind M S) where
+  -- replies in front of replies in front of an outcome
+  after-after : (x y : List Reply) (o : Outcome M) → after (x ++ y) o ≡ after x (after y o)
+  after-after x y o = ap (λ (l : List Reply). record { net = o .net; replies = l }) (append-assoc x y (o .replies))
+
+  -- bytes one by one, before more of a history
+  bytes-singly : (bs : List Byte) (h : List (Event S)) (n : Net M)
+      → run K (map (λ (b : Byte). sent (b ∷ [])) bs ++ h) n ≡ after (taking K bs n .replies) (run K h (taking K bs n .net))
+  bytes-singly [] h n = refl
+  bytes-singly (b ∷ bs) h n =
+      ap (λ (l : List Reply). after l (run K (map (λ (b : Byte). sent (b ∷ [])) bs ++ h) (byteStep K n b .net))) (append-nil (byteStep K n b .replies))
+      ∙ ap (after (byteStep K n b .replies)) (bytes-singly bs h (byteStep K n b .net))
+      ∙ sym (after-after (byteStep K n b .replies) (taking K bs (byteStep K n b .net) .replies) (run K h (taking K bs (byteStep K n b .net) .net)))
+
+  pub run-singly : (h : List (Event S)) (n : Net M) → run K (singly h) n ≡ run K h n
+  run-singly [] n = refl
+  run-singly (sent bs ∷ h) n = bytes-singly bs (singly h) n ∙ ap (after (taking K bs n .replies)) (run-singly h (taking K bs n .net))
+  run-singly (sampled place x ∷ h) n = ap (after []) (run-singly h (event K (sampled place x) n .net))
+  run-singly (ticked ∷ h) n = ap (after []) (run-singly h (event K ticked n .net))

@@ -1,0 +1,264 @@
+-- Not by being dead: a history in two orders, in which a servo and an I/O module execute, store, drive and reply; computed, and by demand 3,
+-- whose hypotheses it meets. Assumes nothing.
+use mathlib.Core.Path.{_≡_, refl, ap, _∙_}
+use Prim.Native.Nat.{ℕ, zero, suc, _<_, _≤_}
+use native.Mathlib.Omega.{arith}
+use mathlib.Core.List.{List, [], _∷_, _++_}
+use mathlib.Core.Bool.{true, false}
+use mathlib.Core.Logic.{inl, inr}
+use lib.Count.{ones}
+use lib.ListN.{length, replicate, length-replicate}
+use Rattle.line_receiver.specs.Receive.{idle, taken}
+use Rattle.line_receiver.specs.Frames.{Byte, Frame, reads, header, clean, written, values}
+use Rattle.line_receiver.proofs.Read.{read}
+use Rattle.module_station.specs.declared.Address.{Address}
+use Rattle.module_station.specs.Commands as Station
+use Rattle.module_station.specs.Report as Report
+use Rattle.chain_rules.specs.Chain.{Net, addresses, byteStep}
+use Rattle.inout_rules.specs.Commands as InoutCommands
+use Rattle.inout_rules.specs.Pins as Pins
+use Rattle.inout_rules.specs.Module as Inout
+use Rattle.servo_filter.specs.Filter as Filter
+use Rattle.servo_parse.specs.Loads as Carried
+use Rattle.servo_parse.specs.Orders as Orders
+use Rattle.servo_rules.specs.Servo as Servo
+use Rattle.servo_rules.specs.Loads as Loads
+use Rattle.servo_rules.specs.Orders as Performed
+use Rattle.servo_rules.specs.Tick as Tick
+use Rattle.servo_rules.specs.Answers as Answers
+use Rattle.types_rules.specs.Types.{Module, AnySample, kind, slots}
+use Rattle.net_rules.specs.Record.{recordSize, netIn}
+use Rattle.net_rules.specs.Calls.{byteOf, setUp}
+use Rattle.api_rules.specs.Calls.{setupRecord}
+use Rattle.api_rules.specs.Promises.{ValidRecord}
+use Rattle.demands_history_rules.specs.Events.{Event, sent, sampled, ticked, run, Reads, Harmless, Ordinary, metBy}
+use Rattle.demands_history_rules.specs.Calls.{leftBy}
+use Rattle.demands_rules.specs.Motion.{fed}
+use Rattle.demands_rules.specs.Order.{MeetsTheSame, Lives, Alive}
+use Rattle.demands_rules.proofs.Calls.{from-setup, any-calls}
+use Rattle.demands_rules.proofs.Order.{keeps-address, order-does-not-matter, order-of-all, by-calls}
+use Rattle.demands_rules.proofs.OnTheLine.{small, fed-handed, fed-two, fed-both}
+
+abbrev History : Type 0
+History = List (Event AnySample)
+
+-- a frame as the host writes it, without marks
+abbrev frame : ℕ → ℕ → List ℕ → Event AnySample
+frame address code ds = sent (clean (written address code ds))
+
+-- after setup the servo gets address 1 and the I/O module 2; the servo has good power, no error bit, output limit 255 and its amplifier on
+abbrev prepared : History
+prepared =
+    frame 0 1 (1 ∷ 0xFF ∷ [])
+    ∷ frame 0 1 (2 ∷ 0xFF ∷ [])
+    ∷ sampled 0 (inl (record { raw = 5; power = 1; ad = 0 }))
+    ∷ ticked
+    ∷ frame 1 11 []
+    ∷ frame 1 6 (0 ∷ 0 ∷ 0 ∷ 0 ∷ 0 ∷ 0 ∷ 0 ∷ 0 ∷ 255 ∷ 0 ∷ 0 ∷ 0 ∷ 1 ∷ 0 ∷ 1 ∷ [])
+    ∷ frame 1 7 (1 ∷ [])
+    ∷ []
+
+unfoldable pub ready : Net Module
+ready = run kind prepared (setUp (0 ∷ 2 ∷ [])) .net
+
+-- for the servo: a load of PWM 100, a Hard Reset of which a byte is marked, a start
+abbrev toServo : History
+toServo = frame 1 4 (0x08 ∷ 100 ∷ []) ∷ sent (header ∷ byteOf 1 true ∷ clean (15 ∷ 16 ∷ [])) ∷ frame 1 5 [] ∷ []
+
+-- for the I/O module: its twelve bits become outputs, 0x234 is put out, a sample
+abbrev toInout : History
+toInout =
+    frame 2 0 (0 ∷ 0 ∷ [])
+    ∷ frame 2 6 (0x34 ∷ 0x02 ∷ [])
+    ∷ sampled 1 (inr (record { inputs = 0; ad1 = 77; ad2 = 0; ad3 = 0; counter = 0 }))
+    ∷ []
+
+-- each is asked: the servo for its position, the I/O module for its bits and the first A/D value
+abbrev askServo : Event AnySample
+askServo = frame 1 3 (1 ∷ [])
+
+abbrev askInout : Event AnySample
+askInout = frame 2 3 (3 ∷ [])
+
+-- two lists, by turns
+abbrev turns : History → History → History
+turns [] h = h
+turns (e ∷ g) [] = e ∷ g
+turns (e ∷ g) (d ∷ h) = e ∷ d ∷ turns g h
+
+-- the servo first and then the I/O module; and by turns, the I/O module first
+abbrev oneByOne : History
+oneByOne = toServo ++ toInout ++ ticked ∷ askServo ∷ askInout ∷ []
+
+abbrev inTurns : History
+inTurns = turns toInout toServo ++ ticked ∷ askInout ∷ askServo ∷ []
+
+-- ---- what they come to
+
+firstAddress : History → ℕ
+firstAddress [] = 0
+firstAddress (sent [] ∷ h) = 0
+firstAddress (sent (a ∷ []) ∷ h) = 0
+firstAddress (sent (a ∷ b ∷ bs) ∷ h) = b .value
+firstAddress (sampled i x ∷ h) = 0
+firstAddress (ticked ∷ h) = 0
+
+-- the addresses of the ready network, computed once
+ws : List Address
+ws =
+    record { individual = 1; group = 255; leader = false; low = true }
+    ∷ record { individual = 2; group = 255; leader = false; low = true }
+    ∷ []
+
+idles : ready .receiver ≡ idle
+unfolding ready taken byteStep
+idles = refl
+
+ready-addresses : addresses kind (ready .modules) ≡ ws
+unfolding ws ready taken byteStep Station.asked InoutCommands.own InoutCommands.request Inout.execute Orders.own Orders.request Performed.execute Tick.ticked Orders.gainRequest Orders.gainsFit Orders.gainsIn Orders.stopRequest ones Orders.haltOf Performed.stopped
+ready-addresses = refl
+
+met-by : (i : ℕ) → metBy ws i oneByOne ≡ metBy ws i inTurns
+unfolding ws reads taken
+met-by zero = refl
+met-by (suc zero) = refl
+met-by (suc (suc i)) = refl
+
+meet-the-same : (i : ℕ) → MeetsTheSame kind ready oneByOne inTurns i
+meet-the-same i = rw ready-addresses (met-by i)
+
+-- each frame is whole, and harmless
+to-servo : Ordinary (toServo ++ askServo ∷ [])
+unfolding reads taken
+to-servo = (
+  (_, refl, inr (λ e. omega arith, λ e. omega arith)),
+  (
+    (_, refl, inl refl),
+    (
+      (_, refl, inr (λ e. omega arith, λ e. omega arith)),
+      ((_, refl, inr (λ e. omega arith, λ e. omega arith)), tt),
+    ),
+  ),
+)
+
+to-inout : Ordinary (toInout ++ askInout ∷ [])
+unfolding reads taken
+to-inout = (
+  (_, refl, inr (λ e. omega arith, λ e. omega arith)),
+  (
+    (_, refl, inr (λ e. omega arith, λ e. omega arith)),
+    ((_, refl, inr (λ e. omega arith, λ e. omega arith)), tt),
+  ),
+)
+
+one-by-one : Ordinary oneByOne
+one-by-one =
+    let (a, (b, (c, (d, t)))) = to-servo in
+    let (x, (y, (z, u))) = to-inout in
+    (a, (b, (c, (x, (y, (d, (z, tt)))))))
+
+in-turns : Ordinary inTurns
+in-turns =
+    let (a, (b, (c, (d, t)))) = to-servo in
+    let (x, (y, (z, u))) = to-inout in
+    (x, (a, (y, (b, (c, (z, (d, tt)))))))
+
+lives : Lives (run kind oneByOne ready) × Lives (run kind inTurns ready)
+unfolding ready taken byteStep Station.asked InoutCommands.own InoutCommands.request Inout.execute Inout.reply Pins.blend Report.report Report.replyOf Orders.own Orders.request Orders.gainRequest Orders.gainsFit Orders.gainsIn Orders.stopRequest Orders.haltOf Orders.loadRequest ones Carried.inRange Carried.carriedIn Loads.loaded Loads.loadOf Loads.wayOf Loads.complete Loads.startable Loads.signedBy Loads.start Servo.idled Performed.stopped Performed.execute Filter.held Tick.putOut Tick.pulsed Tick.ticked Answers.done Answers.status Answers.numbers Answers.reply Answers.outputsOf
+lives = (
+  record { servoDrives = refl; inoutDrives = refl; servoReplied = refl; inoutReplied = refl },
+  record { servoDrives = refl; inoutDrives = refl; servoReplied = refl; inoutReplied = refl },
+)
+
+pub alive : Alive ready oneByOne inTurns
+unfolding firstAddress
+alive = record {
+  first = lives .0;
+  second = lives .1;
+  differ = λ e. let z : _≡_ {A = ℕ} 1 2 = ap firstAddress e in omega arith;
+  idles = idles;
+  ordinary = (one-by-one, in-turns);
+  meetTheSame = meet-the-same;
+  endTheSame = λ i. order-does-not-matter kind keeps-address ready oneByOne inTurns i idles one-by-one in-turns (meet-the-same i);
+  equal = order-of-all kind keeps-address ready oneByOne inTurns idles one-by-one in-turns (λ i h. meet-the-same i) .0;
+}
+
+-- ---- by calls: the modules get their addresses, then each is sent a No Op, in either order
+
+abbrev zeros : List ℕ
+zeros = replicate recordSize 0
+
+abbrev lent : List ℕ
+lent = setupRecord zeros (0 ∷ 2 ∷ [])
+
+abbrev room : List ℕ
+room = replicate 608 0
+
+enough : 608 ≤ length room
+enough = omega (arith, length-replicate {A = ℕ} 608 0)
+
+abbrev noOp : ℕ → List Byte
+noOp address = clean (written address 14 [])
+
+abbrev setFirst : List Byte
+setFirst = clean (written 0 1 (1 ∷ 0xFF ∷ []))
+
+abbrev setSecond : List Byte
+setSecond = clean (written 0 1 (2 ∷ 0xFF ∷ []))
+
+abbrev addressed : List ℕ
+addressed = leftBy (fed room (setFirst ++ setSecond)) lent
+
+valid : ValidRecord lent
+valid = from-setup zeros (0 ∷ 2 ∷ []) refl .0
+
+addressed-valid : ValidRecord addressed
+addressed-valid =
+    any-calls lent (fed room (setFirst ++ setSecond)) valid (fed-handed room (setFirst ++ setSecond) (small (values (setFirst ++ setSecond)) refl)) .valid
+
+-- the network after the two Set Address, computed once
+addressedNet : Net Module
+addressedNet = run kind (sent setFirst ∷ sent setSecond ∷ []) (setUp (0 ∷ 2 ∷ [])) .net
+
+holds-addressed : netIn slots addressed ≡ addressedNet
+unfolding addressedNet
+holds-addressed =
+    fed-both room setFirst setSecond lent enough valid (small (values (setFirst ++ setSecond)) refl)
+    ∙ ap (λ (n : Net Module). run kind (sent setFirst ∷ sent setSecond ∷ []) n .net) (from-setup zeros (0 ∷ 2 ∷ []) refl .1)
+
+addressed-idles : addressedNet .receiver ≡ idle
+unfolding addressedNet taken byteStep
+addressed-idles = refl
+
+addressed-ws : addresses kind (addressedNet .modules) ≡ ws
+unfolding addressedNet ws taken byteStep Station.asked InoutCommands.own InoutCommands.request Inout.execute Orders.own Orders.request Performed.execute
+addressed-ws = refl
+
+abbrev firstThenSecond : History
+firstThenSecond = sent (noOp 1) ∷ sent (noOp 2) ∷ []
+
+abbrev secondThenFirst : History
+secondThenFirst = sent (noOp 2) ∷ sent (noOp 1) ∷ []
+
+no-op : (address : ℕ) → address < 256 → (f : Frame) × Reads (noOp address) f × Harmless f
+no-op address h = (_, read address 14 [] h (omega arith) (omega arith), inr (λ e. omega arith, λ e. omega arith))
+
+same-met : (i : ℕ) → metBy ws i firstThenSecond ≡ metBy ws i secondThenFirst
+unfolding ws reads taken
+same-met zero = refl
+same-met (suc zero) = refl
+same-met (suc (suc i)) = refl
+
+pub called : netIn slots (leftBy (fed room (noOp 1 ++ noOp 2)) addressed) ≡ netIn slots (leftBy (fed room (noOp 2 ++ noOp 1)) addressed)
+called =
+    by-calls addressed (fed room (noOp 1 ++ noOp 2)) (fed room (noOp 2 ++ noOp 1)) firstThenSecond secondThenFirst
+    addressed-valid
+    (fed-handed room (noOp 1 ++ noOp 2) (small (values (noOp 1 ++ noOp 2)) refl))
+    (fed-handed room (noOp 2 ++ noOp 1) (small (values (noOp 2 ++ noOp 1)) refl))
+    (ap (λ (n : Net Module). n .receiver) holds-addressed ∙ addressed-idles)
+    (no-op 1 (omega arith), (no-op 2 (omega arith), tt))
+    (no-op 2 (omega arith), (no-op 1 (omega arith), tt))
+    (fed-two room (noOp 1) (noOp 2) addressed enough addressed-valid (small (values (noOp 1 ++ noOp 2)) refl))
+    (fed-two room (noOp 2) (noOp 1) addressed enough addressed-valid (small (values (noOp 2 ++ noOp 1)) refl))
+    (λ i h. rw (holds-addressed, addressed-ws) (same-met i))
+    .0

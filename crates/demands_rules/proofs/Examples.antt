@@ -1,0 +1,254 @@
+-- Beside the theorems of demands 1 and 2: servos, frames, calls and records that meet what they ask for, computed. Assumes nothing.
+use mathlib.Core.Path.{_≡_, refl, sym, ap, ap₂, _∙_}
+use mathlib.Core.Logic.{inl, inr}
+use mathlib.Core.List.{List, [], _∷_, _++_, map, map-append, append-nil}
+use mathlib.Core.Bool.{true, false}
+use mathlib.Core.Option.{some}
+use Prim.Native.Nat.{ℕ, _+_, _≤_}
+use native.Mathlib.Omega.{arith}
+use lib.Count.{ones}
+use lib.ListN.{length, replicate, length-replicate, getElem?}
+use lib.IntN.{ℤ, pos, natAbs}
+use Rattle.base_integers.specs.Whole.{same, signed, difference}
+use Rattle.line_receiver.specs.Receive.{idle, taken}
+use Rattle.line_receiver.specs.Frames.{Byte, Frame, reads, clean, written, values}
+use Rattle.module_station.specs.Commands.{asked}
+use Rattle.chain_rules.specs.Chain.{Net, addresses, touched, byteStep}
+use Rattle.servo_motion.specs.Trapezoid.{terms, stop, pick, greatest, nextSpeed}
+use Rattle.servo_motion.specs.Setpoint.{distance, moved}
+use Rattle.servo_motion.specs.Velocity.{toward}
+use Rattle.servo_motion.specs.Profile.{trapezoid, stepped, byTrapezoid, byVelocity}
+use Rattle.servo_filter.specs.Filter.{filtered}
+use Rattle.servo_parse.specs.Loads.{needed, carriedIn, inRange}
+use Rattle.servo_parse.specs.Orders.{loadRequest, haltOf, stopRequest, own, request}
+use Rattle.servo_rules.specs.declared.Mode.the-variants.{Velocity, Trapezoid}
+use Rattle.servo_rules.specs.declared.Servo.{Servo}
+use Rattle.servo_rules.specs.Servo.{started, sampled, idled}
+use Rattle.servo_rules.specs.Loads.{wayOf, loadOf, ratesOf, loaded, beginning, movable, complete, startable, signedBy, toSpeed, toPlace, start}
+use Rattle.servo_rules.specs.Orders.{holding, stopped, withCause, execute}
+use Rattle.servo_rules.specs.Tick.{advanced, servoed, ticked}
+use Rattle.servo_rules.specs.RestPromises.{following}
+use Rattle.servo_slot_rules.specs.Promises.{Fits}
+use Rattle.servo_slot_rules.proofs.Within.{kept}
+use Rattle.types_rules.specs.Types.{Module, AnySample, kind, slots}
+use Rattle.net_rules.specs.Record.{recordSize, netIn}
+use Rattle.net_rules.specs.Calls.{setUp, ofType}
+use Rattle.host_status.specs.Writing.{writtenOf}
+use Rattle.api_rules.specs.Table.{setupTable}
+use Rattle.api_rules.specs.Calls.{setupRecord, servoSampleOf}
+use Rattle.api_rules.specs.Promises.{Passes, Refuses, ValidRecord}
+use Rattle.demands_history_rules.specs.Events.{Event, sent, run, singly, Reads}
+use Rattle.demands_history_rules.specs.Events as Events
+use Rattle.demands_history_rules.specs.Calls.{Call, byte, servoSample, tick, AllHanded, refusals, leaves, leftBy, doneBy}
+use Rattle.demands_history_rules.proofs.Singly.{run-singly}
+use Rattle.demands_history_rules.proofs.Calls.{call-kept}
+use Rattle.demands_rules.specs.Motion.{Moves, AtRest, Begins, moving, bound, put, Starts, At, StartedBy, Missed, short, NoneReady, IsStart, fed}
+use Rattle.demands_rules.proofs.Calls.{from-setup, any-calls, done-passed}
+use Rattle.demands_rules.proofs.Motion.{resting-rests, frame-starts}
+use Rattle.demands_rules.proofs.EveryCall.{every-call, never}
+use Rattle.demands_rules.proofs.OnTheLine.{small, fed-handed, fed-done, question-on-the-line}
+
+-- ---- a servo and frames for it
+
+abbrev undamaged : ℕ → List ℕ → Frame
+undamaged code ds = record { address = 0; code = code; content = ds; damaged = false }
+
+-- a servo that has seen power 1 and a Clear Bits: it could start, if a load waited
+abbrev lit : Servo
+lit = ticked (sampled (record { raw = 0; power = 1; ad = 0 }) started)
+
+abbrev awake : Servo
+awake = execute (undamaged 11 []) true lit
+
+-- a Load of PWM 100, and one that starts now; a Load, start now, of velocity 100 and acceleration 100; one of position 1,000, and the same
+-- without its last four bytes; Start; Stop Here at 100
+abbrev pulse : Frame
+pulse = undamaged 4 (0x08 ∷ 100 ∷ [])
+
+abbrev pulseNow : Frame
+pulseNow = undamaged 4 (0x88 ∷ 100 ∷ [])
+
+abbrev speed : Frame
+speed = undamaged 4 (0xB6 ∷ 100 ∷ 0 ∷ 0 ∷ 0 ∷ 100 ∷ 0 ∷ 0 ∷ 0 ∷ [])
+
+abbrev move : Frame
+move = undamaged 4 (0x17 ∷ 0xE8 ∷ 3 ∷ 0 ∷ 0 ∷ 100 ∷ 0 ∷ 0 ∷ 0 ∷ 100 ∷ 0 ∷ 0 ∷ 0 ∷ [])
+
+abbrev cut : Frame
+cut = undamaged 4 (0x17 ∷ 0xE8 ∷ 3 ∷ 0 ∷ 0 ∷ 100 ∷ 0 ∷ 0 ∷ 0 ∷ [])
+
+abbrev go : Frame
+go = undamaged 5 []
+
+abbrev here : Frame
+here = undamaged 7 (16 ∷ 100 ∷ 0 ∷ 0 ∷ 0 ∷ [])
+
+-- no speed and no PWM value
+still : (m : Servo) → m .profile .speed ≡ pos 0 → m .drive .pulse ≡ pos 0 → Moves m → ⊥
+still m e q (inl n) = n e
+still m e q (inr n) = n q
+
+some-number : (n : ℕ) (z : ℤ) → z ≡ pos (n + 1) → z ≡ pos 0 → ⊥
+some-number n z e q = let h : n + 1 ≡ 0 = ap natAbs (sym e ∙ q) in omega arith
+
+awake-fits : Fits awake
+awake-fits =
+    kept .frame (undamaged 11 []) true _ (λ i. omega arith)
+    (kept .tick _ (kept .sampling _ _ (omega arith, ((omega arith, omega arith), omega arith)) (kept .power)))
+
+rests : AtRest awake
+unfolding execute request asked own ticked distance difference signed
+rests = resting-rests awake (record { speed = refl; pulse = refl; aim = λ e. refl; goal = λ e. refl })
+
+-- each of the three begins motion
+pub by-start : Begins (execute pulse true awake) (execute go true (execute pulse true awake))
+unfolding execute request asked own ticked loadRequest carriedIn inRange loaded loadOf ratesOf wayOf startable complete start idled signedBy ones
+by-start = moving (still (execute pulse true awake) refl refl) (inr (some-number 99 _ refl))
+
+pub by-load : Begins awake (execute speed true awake)
+unfolding execute request asked own ticked loadRequest carriedIn inRange loaded loadOf ratesOf wayOf startable complete start beginning toSpeed signedBy ones
+by-load = bound (rests .1) (inl (refl, some-number 99 _ refl))
+
+pub by-stop-here : Begins awake (execute here true awake)
+unfolding execute request asked own ticked stopRequest haltOf stopped holding difference signed ones
+by-stop-here =
+    let e : following (execute here true awake) ≡ pos 100 = refl in
+    put (some-number 99 _ e) (some-number 99 _ e)
+
+pub starts : Starts speed true awake
+starts = frame-starts speed true awake awake-fits by-load
+
+-- the speed laws of both modes speak of ticks that there are
+pub climbs : (execute speed true awake .drive .mode ≡ Velocity) × (ticked (execute speed true awake) .drive .mode ≡ Velocity) × Moves (ticked (execute speed true awake))
+unfolding execute request asked own ticked loadRequest carriedIn inRange loaded loadOf ratesOf wayOf startable complete start beginning toSpeed signedBy ones servoed advanced byVelocity stepped moved toward difference signed filtered
+climbs = (refl, refl, inl (some-number 99 _ refl))
+
+pub travels : (execute go true (execute move true awake) .drive .mode ≡ Trapezoid) × (ticked (execute go true (execute move true awake)) .drive .mode ≡ Trapezoid)
+unfolding execute request asked own ticked loadRequest carriedIn inRange loaded loadOf ratesOf wayOf startable complete movable same start beginning toPlace distance difference signed ones servoed advanced byTrapezoid trapezoid stepped moved filtered terms stop pick greatest nextSpeed
+travels = (refl, refl)
+
+-- ---- a record of one servo
+
+abbrev zeros : List ℕ
+zeros = replicate recordSize 0
+
+abbrev lent : List ℕ
+lent = setupRecord zeros (0 ∷ [])
+
+abbrev room : List ℕ
+room = replicate 608 0
+
+pub set-up : Passes (setupTable zeros (0 ∷ []))
+set-up = refl
+
+pub valid : ValidRecord lent
+valid = from-setup zeros (0 ∷ []) set-up .0
+
+held : netIn slots lent ≡ setUp (0 ∷ [])
+held = from-setup zeros (0 ∷ []) set-up .1
+
+enough : 608 ≤ length room
+enough = omega (arith, length-replicate {A = ℕ} 608 0)
+
+at-power-up : At lent 0 started
+at-power-up = ap (λ (n : Net Module). getElem? (n .modules) 0) held
+
+-- a byte with mark 2 is refused
+pub refuses : Refuses (refusals lent (byte 2 0 room))
+refuses e = let z : _≡_ {A = ℕ} 14 0 = sym (rw (valid .0) refl) ∙ e in omega arith
+
+-- ---- the mill's question: the short load and the Start
+
+not-thirteen : 9 ≡ needed 23 → ⊥
+unfolding ones
+not-thirteen e = let z : _≡_ {A = ℕ} 9 13 = e in omega arith
+
+abbrev cutBytes : List Byte
+cutBytes = clean (written 0 4 (cut .content))
+
+abbrev goBytes : List Byte
+goBytes = clean (written 0 5 [])
+
+cut-reads : Reads cutBytes cut
+unfolding reads taken
+cut-reads = refl
+
+go-reads : Reads goBytes go
+unfolding reads taken
+go-reads = refl
+
+pub carriage-stays : At (leftBy (fed room (cutBytes ++ goBytes)) lent) 0 (withCause 3 started)
+carriage-stays =
+    question-on-the-line lent room 0 started cutBytes goBytes cut go valid enough (small (values (cutBytes ++ goBytes)) refl)
+    (ap (λ (n : Net Module). n .receiver) held)
+    at-power-up
+    (inl refl)
+    cut-reads
+    refl
+    (short refl not-thirteen)
+    go-reads
+    (refl, refl, refl)
+    (ap (λ (n : Net Module). touched true 0 (addresses kind (n .modules)) 0) held)
+
+-- ---- a history of calls that ends in motion: a sample of good power, a tick, the bytes of Clear Bits and of a Load of PWM that starts now
+
+abbrev orders : List Byte
+orders = clean (written 0 11 [] ++ written 0 4 (pulseNow .content))
+
+abbrev calls : List Call
+calls = servoSample 0 0 1 0 ∷ tick ∷ fed room orders
+
+abbrev happens : List (Event AnySample)
+happens = Events.sampled 0 (servoSampleOf 0 1 0) ∷ Events.ticked ∷ sent orders ∷ []
+
+abbrev gone : Servo
+gone = execute pulseNow true awake
+
+are-handed : AllHanded calls
+are-handed = ((omega arith, omega arith), (tt, fed-handed room orders (small (values orders) refl)))
+
+abbrev sampledLent : List ℕ
+sampledLent = leaves lent (servoSample 0 0 1 0)
+
+sampled-valid : ValidRecord sampledLent
+sampled-valid = call-kept lent (servoSample 0 0 1 0) (omega arith, omega arith) valid
+
+ticked-valid : ValidRecord (leaves sampledLent tick)
+ticked-valid = call-kept sampledLent tick tt sampled-valid
+
+all-done : doneBy calls lent ≡ singly happens
+all-done =
+    done-passed (servoSample 0 0 1 0) (tick ∷ fed room orders) lent (rw (valid .0, held) refl)
+    ∙ ap (λ (l : List (Event AnySample)). Events.sampled 0 (servoSampleOf 0 1 0) ∷ l)
+    (done-passed tick (fed room orders) sampledLent (rw (sampled-valid .0) refl)
+    ∙ ap (λ (l : List (Event AnySample)). Events.ticked ∷ l)
+    (fed-done room orders (leaves sampledLent tick) enough ticked-valid (small (values orders) refl) ∙ sym (append-nil _)))
+
+goes : getElem? (run kind happens (setUp (0 ∷ [])) .net .modules) 0 ≡ some (inl gone)
+unfolding taken byteStep execute request asked own ticked
+goes = refl
+
+pub ends-moving : At (leftBy calls lent) 0 gone
+ends-moving =
+    ap (λ (n : Net Module). getElem? (n .modules) 0)
+    (any-calls lent calls valid are-handed .network
+    ∙ ap (λ (l : List (Event AnySample)). run kind l (netIn slots lent) .net) all-done
+    ∙ ap (λ (o : Events.Outcome Module). o .net) (run-singly kind happens (netIn slots lent))
+    ∙ ap (λ (n : Net Module). run kind happens n .net) held)
+    ∙ goes
+
+gone-moves : Moves gone
+unfolding execute request asked own ticked loadRequest carriedIn inRange loaded loadOf ratesOf wayOf startable complete start idled signedBy ones
+gone-moves = inr (some-number 99 _ refl)
+
+started-rests : AtRest started
+started-rests = every-call .setup zeros (0 ∷ []) 0 started set-up at-power-up
+
+pub was-started : StartedBy calls lent 0
+was-started = never lent calls 0 started gone valid are-handed at-power-up ends-moving started-rests (λ r. r .0 gone-moves)
+
+-- ---- a frame that the host can write
+
+pub is-written : writtenOf 0 4 (cut .content) room .number ≡ 0
+unfolding writtenOf
+is-written = refl

@@ -1,0 +1,176 @@
+-- Demand 2: what was proved of the line, the motion and the filter, at the servos of a network. Assumes nothing.
+use mathlib.Core.Path.{_≡_, refl, sym, ap, subst, _∙_}
+use mathlib.Core.Logic.{_⊎_, inl, inr}
+use mathlib.Core.List.{List}
+use mathlib.Core.Bool.{Bool, true, false}
+use Prim.Native.Nat.{ℕ, zero, suc, _<_, _≤_}
+use native.Mathlib.Omega.{arith}
+use borrow.Author.Tests.{eqb-true, eqb-false, leb-true, leb-false}
+use lib.Dec.{eqb, leb}
+use lib.IntN.{ℤ, pos, negsuc, negℤ, natAbs}
+use Rattle.base_layout.proofs.Laws.{ofLe-le, le-ofLe}
+use Rattle.line_receiver.proofs.Marked.{marked}
+use Rattle.line_receiver.proofs.Only.{only}
+use Rattle.line_receiver.proofs.Nulls.{nulls}
+use Rattle.servo_motion.specs.declared.Profile.{Profile}
+use Rattle.servo_motion.specs.Trapezoid.{nextSpeed}
+use Rattle.servo_motion.specs.Profile.{left, trapezoid, stepped, byTrapezoid, byVelocity}
+use Rattle.servo_motion.specs.Promises.{Asked, Running, Toward}
+use Rattle.servo_motion.proofs.Speeds.{next}
+use Rattle.servo_motion.proofs.Runs.{runs}
+use Rattle.servo_motion.proofs.Velocity.{velocity}
+use Rattle.servo_filter.specs.Filter.{held}
+use Rattle.servo_filter.proofs.Held.{held-most}
+use Rattle.servo_filter.proofs.Sizes.{largest, reached}
+use Rattle.servo_rules.specs.declared.Mode.{Mode}
+use Rattle.servo_rules.specs.declared.Mode.the-variants.{Off, Pwm, Hold, Velocity, Trapezoid}
+use Rattle.servo_rules.specs.declared.Servo.{Servo}
+use Rattle.servo_rules.specs.Servo.{servoOff, idled, off}
+use Rattle.servo_rules.specs.Tick.{latch, unpowered, advancedBy, advanced, tripped, pulsed, ticked}
+use Rattle.servo_rules.specs.StopPromises.{Released}
+use Rattle.servo_rules.specs.TickPromises.{Ticking, followed}
+use Rattle.servo_rules.proofs.Keeping.{distinct}
+use Rattle.servo_rules.proofs.Ends.{ends}
+use Rattle.servo_rules.proofs.Ticking.{ticks}
+use Rattle.servo_slot_rules.specs.Promises.{Fits}
+use Rattle.servo_slot_rules.proofs.Good.{InMode, good}
+use Rattle.host_status.proofs.Sent.{sent}
+use Rattle.api_rules.proofs.Status.{status-read}
+use Rattle.types_rules.specs.Types.{kind}
+use Rattle.demands_history_rules.proofs.Events.{whole-event}
+use Rattle.demands_rules.specs.Meaning.{ReadBack, Speeds, Meaning}
+
+pub read-back : ReadBack
+read-back n address code ds room z e = whole-event kind n z _ _ (sent address code ds room e)
+
+-- ---- speeds
+
+-- a trapezoid's speed without its sign, in either direction
+size-of-speed : (a top : ℕ) (d v : ℤ) → natAbs (trapezoid a top d v) ≡ nextSpeed a top (natAbs d) (natAbs v)
+unfolding trapezoid
+size-of-speed a top (pos d) v = refl
+size-of-speed a top (negsuc d) v = unsigned (nextSpeed a top (suc d) (natAbs v))
+  where
+    unsigned : (n : ℕ) → natAbs (negℤ (pos n)) ≡ n
+    unsigned zero = refl
+    unsigned (suc n) = refl
+
+module _ (m : Servo) (t : Fits m) where
+  abbrev p : Profile
+  p = m .profile
+
+  -- the profile's own step, by the mode
+  toward-goal : m .drive .mode ≡ Velocity → Toward (p .acceleration) (p .aim) (p .speed) (advanced (latch m) .speed)
+  unfolding advanced byVelocity stepped
+  toward-goal e =
+      subst (λ (k : Mode). Toward (p .acceleration) (p .aim) (p .speed) (advancedBy k p .speed)) (sym e)
+      (velocity (p .acceleration) (p .aim) (p .speed))
+
+  greatest-speed : m .drive .mode ≡ Trapezoid
+      → Asked (p .acceleration) (p .top) (natAbs (left p)) (natAbs (p .speed)) (natAbs (advanced (latch m) .speed)) × Running (advanced (latch m))
+  unfolding advanced byTrapezoid stepped
+  greatest-speed e =
+      let s = good m t .sane in
+      let r : Running p = subst (λ (k : Mode). InMode k (m .latched .power) p (m .memory) (m .drive)) e (s .mode) .2 in
+      let a = next (p .acceleration) (p .top) (natAbs (left p)) (natAbs (p .speed)) (r .stops) in
+      let w = sym (size-of-speed (p .acceleration) (p .top) (left p) (p .speed)) in
+      subst (λ (k : Mode). Asked (p .acceleration) (p .top) (natAbs (left p)) (natAbs (p .speed)) (natAbs (advancedBy k p .speed)) × Running (advancedBy k p))
+      (sym e)
+      (subst (Asked (p .acceleration) (p .top) (natAbs (left p)) (natAbs (p .speed))) w a, runs p (s .profile) r)
+
+  abbrev After : Servo → Type 0
+  After k =
+      (m .drive .mode ≡ Velocity → k .drive .mode ≡ Velocity → Toward (p .acceleration) (p .aim) (p .speed) (k .profile .speed))
+      × (m .drive .mode ≡ Trapezoid → k .drive .mode ≡ Trapezoid
+      → Asked (p .acceleration) (p .top) (natAbs (left p)) (natAbs (p .speed)) (natAbs (k .profile .speed)) × Running (k .profile))
+      × ((m .drive .mode ≡ Off → ⊥) → k .drive .mode ≡ Off → Released k)
+
+  -- an end in off
+  after-off : (k : Servo) → Released k → After k
+  after-off k r = (
+    λ e q. absurd (distinct Off Velocity refl (sym (r .mode) ∙ q)),
+    λ e q. absurd (distinct Off Trapezoid refl (sym (r .mode) ∙ q)),
+    λ n q. r,
+  )
+
+  speeds : Speeds m p (ticked m .profile)
+  unfolding unpowered pulsed tripped idled off
+  speeds =
+      let a : After (ticked m) = ends After m (record {
+        low = λ q. after-off (unpowered (latch m)) (record { mode = refl; speed = refl; output = refl; pulse = refl; memory = refl });
+        off = λ q. (
+          λ e z. absurd (distinct Off Velocity refl (sym q ∙ e)),
+          λ e z. absurd (distinct Off Trapezoid refl (sym q ∙ e)),
+          λ n z. absurd (n q),
+        );
+        pwm = λ q. (
+          λ e z. absurd (distinct Pwm Velocity refl (sym q ∙ e)),
+          λ e z. absurd (distinct Pwm Trapezoid refl (sym q ∙ e)),
+          λ n z. absurd (n z),
+        );
+        output = λ s y u. (λ e z. toward-goal e, λ e z. greatest-speed e, λ n z. absurd (n z));
+        trip = λ q. after-off (tripped (advanced (latch m)) (latch m)) (record { mode = refl; speed = refl; output = refl; pulse = refl; memory = refl });
+      }) in
+      record { velocity = a .0; trapezoid = a .1; off = a .2 }
+
+  -- ---- outputs
+
+  Most : ℤ → Type 0
+  Most z = natAbs z ≤ m .tuning .gains .ol
+
+  none-most : (z : ℤ) → z ≡ pos 0 → Most z
+  unfolding Most
+  none-most z e = omega (arith, ap natAbs e)
+
+  served : Ticking m → (m .waiting .power ≡ 1) → servoOff (m .drive .mode) ≡ false → Most (ticked m .drive .output)
+  unfolding Most
+  served k w s = at (leb (natAbs (followed m)) (m .tuning .gains .el)) refl
+    where
+      lit : m .waiting .power ≡ 0 → ⊥
+      lit z = omega arith
+
+      at : (b : Bool) → leb (natAbs (followed m)) (m .tuning .gains .el) ≡ b → natAbs (ticked m .drive .output) ≤ m .tuning .gains .ol
+      at true e =
+          let q = k .runs lit s (leb-true _ _ e) .4 w in
+          subst (λ (z : ℤ). natAbs z ≤ m .tuning .gains .ol) (sym q) (held-most (m .tuning .gains .ol) _)
+      at false e = none-most _ (k .trip lit s (leb-false _ _ e) .0 .output)
+
+  output-most : natAbs (ticked m .drive .output) ≤ m .tuning .gains .ol
+  unfolding Most
+  output-most = by (eqb (m .waiting .power) 1) refl
+    where
+      k : Ticking m
+      k = ticks m
+
+      silent : m .drive .mode ≡ Off → m .drive .output ≡ pos 0
+      silent e = subst (λ (k : Mode). InMode k (m .latched .power) p (m .memory) (m .drive)) e (good m t .sane .mode) .1
+
+      lit : m .waiting .power ≡ 1 → m .waiting .power ≡ 0 → ⊥
+      lit w z = omega arith
+
+      mode : m .waiting .power ≡ 1 → (j : Mode) → m .drive .mode ≡ j → natAbs (ticked m .drive .output) ≤ m .tuning .gains .ol
+      mode w Off e = none-most _ (ap (λ (n : Servo). n .drive .output) (k .off (lit w) e) ∙ silent e)
+      mode w Pwm e =
+          subst (λ (z : ℤ). natAbs z ≤ m .tuning .gains .ol) (sym (k .pulse (lit w) e .4 w)) (held-most (m .tuning .gains .ol) (m .drive .pulse))
+      mode w Hold e = served k w (ap servoOff e)
+      mode w Velocity e = served k w (ap servoOff e)
+      mode w Trapezoid e = served k w (ap servoOff e)
+
+      by : (b : Bool) → eqb (m .waiting .power) 1 ≡ b → natAbs (ticked m .drive .output) ≤ m .tuning .gains .ol
+      by true w = mode (eqb-true _ _ w) (m .drive .mode) refl
+      by false w = none-most _ (k .unpowered (eqb-false _ _ w) silent)
+
+pub meaning : Meaning
+meaning = record {
+  readBack = read-back;
+  onlyWritten = only;
+  marked = marked;
+  nulls = nulls;
+  statusRead = status-read;
+  speeds = speeds;
+  output = output-most;
+  largest = largest;
+  reached = reached;
+  bytes = ofLe-le;
+  numbers = le-ofLe;
+}

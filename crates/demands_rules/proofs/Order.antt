@@ -1,0 +1,178 @@
+-- Order does not matter, for any chain and for this product's. Assumes nothing.
+use mathlib.Core.Path.{_≡_, refl, sym, ap, ap₂, _∙_}
+use mathlib.Core.List.{List, [], _∷_, map}
+use mathlib.Core.Bool.{Bool, true, false, cond, _&&_}
+use mathlib.Core.Option.{Option, some, none, Option·map}
+use mathlib.Core.Logic.{_⊎_, inl, inr}
+use Prim.Native.Nat.{ℕ, zero, suc, _<_}
+use native.Mathlib.Omega.{arith}
+use lib.ListN.{length, getElem?}
+use Rattle.line_receiver.specs.declared.Receiver.{Receiver}
+use Rattle.line_receiver.specs.Receive.{idle}
+use Rattle.line_receiver.specs.Frames.{Frame}
+use Rattle.module_station.specs.declared.Address.{Address}
+use Rattle.module_station.specs.Touch.{named}
+use Rattle.chain_rules.specs.Chain.{Kind, Net, repliesOf, addresses, executed, handed}
+use Rattle.chain_rules.specs.Either.{either}
+use Rattle.net_rules.specs.Walk.{changed}
+use Rattle.inout_rules.specs.Module as Inout
+use Rattle.inout_rules.proofs.Address as InoutAddress
+use Rattle.servo_rules.specs.Answers as Servo
+use Rattle.servo_rules.proofs.Address as ServoAddress
+use Rattle.types_rules.specs.Types.{Module, AnySample, kind, slots}
+use Rattle.net_rules.specs.Record.{netIn}
+use Rattle.demands_history_rules.specs.Events.{Event, sent, sampled, ticked, Outcome, event, run, Harmless, Ordinary, singly, metBy, metInTurn, alone, aloneReplies}
+use Rattle.demands_history_rules.specs.Calls.{Call, doneBy}
+use Rattle.demands_rules.specs.Order.{EachAlone, MeetsTheSame, EndsTheSame, KeepsAddress, OrderDoesNotMatter, OrderOfAll, OfAnyKind, Product, ByCalls}
+use Rattle.demands_history_rules.proofs.Events.{fromSome, whole-event, event-idle}
+use Rattle.demands_history_rules.proofs.Alone.{first-whole, later-frames, alone-at}
+use Rattle.demands_history_rules.proofs.Singly.{run-singly}
+use Rattle.demands_rules.proofs.Calls.{any-calls}
+
+same-places : {M : Type 0} (a b : List M) → ((i : ℕ) → getElem? a i ≡ getElem? b i) → a ≡ b
+same-places [] [] h = refl
+same-places [] (y ∷ b) h = let n = h 0 in cc
+same-places (x ∷ a) [] h = let n = h 0 in cc
+same-places (x ∷ a) (y ∷ b) h = let n = h 0 in let r = same-places a b (λ i. h (suc i)) in cc
+
+place-below : {M : Type 0} (ms : List M) (i : ℕ) (m : M) → getElem? ms i ≡ some m → i < length ms
+place-below [] i m e = let z : none ≡ some m = e in let y : _≡_ {A = ℕ} 0 1 = cc in absurd (omega arith)
+place-below (x ∷ ms) zero m e = omega arith
+place-below (x ∷ ms) (suc i) m e = let h = place-below ms i m e in omega arith
+
+pub each-alone : {M S : Type 0} (K : Kind M S) → EachAlone K
+each-alone K n h i m z w e = let a = alone-at K (λ f. Unit {0}) h n i z w in (rw e at (a .0), rw e at (a .1))
+
+module _ {M S : Type 0} (K : Kind M S) (keeps : KeepsAddress K) where
+  -- the addresses after a harmless frame, a sample, a tick
+  pub kept-handed : (f : Frame) (t : Bool) (ms : List M) → Harmless f → addresses K (handed K f t ms) ≡ addresses K ms
+  kept-handed f t [] p = refl
+  kept-handed f t (m ∷ ms) p =
+      ap₂ (λ (w : Address) (ws : List Address). w ∷ ws) (one (t && named (f .address) (K .address m))) (kept-handed f (K .address m .low) ms p)
+    where
+      one : (t : Bool) → K .address (cond t (executed K f m) m) ≡ K .address m
+      one true = keeps .execute f _ m p
+      one false = refl
+
+  kept-changed : (x : S) (i : ℕ) (ms : List M) → addresses K (changed (K .sample x) i ms) ≡ addresses K ms
+  kept-changed x i [] = refl
+  kept-changed x zero (m ∷ ms) = rw (keeps .sample x m)
+  kept-changed x (suc i) (m ∷ ms) = rw (kept-changed x i ms)
+
+  kept-ticked : (ms : List M) → addresses K (map (K .tick) ms) ≡ addresses K ms
+  kept-ticked [] = refl
+  kept-ticked (m ∷ ms) = rw (keeps .tick m, kept-ticked ms)
+
+  kept-event : (e : Event S) (h : List (Event S)) (n : Net M) → n .receiver ≡ idle → Ordinary (e ∷ h)
+      → addresses K (event K e n .net .modules) ≡ addresses K (n .modules)
+  kept-event (sent bs) h n z o =
+      ap (λ (x : Outcome M). addresses K (x .net .modules)) (whole-event K n z bs (o .0 .0) (o .0 .1)) ∙ kept-handed (o .0 .0) true (n .modules) (o .0 .2)
+  kept-event (sampled i x) h n z o = kept-changed x i (n .modules)
+  kept-event ticked h n z o = kept-ticked (n .modules)
+
+  -- what is met in turn is what is met by the addresses at the start
+  met-at-start : (h : List (Event S)) (n : Net M) (i : ℕ) → n .receiver ≡ idle → Ordinary h → metInTurn K i h n ≡ metBy (addresses K (n .modules)) i h
+  met-at-start [] n i z o = refl
+  met-at-start (e ∷ h) n i z o =
+      let ih = met-at-start h (event K e n .net) i (event-idle K n z e (first-whole Harmless e h o)) (later-frames Harmless e h o) in
+      let s = kept-event e h n z o in
+      rw (ih, s)
+
+  pub order-does-not-matter : OrderDoesNotMatter K
+  order-does-not-matter n h₁ h₂ i z o₁ o₂ e =
+      let a = alone-at K Harmless h₁ n i z o₁ in
+      let b = alone-at K Harmless h₂ n i z o₂ in
+      let same : metInTurn K i h₁ n ≡ metInTurn K i h₂ n = met-at-start h₁ n i z o₁ ∙ e ∙ sym (met-at-start h₂ n i z o₂) in
+      let x : Option M = getElem? (n .modules) i in
+      record {
+        sameRecord = a .0 ∙ ap (λ (l : List (Event S)). Option·map (λ (m : M). alone K m l) x) same ∙ sym (b .0);
+        sameReplies = a .1 ∙ ap (λ (l : List (Event S)). fromSome (λ (m : M). aloneReplies K m l) x) same ∙ sym (b .1);
+      }
+
+  run-idle : (h : List (Event S)) (n : Net M) → n .receiver ≡ idle → Ordinary h → run K h n .net .receiver ≡ idle
+  run-idle [] n z o = z
+  run-idle (e ∷ h) n z o = run-idle h (event K e n .net) (event-idle K n z e (first-whole Harmless e h o)) (later-frames Harmless e h o)
+
+  -- a place with a module is below the chain's length, and one without stays without
+  everywhere : (n : Net M) (h₁ h₂ : List (Event S)) → n .receiver ≡ idle → Ordinary h₁ → Ordinary h₂
+      → ((i : ℕ) → i < length (n .modules) → MeetsTheSame K n h₁ h₂ i)
+      → (i : ℕ) → EndsTheSame (run K h₁ n) (run K h₂ n) i
+  everywhere n h₁ h₂ z o₁ o₂ e i = go (getElem? (n .modules) i) refl
+    where
+      go : (x : Option M) → getElem? (n .modules) i ≡ x → EndsTheSame (run K h₁ n) (run K h₂ n) i
+      go none p =
+          let a = alone-at K Harmless h₁ n i z o₁ in
+          let b = alone-at K Harmless h₂ n i z o₂ in
+          record { sameRecord = a .0 ∙ rw p refl ∙ sym (b .0); sameReplies = a .1 ∙ rw p refl ∙ sym (b .1) }
+      go (some m) p = order-does-not-matter n h₁ h₂ i z o₁ o₂ (e i (place-below (n .modules) i m p))
+
+  pub order-of-all : OrderOfAll K
+  order-of-all n h₁ h₂ z o₁ o₂ e =
+      let r = run-idle h₁ n z o₁ ∙ sym (run-idle h₂ n z o₂) in
+      let each = everywhere n h₁ h₂ z o₁ o₂ e in
+      let m = same-places (run K h₁ n .net .modules) (run K h₂ n .net .modules) (λ i. each i .sameRecord) in
+      (ap₂ (λ (r : Receiver) (ms : List M). record { receiver = r; modules = ms }) r m, λ i. each i .sameReplies)
+
+pub of-any-kind : OfAnyKind
+of-any-kind M S K = (each-alone K, λ keeps. (order-does-not-matter K keeps, order-of-all K keeps))
+
+-- a chain of two types that keep their addresses keeps them
+keeps-both : {A B S T : Type 0} (K : Kind A S) (L : Kind B T) → KeepsAddress K → KeepsAddress L → KeepsAddress (either K L)
+keeps-both {A} {B} {S} {T} K L k l = record { execute = x; sample = y; tick = z }
+  where
+    E : Kind (A ⊎ B) (S ⊎ T)
+    E = either K L
+
+    x : (f : Frame) (t : Bool) (m : A ⊎ B) → Harmless f → E .address (E .execute f t m) ≡ E .address m
+    x f t (inl a) p = k .execute f t a p
+    x f t (inr b) p = l .execute f t b p
+
+    y : (s : S ⊎ T) (m : A ⊎ B) → E .address (E .sample s m) ≡ E .address m
+    y (inl s) (inl a) = k .sample s a
+    y (inl s) (inr b) = refl
+    y (inr t) (inl a) = refl
+    y (inr t) (inr b) = l .sample t b
+
+    z : (m : A ⊎ B) → E .address (E .tick m) ≡ E .address m
+    z (inl a) = k .tick a
+    z (inr b) = l .tick b
+
+servo-keeps : KeepsAddress Servo.servo
+servo-keeps = record { execute = x; sample = ServoAddress.address-kept .sampling; tick = ServoAddress.address-kept .tick }
+  where
+    x : (f : Frame) (t : Bool) (m : _) → Harmless f → Servo.servo .address (Servo.servo .execute f t m) ≡ Servo.servo .address m
+    x f t m (inl d) = ServoAddress.address-kept .damaged f t m d
+    x f t m (inr p) = ServoAddress.address-kept .frame f t m (p .0) (p .1)
+
+inout-keeps : KeepsAddress Inout.inout
+inout-keeps = record { execute = x; sample = InoutAddress.address-kept .sampling; tick = InoutAddress.address-kept .tick }
+  where
+    x : (f : Frame) (t : Bool) (m : _) → Harmless f → Inout.inout .address (Inout.inout .execute f t m) ≡ Inout.inout .address m
+    x f t m (inl d) = InoutAddress.address-kept .damaged f t m d
+    x f t m (inr p) = InoutAddress.address-kept .frame f t m (p .0) (p .1)
+
+pub keeps-address : KeepsAddress kind
+keeps-address = keeps-both Servo.servo Inout.inout servo-keeps inout-keeps
+
+pub product : Product
+product = (keeps-address, each-alone kind, order-does-not-matter kind keeps-address, order-of-all kind keeps-address)
+
+-- what calls make of a record's network is what the history that they do makes of it
+outcome-of : (net : List ℕ) (cs : List Call) (h : List (Event AnySample)) → doneBy cs net ≡ singly h
+    → run kind (doneBy cs net) (netIn slots net) ≡ run kind h (netIn slots net)
+outcome-of net cs h e = ap (λ (l : List (Event AnySample)). run kind l (netIn slots net)) e ∙ run-singly kind h (netIn slots net)
+
+pub by-calls : ByCalls
+by-calls net cs₁ cs₂ h₁ h₂ v a₁ a₂ z o₁ o₂ d₁ d₂ same =
+    let q = order-of-all kind keeps-address (netIn slots net) h₁ h₂ z o₁ o₂ same in
+    let x = outcome-of net cs₁ h₁ d₁ in
+    let y = outcome-of net cs₂ h₂ d₂ in (
+      any-calls net cs₁ v a₁ .network
+          ∙ ap (λ (o : Outcome Module). o .net) x
+          ∙ q .0
+          ∙ sym (any-calls net cs₂ v a₂ .network ∙ ap (λ (o : Outcome Module). o .net) y),
+      λ i.
+          ap (λ (o : Outcome Module). repliesOf i (o .replies)) x
+          ∙ q .1 i
+          ∙ sym (ap (λ (o : Outcome Module). repliesOf i (o .replies)) y),
+    )

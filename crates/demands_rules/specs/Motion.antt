@@ -1,0 +1,195 @@
+-- Demand 1: any calls do no harm; only a complete load or a complete Stop Here starts motion. Each promise is proved under its name in proofs/.
+use mathlib.Core.Path.{_≡_}
+use mathlib.Core.Logic.{_⊎_, inl}
+use Prim.Native.Nat.{ℕ, _≤_}
+use mathlib.Core.List.{List, [], _∷_, _++_, map}
+use mathlib.Core.Bool.{Bool, true, false, cond}
+use mathlib.Core.Option.{some}
+use lib.IntN.{pos}
+use lib.ListN.{length, getD, getElem?}
+use lib.Dec.{eqb}
+use Rattle.line_receiver.specs.declared.Answer.the-variants.{Ended}
+use Rattle.line_receiver.specs.Receive.{idle, taken}
+use Rattle.line_receiver.specs.Frames.{Byte, Frame, frameIn, values, AreBytes}
+use Rattle.module_station.specs.Touch.{individually}
+use Rattle.chain_rules.specs.Chain.{Net, flat, addresses, touched}
+use Rattle.inout_rules.specs.Promises as Inouts
+use Rattle.servo_motion.specs.Profile.{left}
+use Rattle.servo_parse.specs.declared.Carried.{Carried}
+use Rattle.servo_parse.specs.declared.Halt.the-variants.{Here}
+use Rattle.servo_parse.specs.declared.Order.{Order}
+use Rattle.servo_parse.specs.declared.Order.the-variants.{LoadTrajectory, Start, Stop}
+use Rattle.servo_parse.specs.declared.Request.the-variants.{Wants}
+use Rattle.servo_parse.specs.Loads.{needed}
+use Rattle.servo_parse.specs.Orders.{request}
+use Rattle.servo_rules.specs.declared.Mode.the-variants.{Velocity, Trapezoid}
+use Rattle.servo_rules.specs.declared.Servo.{Servo}
+use Rattle.servo_rules.specs.Loads.{complete, loaded, startsNow}
+use Rattle.servo_rules.specs.Orders.{withCause, execute}
+use Rattle.servo_rules.specs.Promises as Servos
+use Rattle.servo_rules.specs.LoadPromises.{Ready, Startable}
+use Rattle.servo_rules.specs.RestPromises.{following}
+use Rattle.types_rules.specs.Types.{Module, kind, slots}
+use Rattle.net_rules.specs.Record.{netIn}
+use Rattle.net_rules.specs.Calls.{byteOf, setUp}
+use Rattle.api_rules.specs.Table.{setupTable, byteTable}
+use Rattle.api_rules.specs.Calls.{setupRecord}
+use Rattle.api_rules.specs.Promises.{Passes, Refuses, ValidRecord}
+use Rattle.demands_history_rules.specs.Events.{run, Reads}
+use Rattle.demands_history_rules.specs.Calls.{Call, byte, servoSample, ioSample, tick, Handed, AllHanded, refusals, leaves, leftBy, writtenBy, doneBy}
+
+-- Setup, unless it is refused, leaves a valid record of the modules at power-up, whatever was lent.
+abbrev pub FromSetup : Type 0
+FromSetup =
+    (net types : List ℕ) → Passes (setupTable net types)
+    → ValidRecord (setupRecord net types) × (netIn slots (setupRecord net types) ≡ setUp types)
+
+-- the record is valid, it holds what the calls that were not refused make of the network, and the bytes written are its replies
+pub record Through (net : List ℕ) (cs : List Call) : Type 0 where
+  pub valid : ValidRecord (leftBy cs net)
+  pub network : netIn slots (leftBy cs net) ≡ run kind (doneBy cs net) (netIn slots net) .net
+  pub replies : writtenBy cs net ≡ flat (run kind (doneBy cs net) (netIn slots net) .replies)
+
+-- So it is after any bytes, samples and ticks, in any order, from any valid record.
+abbrev pub AnyCalls : Type 0
+AnyCalls = (net : List ℕ) (cs : List Call) → ValidRecord net → AllHanded cs → Through net cs
+
+-- A refused call is no step: without it the same record is left and the same bytes are written.
+abbrev pub RefusedIsNoStep : Type 0
+RefusedIsNoStep =
+    (net : List ℕ) (before later : List Call) (c : Call) → Refuses (refusals (leftBy before net) c)
+    → (leftBy (before ++ c ∷ later) net ≡ leftBy (before ++ later) net)
+    × (writtenBy (before ++ c ∷ later) net ≡ writtenBy (before ++ later) net)
+
+-- A module of either type that can't carry out a frame keeps everything but its cause: 1, 2 or 3, tested in this order.
+abbrev pub OnlyTheCause : Type 0
+OnlyTheCause = Inouts.Cause × Servos.Cause
+
+-- Motion: a speed or a PWM value other than 0.
+abbrev pub Moves : Servo → Type 0
+Moves m = (m .profile .speed ≡ pos 0 → ⊥) ⊎ (m .drive .pulse ≡ pos 0 → ⊥)
+
+-- On the way to motion: velocity mode with a goal speed other than 0, or a trapezoid with a distance left other than 0.
+abbrev pub Bound : Servo → Type 0
+Bound m =
+    ((m .drive .mode ≡ Velocity) × (m .profile .aim ≡ pos 0 → ⊥))
+    ⊎ ((m .drive .mode ≡ Trapezoid) × (left (m .profile) ≡ pos 0 → ⊥))
+
+abbrev pub AtRest : Servo → Type 0
+AtRest m = (Moves m → ⊥) × (Bound m → ⊥)
+
+-- What begins motion between two records of a servo.
+pub data Begins (before after : Servo) : Type 0 where
+  -- a speed or a PWM value where there was none
+  moving : (Moves before → ⊥) → Moves after → Begins before after
+  -- a goal where there was none
+  bound : (Bound before → ⊥) → Bound after → Begins before after
+  -- a setpoint put elsewhere than at the position, and not as far from it as it was
+  put : (following after ≡ following before → ⊥) → (following after ≡ pos 0 → ⊥) → Begins before after
+
+-- an undamaged frame with this code and this many data bytes asks for this order
+pub record Asks (f : Frame) (alone : Bool) (code count : ℕ) (c : Order) : Type 0 where
+  pub undamaged : f .damaged ≡ false
+  pub named : f .code ≡ code
+  pub whole : length (f .content) ≡ count
+  pub order : request f alone ≡ Wants c
+
+-- The three ways to start, all with power 1 and a clear error bit: a Start where a complete load waits; a Load with start now, of as many
+-- bytes as its control byte asks for, that is complete; a Stop Here of five bytes.
+pub data Starts (f : Frame) (alone : Bool) (m : Servo) : Type 0 where
+  byStart : Asks f alone 5 0 Start → Startable m → Starts f alone m
+  byLoad : (c : Carried) → Asks f alone 4 (needed (getD (f .content) 0 0)) (LoadTrajectory c) → startsNow c ≡ true → Startable (loaded c m) → Starts f alone m
+  byStopHere : (a : Bool) (x : ℕ) → Asks f alone 7 5 (Stop a Here x) → Ready m → Starts f alone m
+
+-- Each of the three is executed: the cause after it is 0.
+abbrev pub StartsAreExecuted : Type 0
+StartsAreExecuted = (f : Frame) (alone : Bool) (m : Servo) → Starts f alone m → execute f alone m .station .cause ≡ 0
+
+-- the servo m is at place i of the network that a record holds
+abbrev pub At : List ℕ → ℕ → Servo → Type 0
+At net i m = getElem? (netIn slots net .modules) i ≡ some (inl m)
+
+-- a byte ended an undamaged frame that touched place i, and at the servo there it was one of the three
+pub record LineStarts (n : Net Module) (b : Byte) (i : ℕ) (m : Servo) : Type 0 where
+  pub ended : taken (n .receiver) (b .value) (b .mark) .answer ≡ Ended false
+  pub touches : touched true (n .receiver .address) (addresses kind (n .modules)) i ≡ true
+  pub starts : Starts (frameIn (n .receiver) false) (individually (n .receiver .address) (m .station .address)) m
+
+-- a call that is not refused hands over such a byte: no other call starts anything
+abbrev pub CallStarts : List ℕ → ℕ → Servo → Call → Type 0
+CallStarts net i m (byte mark x room) = Passes (byteTable net mark room) × LineStarts (netIn slots net) (byteOf x (eqb mark 1)) i m
+CallStarts net i m (servoSample place raw power ad) = ⊥
+CallStarts net i m (ioSample place inputs ad1 ad2 ad3 counter) = ⊥
+CallStarts net i m tick = ⊥
+
+-- Every call, with the servo m at place i before it and k after it. What begins motion is the last byte of one of the three; a tick, which
+-- is no command, only goes on toward a goal that m had, and gives none; after setup every servo is at rest.
+pub record EveryCall : Type 0 where
+  pub command : (net : List ℕ) (c : Call) (i : ℕ) (m k : Servo) → Handed c → ValidRecord net → At net i m → At (leaves net c) i k
+      → (c ≡ tick → ⊥) → Begins m k → CallStarts net i m c
+  pub tick : (net : List ℕ) (i : ℕ) (m k : Servo) → ValidRecord net → At net i m → At (leaves net tick) i k
+      → ((Moves m → ⊥) → Moves k → Bound m) × (Bound k → Bound m)
+  pub setup : (net types : List ℕ) (i : ℕ) (k : Servo) → Passes (setupTable net types) → At (setupRecord net types) i k → AtRest k
+
+-- one of the calls started the servo at place i
+pub record StartedBy (cs : List Call) (net : List ℕ) (i : ℕ) : Type 0 where
+  pub before : List Call
+  pub call : Call
+  pub later : List Call
+  pub servo : Servo
+  pub split : cs ≡ before ++ call ∷ later
+  pub here : At (leftBy before net) i servo
+  pub starts : CallStarts (leftBy before net) i servo call
+
+-- Never otherwise: a servo that was at rest and, after any calls, is not was started by one of them.
+abbrev pub Never : Type 0
+Never =
+    (net : List ℕ) (cs : List Call) (i : ℕ) (m k : Servo)
+    → ValidRecord net → AllHanded cs → At net i m → At (leftBy cs net) i k
+    → AtRest m → (AtRest k → ⊥) → StartedBy cs net i
+
+-- ---- The mill's question: "If the scanner sends a short load and the Start comes through, does the spindle carriage go anyway?"
+
+-- the ways to miss a load: it was for another module, it came damaged, or it has not as many data bytes as its control byte asks for
+pub data Missed (reached : Bool) (load : Frame) : Type 0 where
+  elsewhere : reached ≡ false → Missed reached load
+  damaged : load .damaged ≡ true → Missed reached load
+  short : load .code ≡ 4 → (length (load .content) ≡ needed (getD (load .content) 0 0) → ⊥) → Missed reached load
+
+-- no complete load waits: none at all, or one that is incomplete
+abbrev pub NoneReady : Servo → Type 0
+NoneReady m = (m .load .waits ≡ false) ⊎ (complete m ≡ false)
+
+-- an undamaged Start: code 5, no data
+abbrev pub IsStart : Frame → Type 0
+IsStart f = (f .damaged ≡ false) × (f .code ≡ 5) × (length (f .content) ≡ 0)
+
+-- It does not: after the missed load and the Start the servo is in every part what it was, and its cause is 3.
+abbrev pub Question : Type 0
+Question =
+    (m : Servo) (load start : Frame) (reached alone apart : Bool)
+    → Missed reached load → NoneReady m → IsStart start
+    → execute start apart (cond reached (execute load alone m) m) ≡ withCause 3 m
+
+-- Twice: after any of the three starts a Start is 3 and changes nothing else.
+abbrev pub Twice : Type 0
+Twice =
+    (m : Servo) (f g : Frame) (alone apart : Bool) → Starts f alone m → IsStart g
+    → execute g apart (execute f alone m) ≡ withCause 3 (execute f alone m)
+
+-- the byte call with each of these bytes and marks
+abbrev pub fed : List ℕ → List Byte → List Call
+fed room = map (λ (b : Byte). byte (cond (b .mark) 1 0) (b .value) room)
+
+-- The same on the line, at any place of any valid record, through the exported call: the bytes of a Load that the servo misses in any of the
+-- three ways, then those of a Start for it.
+abbrev pub QuestionOnTheLine : Type 0
+QuestionOnTheLine =
+    (net room : List ℕ) (i : ℕ) (m : Servo) (loadBytes startBytes : List Byte) (load start : Frame)
+    → ValidRecord net → 608 ≤ length room → AreBytes (values (loadBytes ++ startBytes))
+    → netIn slots net .receiver ≡ idle → At net i m → NoneReady m
+    → Reads loadBytes load → load .code ≡ 4
+    → Missed (touched true (load .address) (addresses kind (netIn slots net .modules)) i) load
+    → Reads startBytes start → IsStart start
+    → touched true (start .address) (addresses kind (netIn slots net .modules)) i ≡ true
+    → At (leftBy (fed room (loadBytes ++ startBytes)) net) i (withCause 3 m)

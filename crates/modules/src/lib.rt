@@ -1,7 +1,0 @@
-// The table of module types. Types, definitions and promises; no function.
-
-// A sample, as it was measured for a module of either type.
-pub enum Measured {
-    Servo(servo::Sample),
-    Io(inout::Sample),
-}

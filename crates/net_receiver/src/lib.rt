@@ -1,0 +1,109 @@
+// The receiver in the lent record: its bytes read, put together and tested; and the number of modules behind them.
+ghost use mathlib.Core.Path.{_≡_};
+ghost use mathlib.Core.Bool.{true};
+ghost use Prim.Native.Nat.{_+_, _≤_, _<_};
+ghost use lib.ListN.{length};
+ghost use Rattle.base_layout.specs.Bytes.{readAt};
+ghost use Rattle.types_rules.specs.Types.{slots};
+ghost use Rattle.net_rules.specs.Record.{receiverIn, receiverBytes, okReceiver, blank, netIn, valid};
+use line_receiver::Receiver;
+
+pub fn receiver_in(s: &[u8]) -> Receiver
+    requires { ⌜ 19 ≤ length (now s) ⌝ }
+    ensures { λ r. ⌜ r ≡ receiverIn (now (s .entry)) ⌝ }
+{
+    Receiver {
+        bytes: [
+            s[0],
+            s[1],
+            s[2],
+            s[3],
+            s[4],
+            s[5],
+            s[6],
+            s[7],
+            s[8],
+            s[9],
+            s[10],
+            s[11],
+            s[12],
+            s[13],
+            s[14],
+        ],
+        address: s[15],
+        command: s[16],
+        fill: s[17],
+        marked: s[18] == 1,
+    }
+}
+
+pub fn receiver_bytes(r: Receiver) -> [u8; 19]
+    ensures { λ s. ⌜ s ≡ receiverBytes r ⌝ }
+{
+    let b = r.bytes;
+    [
+        b[0],
+        b[1],
+        b[2],
+        b[3],
+        b[4],
+        b[5],
+        b[6],
+        b[7],
+        b[8],
+        b[9],
+        b[10],
+        b[11],
+        b[12],
+        b[13],
+        b[14],
+        r.address,
+        r.command,
+        r.fill,
+        r.marked as u8,
+    ]
+}
+
+// Whether the receiver's bytes are all 0. In a row they compile to one test.
+fn is_blank(s: &[u8]) -> bool
+    requires { ⌜ 19 ≤ length (now s) ⌝ }
+    ensures { λ r. ⌜ r ≡ blank (readAt 19 0 (now (s .entry))) ⌝ }
+{
+    (s[0] == 0)
+        & (s[1] == 0)
+        & (s[2] == 0)
+        & (s[3] == 0)
+        & (s[4] == 0)
+        & (s[5] == 0)
+        & (s[6] == 0)
+        & (s[7] == 0)
+        & (s[8] == 0)
+        & (s[9] == 0)
+        & (s[10] == 0)
+        & (s[11] == 0)
+        & (s[12] == 0)
+        & (s[13] == 0)
+        & (s[14] == 0)
+        & (s[15] == 0)
+        & (s[16] == 0)
+        & (s[17] == 0)
+        & (s[18] == 0)
+}
+
+pub fn is_receiver_ok(s: &[u8]) -> bool
+    requires { ⌜ 19 ≤ length (now s) ⌝ }
+    ensures { λ r. ⌜ r ≡ okReceiver (now (s .entry)) ⌝ }
+{
+    if s[17] == 0 {
+        return is_blank(s);
+    }
+    (s[17] <= 3 + s[16] / 16) & (s[18] <= 1)
+}
+
+// How many modules the chain has.
+pub fn chain_len(net: &[u8]) -> u8
+    requires { ⌜ valid slots (now net) ≡ true ⌝ }
+    ensures { λ r. ⌜ r ≡ length (netIn slots (now (net .entry)) .modules) ⌝ }
+{
+    net[19]
+}

@@ -1,0 +1,126 @@
+// The lent record: whether it is valid, setup, samples and outputs.
+ghost use mathlib.Core.Path.{_≡_};
+ghost use mathlib.Core.Bool.{true};
+ghost use mathlib.Core.List.{map};
+ghost use Prim.Native.Nat.{_+_, _*_, _≤_, _<_};
+ghost use lib.ListN.{length, replicate, drop};
+ghost use Rattle.chain_rules.specs.Slots.{slotSize};
+ghost use Rattle.types_rules.specs.Types.{slots, powered, measured, outputs};
+ghost use Rattle.net_rules.specs.Record.{recordSize, slotsAt, okSlots, netIn, putModules, stored, valid};
+ghost use Rattle.net_rules.specs.Calls.{allKnown, fresh, sampleStep, ofType, outputsAt};
+use types_rules::Measured;
+
+// Whether the n slots from place 20 on are valid.
+fn is_each_ok(net: &[u8], n: usize) -> bool
+    requires { ⌜ slotsAt + slotSize * n ≤ length (now net) ⌝ }
+    ensures { λ r. ⌜ r ≡ okSlots slots n (drop slotsAt (now (net .entry))) ⌝ }
+{
+    let mut at: usize = 20;
+    let mut left = n;
+    while 0 < left {
+        let end = at + 128;
+        if !types_dispatch::is_ok(&net[at..end]) {
+            return false;
+        }
+        at = end;
+        left -= 1;
+    }
+    true
+}
+
+// Whether a record is valid: the list for refusal 16.
+pub fn is_valid(net: &[u8]) -> bool
+    ensures { λ r. ⌜ r ≡ valid slots (now (net .entry)) ⌝ }
+{
+    if net.len() != 4116 {
+        return false;
+    }
+    let n = net[19];
+    if (1 <= n) & (n <= 32) {
+        return net_receiver::is_receiver_ok(net) & is_each_ok(net, n as usize);
+    }
+    false
+}
+
+// Whether the module at a place is of this type, which its slot's first byte tells; beyond the chain there is none.
+pub fn is_of_type(net: &[u8], place: usize, t: u8) -> bool
+    requires { ⌜ valid slots (now net) ≡ true ⌝ }
+    ensures { λ r. ⌜ r ≡ ofType t (netIn slots (now (net .entry))) place ⌝ }
+{
+    let n = net_receiver::chain_len(net) as usize;
+    if place < n {
+        return net[20 + 128 * place] == t;
+    }
+    false
+}
+
+// A sample for the module at a place; one for another type changes nothing.
+pub fn put_sample(net: &mut [u8], place: usize, x: Measured)
+    requires { ⌜ (valid slots (now net) ≡ true) × (place < length (netIn slots (now net) .modules)) ⌝ }
+    ensures { λ _. ⌜ now (net .exit) ≡ stored slots (sampleStep place (measured x) (netIn slots (now (net .entry)))) (now (net .entry)) ⌝ }
+{
+    let at = 20 + 128 * place;
+    let end = at + 128;
+    types_dispatch::put_sample(&mut net[at..end], x);
+}
+
+// What the board drives for the module at a place.
+pub fn outputs(net: &[u8], place: usize) -> [u8; 8]
+    requires { ⌜ (valid slots (now net) ≡ true) × (place < length (netIn slots (now net) .modules)) ⌝ }
+    ensures { λ r. ⌜ r ≡ outputsAt (netIn slots (now (net .entry))) place ⌝ }
+{
+    let at = 20 + 128 * place;
+    let end = at + 128;
+    types_dispatch::outputs(&net[at..end])
+}
+
+// Whether all types are known.
+pub fn is_all_known(types: &[u8]) -> bool
+    ensures { λ r. ⌜ r ≡ allKnown (now (types .entry)) ⌝ }
+{
+    let mut i = 0;
+    while i < types.len() {
+        if !types_dispatch::is_known(types[i]) {
+            return false;
+        }
+        i += 1;
+    }
+    true
+}
+
+fn clear(s: &mut [u8])
+    ensures { λ _. ⌜ now (s .exit) ≡ replicate (length (now (s .entry))) 0 ⌝ }
+{
+    let mut i = 0;
+    while i < s.len() {
+        s[i] = 0;
+        i += 1;
+    }
+}
+
+// Modules of the given types at power-up, put into the slots from place 20 on.
+fn power_up_each(net: &mut [u8], types: &[u8])
+    requires { ⌜ (slotsAt + slotSize * length (now types) ≤ length (now net)) × (allKnown (now types) ≡ true) ⌝ }
+    ensures { λ _. ⌜ now (net .exit) ≡ putModules slots (map powered (now (types .entry))) slotsAt (now (net .entry)) ⌝ }
+{
+    let mut at: usize = 20;
+    let mut i = 0;
+    while i < types.len() {
+        let end = at + 128;
+        types_dispatch::power_up(&mut net[at..end], types[i]);
+        at = end;
+        i += 1;
+    }
+}
+
+// Setup: an idle receiver and a chain of the given types, whatever the record held before.
+pub fn set_up(net: &mut [u8], types: &[u8])
+    requires { ⌜ (length (now net) ≡ recordSize) × (length (now types) ≤ 32) × (allKnown (now types) ≡ true) ⌝ }
+    ensures { λ _. ⌜ now (net .exit) ≡ fresh (now (types .entry)) ⌝ }
+{
+    clear(net);
+    let mut head = [0u8; 20];
+    head[19] = types.len() as u8;
+    base_layout::put_all(net, 0, &head);
+    power_up_each(net, types);
+}

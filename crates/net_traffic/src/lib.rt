@@ -1,0 +1,97 @@
+// What bytes and ticks do to a valid record: a frame that has ended is handed along the chain.
+ghost use mathlib.Core.Path.{_≡_};
+ghost use mathlib.Core.Bool.{true};
+ghost use Prim.Native.Nat.{_+_, _*_, _≤_, _<_};
+ghost use lib.ListN.{length, getD, take, drop};
+ghost use Rattle.base_layout.specs.Bytes.{pasted};
+ghost use Rattle.line_receiver.specs.Receive.{numberOf};
+ghost use Rattle.line_receiver.specs.Frames.{frameIn};
+ghost use Rattle.line_receiver.specs.declared.Answer;
+ghost use Rattle.chain_rules.specs.Chain.{join, flat, byteStep};
+ghost use Rattle.chain_rules.specs.Slots.{slotSize};
+ghost use Rattle.types_rules.specs.Types.{kind, slots};
+ghost use Rattle.net_rules.specs.Record.{recordSize, slotsAt, countAt, okSlots, netIn, stored, valid};
+ghost use Rattle.net_rules.specs.Walk.{walked, speech, ticked};
+ghost use Rattle.net_rules.specs.Calls.{tickStep, calledBy, endedOf, byteOf};
+use line_receiver::Answer;
+use line_receiver::Receiver;
+use module_station::Head;
+use net_rules::Called;
+
+fn ended_number(damaged: bool) -> u32
+    ensures { λ n. ⌜ n ≡ numberOf (Answer.Ended damaged) ⌝ }
+{
+    if damaged { 2 } else { 1 }
+}
+
+// The frame that a receiver held when its last byte came, handed to the chain.
+fn hand_on(net: &mut [u8], r: Receiver, damaged: bool, room: &mut [u8]) -> Called
+    requires { ⌜ (length (now net) ≡ recordSize) × (getD (now net) countAt 0 ≤ 32) × (608 ≤ length (now room)) × (length (r .bytes) ≡ 15) ⌝ }
+    requires { ⌜ okSlots slots (getD (now net) countAt 0) (drop slotsAt (now net)) ≡ true ⌝ }
+    ensures { λ c. ⌜ c ≡ endedOf (frameIn r damaged) (getD (now (net .entry)) countAt 0) (now (net .entry)) ⌝ }
+    ensures { λ _. ⌜ now (net .exit) ≡ walked kind slots (frameIn r damaged) true (getD (now (net .entry)) countAt 0) slotsAt (now (net .entry)) ⌝ }
+    ensures { λ _. ⌜ now (room .exit) ≡ pasted 0 (join (speech kind slots (frameIn r damaged) true (getD (now (net .entry)) countAt 0) slotsAt (now (net .entry)))) (now (room .entry)) ⌝ }
+{
+    let n = net[19] as usize;
+    let bytes = r.bytes;
+    let count = (r.command / 16) as usize;
+    let f = Head {
+        address: r.address,
+        code: r.command % 16,
+        damaged,
+    };
+    let w = net_frame::walk(net, n, f, &bytes[..count], room);
+    let lengths = w.lengths;
+    Called {
+        number: ended_number(damaged),
+        written: w.written,
+        lengths,
+    }
+}
+
+// A byte of the line.
+pub fn byte(net: &mut [u8], value: u8, mark: bool, room: &mut [u8]) -> Called
+    requires { ⌜ (valid slots (now net) ≡ true) × (608 ≤ length (now room)) ⌝ }
+    ensures { λ c. ⌜ c ≡ calledBy (netIn slots (now (net .entry))) (byteOf value mark) ⌝ }
+    ensures { λ _. ⌜ now (net .exit) ≡ stored slots (byteStep kind (netIn slots (now (net .entry))) (byteOf value mark) .net) (now (net .entry)) ⌝ }
+    ensures { λ _. ⌜ now (room .exit) ≡ pasted 0 (flat (byteStep kind (netIn slots (now (net .entry))) (byteOf value mark) .replies)) (now (room .entry)) ⌝ }
+{
+    let r = net_receiver::receiver_in(net);
+    let got = r.take(value, mark);
+    let next = got.next;
+    let bytes = net_receiver::receiver_bytes(next);
+    base_layout::put_all(net, 0, &bytes);
+    let answer = got.answer;
+    let Answer::Ended(damaged) = answer else {
+        return Called {
+            number: 0,
+            written: 0,
+            lengths: [0u8; 32],
+        };
+    };
+    hand_on(net, r, damaged, room)
+}
+
+// A tick at the n modules from place 20 on.
+fn tick_each(net: &mut [u8], n: usize)
+    requires { ⌜ (slotsAt + slotSize * n ≤ length (now net)) × (okSlots slots n (drop slotsAt (now net)) ≡ true) ⌝ }
+    ensures { λ _. ⌜ now (net .exit) ≡ ticked kind slots n slotsAt (now (net .entry)) ⌝ }
+{
+    let mut at: usize = 20;
+    let mut left = n;
+    while 0 < left {
+        let end = at + 128;
+        types_dispatch::tick(&mut net[at..end]);
+        at = end;
+        left -= 1;
+    }
+}
+
+// A tick.
+pub fn tick(net: &mut [u8])
+    requires { ⌜ valid slots (now net) ≡ true ⌝ }
+    ensures { λ _. ⌜ now (net .exit) ≡ stored slots (tickStep (netIn slots (now (net .entry)))) (now (net .entry)) ⌝ }
+{
+    let n = net[19];
+    tick_each(net, n as usize);
+}

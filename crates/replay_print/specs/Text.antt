@@ -1,0 +1,65 @@
+-- The text that a replay prints, as ASCII codes.
+use Prim.Native.Nat.{ℕ, zero, suc, _+_, _/_, _%_}
+use mathlib.Core.List.{List, [], _∷_, _++_}
+use mathlib.Core.Bool.{cond}
+use lib.ListN.{getD, take, drop}
+use lib.Dec.{eqb, ltb}
+use Rattle.chain_rules.specs.Chain.{Reply}
+
+-- 01 Replay file: what stands before each byte.
+abbrev pub space : ℕ
+space = 32
+
+-- 01 Replay file: the line's end.
+abbrev pub newline : ℕ
+newline = 10
+
+-- 01 Replay file: a decimal digit.
+abbrev pub digit : ℕ → ℕ
+digit d = 48 + d
+
+-- 01 Replay file: the digits of a number in their order, none for 0; k is as many as there can be.
+abbrev pub digits : ℕ → ℕ → List ℕ
+digits zero n = []
+digits (suc k) n = cond (eqb n 0) [] (digits k (n / 10) ++ digit (n % 10) ∷ [])
+
+-- 01 Replay file: a number in decimal: the digits of its tens, then its last digit.
+unfoldable pub decimal : ℕ → List ℕ
+decimal n = digits n (n / 10) ++ digit (n % 10) ∷ []
+
+-- 01 Replay file: an upper-case hex digit: 0 to 9, then A to F.
+abbrev pub hexDigit : ℕ → ℕ
+hexDigit d = cond (ltb d 10) (48 + d) (55 + d)
+
+-- 01 Replay file: a byte as two hex digits, the upper one first.
+abbrev pub hexPair : ℕ → List ℕ
+hexPair b = hexDigit (b / 16) ∷ hexDigit (b % 16) ∷ []
+
+-- 01 Replay file: bytes as two hex digits each, a space before each.
+abbrev pub hexes : List ℕ → List ℕ
+hexes [] = []
+hexes (b ∷ bs) = (space ∷ hexPair b) ++ hexes bs
+
+-- 01 Replay file: the line of a reply: its place in decimal, its bytes, the line's end.
+unfoldable pub line : ℕ → List ℕ → List ℕ
+line place bytes = decimal place ++ (hexes bytes ++ newline ∷ [])
+
+-- 01 Replay file: a line for each of some replies.
+abbrev pub lines : List Reply → List ℕ
+lines [] = []
+lines (r ∷ rs) = line (r .place) (r .bytes) ++ lines rs
+
+-- 01 Replay file: the line of what a place said; no line where it said nothing.
+abbrev pub replyText : ℕ → List ℕ → List ℕ
+replyText place [] = []
+replyText place (b ∷ bs) = line place (b ∷ bs)
+
+-- 01 Replay file: the lines of k places from one on, whose words stand in a room one after another, by the length of each.
+unfoldable pub printed : ℕ → ℕ → ℕ → List ℕ → List ℕ → List ℕ
+printed zero place at lengths room = []
+printed (suc k) place at lengths room =
+    replyText place (take (getD lengths place 0) (drop at room)) ++ printed k (place + 1) (at + getD lengths place 0) lengths room
+
+-- 01 Replay file: the last line of a replay that a record ended: "bad ", and where that record begins.
+unfoldable pub badLine : ℕ → List ℕ
+badLine offset = (98 ∷ 97 ∷ 100 ∷ space ∷ []) ++ (decimal offset ++ newline ∷ [])

@@ -1,0 +1,102 @@
+// The text that a replay prints: numbers in decimal, bytes in hex, and the lines of the replies.
+ghost use mathlib.Core.Path.{_≡_};
+ghost use mathlib.Core.List.{_∷_};
+ghost use Prim.Native.Nat.{ℕ, _+_, _*_, _≤_, _<_};
+ghost use lib.ListN.{length, getD};
+ghost use Rattle.base_layout.specs.Bytes.{pasted};
+ghost use Rattle.replay_print.specs.Text.{space, hexDigit, hexPair, hexes, decimal, line, replyText, printed};
+
+fn hex_digit(d: u8) -> u8
+    requires { ⌜ d < 16 ⌝ }
+    ensures { λ r. ⌜ r ≡ hexDigit d ⌝ }
+{
+    if d < 10 { 48 + d } else { 55 + d }
+}
+
+// A space and a byte's two digits.
+fn put_pair(out: &mut [u8], at: usize, b: u8)
+    requires { ⌜ at + 3 ≤ length (now out) ⌝ }
+    ensures { λ _. ⌜ now (out .exit) ≡ pasted at (space ∷ hexPair b) (now (out .entry)) ⌝ }
+{
+    let text = [b' ', hex_digit(b / 16), hex_digit(b % 16)];
+    base_layout::put_all(out, at, &text);
+}
+
+// The bytes of a reply, as the line shows them.
+fn put_pairs(out: &mut [u8], at: usize, bytes: &[u8])
+    requires { ⌜ at + 3 * length (now bytes) ≤ length (now out) ⌝ }
+    ensures { λ _. ⌜ now (out .exit) ≡ pasted at (hexes (now (bytes .entry))) (now (out .entry)) ⌝ }
+{
+    let mut place = at;
+    let mut i = 0;
+    while i < bytes.len() {
+        put_pair(out, place, bytes[i]);
+        place += 3;
+        i += 1;
+    }
+}
+
+// A number in decimal; how many digits it has.
+pub fn put_decimal(out: &mut [u8], at: usize, n: u64) -> usize
+    requires { ⌜ at + length (decimal n) ≤ length (now out) ⌝ }
+    ensures { λ r. ⌜ r ≡ length (decimal n) ⌝ }
+    ensures { λ _. ⌜ now (out .exit) ≡ pasted at (decimal n) (now (out .entry)) ⌝ }
+{
+    let mut digits = [0u8; 20];
+    digits[19] = 48 + (n % 10) as u8;
+    let mut rest = n / 10;
+    let mut i: usize = 19;
+    while 0 < rest {
+        i -= 1;
+        digits[i] = 48 + (rest % 10) as u8;
+        rest = rest / 10;
+    }
+    base_layout::put_all(out, at, &digits[i..]);
+    20 - i
+}
+
+// The line of a reply.
+fn put_line(out: &mut [u8], at: usize, place: usize, bytes: &[u8]) -> usize
+    requires { ⌜ (place < 32) × (length (now bytes) ≤ 19) × (at + 60 ≤ length (now out)) ⌝ }
+    ensures { λ r. ⌜ r ≡ length (line place (now (bytes .entry))) ⌝ }
+    ensures { λ _. ⌜ now (out .exit) ≡ pasted at (line place (now (bytes .entry))) (now (out .entry)) ⌝ }
+{
+    let n = put_decimal(out, at, place as u64);
+    put_pairs(out, at + n, bytes);
+    let end = n + 3 * bytes.len();
+    out[at + end] = b'\n';
+    end + 1
+}
+
+// A place that says nothing has no line.
+fn put_reply(out: &mut [u8], at: usize, place: usize, bytes: &[u8]) -> usize
+    requires { ⌜ (place < 32) × (length (now bytes) ≤ 19) × (at + 60 ≤ length (now out)) ⌝ }
+    ensures { λ r. ⌜ r ≡ length (replyText place (now (bytes .entry))) ⌝ }
+    ensures { λ _. ⌜ now (out .exit) ≡ pasted at (replyText place (now (bytes .entry))) (now (out .entry)) ⌝ }
+{
+    if bytes.len() == 0 {
+        return 0;
+    }
+    put_line(out, at, place, bytes)
+}
+
+// The lines of the replies that stand in a room one after another; how many bytes they have.
+pub fn put_replies(lengths: [u8; 32], room: &[u8], out: &mut [u8]) -> usize
+    requires { ⌜ ((i : ℕ) → getD lengths i 0 ≤ 19) ⌝ }
+    requires { ⌜ (608 ≤ length (now room)) × (1920 ≤ length (now out)) ⌝ }
+    ensures { λ r. ⌜ r ≡ length (printed 32 0 0 lengths (now (room .entry))) ⌝ }
+    ensures { λ _. ⌜ now (out .exit) ≡ pasted 0 (printed 32 0 0 lengths (now (room .entry))) (now (out .entry)) ⌝ }
+{
+    let mut wrote: usize = 0;
+    let mut at: usize = 0;
+    let mut place: usize = 0;
+    let mut left: usize = 32;
+    while 0 < left {
+        let end = at + lengths[place] as usize;
+        wrote += put_reply(out, wrote, place, &room[at..end]);
+        at = end;
+        place += 1;
+        left -= 1;
+    }
+    wrote
+}

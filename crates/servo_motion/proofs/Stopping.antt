@@ -1,0 +1,64 @@
+-- Laws of the stopping sum. Assumes nothing.
+use mathlib.Core.Path.{_≡_, refl, ap, sym, _∙_}
+use Prim.Native.Nat.{ℕ, zero, suc, _+_, _-_, _/_, _≤_, _<_, zero-le}
+use native.Mathlib.Nat.{zero-sub, lt-of-not-le, div-eq-of-lt, div-eq-sub-div}
+use native.Mathlib.Decide.{decLe}
+use native.Mathlib.Omega.{arith}
+use Rattle.servo_motion.specs.Trapezoid.{terms, stop}
+
+terms-zero : (n a : ℕ) → terms n 0 a ≡ 0
+unfolding terms
+terms-zero zero a = refl
+terms-zero (suc n) a = rw zero-sub (rw (terms-zero n a))
+
+-- how many terms are taken does not matter, as long as those above 0 are among them
+terms-enough : (n m w a : ℕ) → 0 < a → w ≤ n → w ≤ m → terms n w a ≡ terms m w a
+unfolding terms
+terms-enough zero m w a h p q = let z : w ≡ 0 = omega arith in rw z (sym (terms-zero m a))
+terms-enough (suc n) zero w a h p q = let z : w ≡ 0 = omega arith in rw z (terms-zero (suc n) a)
+terms-enough (suc n) (suc m) zero a h p q = terms-zero (suc n) a ∙ sym (terms-zero (suc m) a)
+terms-enough (suc n) (suc m) (suc w) a h p q =
+    ap (λ (x : ℕ). suc w + x) (terms-enough n m (suc w - a) a h (omega arith) (omega arith))
+
+pub stop-zero : (a : ℕ) → stop 0 a ≡ 0
+unfolding stop terms
+stop-zero a = refl
+
+-- the first term, and the sum of the rest
+pub stop-step : (w a : ℕ) → 0 < a → stop w a ≡ w + stop (w - a) a
+unfolding stop terms
+stop-step zero a h = rw zero-sub refl
+stop-step (suc w) a h = ap (λ (x : ℕ). suc w + x) (terms-enough w (suc w - a) (suc w - a) a h (omega arith) (omega arith))
+
+-- a speed that falls to 0 at once is its own sum
+stop-once : (w a : ℕ) → 0 < a → w ≤ a → stop w a ≡ w
+stop-once w a h p = let e : w - a ≡ 0 = omega arith in let s = rw (e, stop-zero) at (stop-step w a h) in omega arith
+
+-- w + 1 has w / a + 1 terms above 0, each one more than w has there
+more-step : (w a : ℕ) → 0 < a → (a ≤ w → stop (w - a + 1) a ≡ stop (w - a) a + ((w - a) / a + 1)) → stop (w + 1) a ≡ stop w a + (w / a + 1)
+more-step w a h lower = either (decLe a w)
+  where
+    either : Dec (a ≤ w) → stop (w + 1) a ≡ stop w a + (w / a + 1)
+    either (yes q) =
+        let e : w + 1 - a ≡ w - a + 1 = omega arith in
+        omega (arith, rw e at (stop-step (w + 1) a h), stop-step w a h, lower q, div-eq-sub-div h q)
+    either (no f) =
+        let q = lt-of-not-le f in
+        omega (arith, stop-once (w + 1) a h (omega arith), stop-once w a h (omega arith), div-eq-of-lt q)
+
+more-within : (n w a : ℕ) → 0 < a → w ≤ n → stop (w + 1) a ≡ stop w a + (w / a + 1)
+more-within zero w a h p = more-step w a h (λ q. absurd (omega arith))
+more-within (suc n) w a h p = more-step w a h (λ q. more-within n (w - a) a h (omega arith))
+
+pub stop-more : (w a : ℕ) → 0 < a → stop (w + 1) a ≡ stop w a + (w / a + 1)
+stop-more w a h = more-within w w a h (omega arith)
+
+terms-mono : (n v w a : ℕ) → v ≤ w → terms n v a ≤ terms n w a
+unfolding terms
+terms-mono zero v w a h = zero-le
+terms-mono (suc n) v w a h = let k = terms-mono n (v - a) (w - a) a (omega arith) in omega arith
+
+-- a higher speed needs no less
+pub stop-mono : (v w a : ℕ) → 0 < a → v ≤ w → stop v a ≤ stop w a
+unfolding stop
+stop-mono v w a h p = rw (terms-enough v w v a h (omega arith) p) (terms-mono w v w a p)

@@ -1,0 +1,101 @@
+-- What is promised of the motion (document 01, "Tick"). Each promise is proved under its own name, with a small first letter, in proofs/.
+use mathlib.Core.Path.{_≡_}
+use mathlib.Core.Logic.{_⊎_}
+use mathlib.Core.Bool.{true, false}
+use Prim.Native.Nat.{ℕ, _+_, _-_, _*_, _^_, _≤_, _<_, min}
+use lib.IntN.{ℤ, pos, natAbs, _-ℤ_}
+use lib.Signed.{leZ}
+use Rattle.servo_motion.specs.declared.Profile.{Profile}
+use Rattle.servo_motion.specs.Trapezoid.{stop, nextSpeed}
+use Rattle.servo_motion.specs.Setpoint.{distance, moved}
+use Rattle.servo_motion.specs.Velocity.{toward}
+use Rattle.servo_motion.specs.Profile.{Ranged, inRange, left, running, byTrapezoid, byVelocity}
+
+-- 01 Tick: from lo to hi, w is the greatest with the property.
+pub record Greatest (Has : ℕ → Type 0) (lo hi w : ℕ) : Type 0 where
+  pub from : lo ≤ w
+  pub to : w ≤ hi
+  pub has : Has w
+  pub above : (x : ℕ) → x ≤ hi → Has x → x ≤ w
+
+-- 01 Tick: w is the speed that the text asks for: the greatest from v - a to v + a and top that can still stop within d.
+abbrev pub Asked : ℕ → ℕ → ℕ → ℕ → ℕ → Type 0
+Asked a top d v w = Greatest (λ x. stop x a ≤ d) (v - a) (min (v + a) top) w
+
+-- 01 Numbers given back: a trapezoid at the speed v can still stop within d, and is no faster than it may be.
+pub record CanStop (a top d v : ℕ) : Type 0 where
+  pub slow : v ≤ top
+  pub room : stop (v - a) a ≤ d
+
+-- 01 Numbers given back: what a trapezoid that runs satisfies. It goes toward its goal, but with no distance left the last speed may have
+-- either sign; and it can still stop.
+pub record Running (p : Profile) : Type 0 where
+  pub force : 0 < p .acceleration
+  pub forth : leZ (left p) (pos 0) ≡ false → leZ (pos 0) (p .speed) ≡ true
+  pub back : leZ (pos 0) (left p) ≡ false → leZ (p .speed) (pos 0) ≡ true
+  pub stops : CanStop (p .acceleration) (p .top) (natAbs (left p)) (natAbs (p .speed))
+
+-- The test that code makes is the whole of what a running trapezoid satisfies.
+abbrev pub Tested : Type 0
+Tested = (p : Profile) → (running p ≡ true → Running p) × (Running p → running p ≡ true)
+
+-- Where a trapezoid can still stop, the speed that the text asks for exists, and the new speed is it.
+abbrev pub Next : Type 0
+Next = (a top d v : ℕ) → CanStop a top d v → Asked a top d v (nextSpeed a top d v)
+
+-- There is no second such speed.
+abbrev pub Only : Type 0
+Only = (a top d v x y : ℕ) → Asked a top d v x → Asked a top d v y → x ≡ y
+
+-- The new speed is never above the greatest speed.
+abbrev pub NoFaster : Type 0
+NoFaster = (a top d v : ℕ) → CanStop a top d v → nextSpeed a top d v ≤ top
+
+-- The new speed does not pass the goal, and after it the trapezoid can still stop within what is left.
+abbrev pub StillStops : Type 0
+StillStops =
+    (a top d v : ℕ)
+    → 0 < a → CanStop a top d v
+    → (nextSpeed a top d v ≤ d) × CanStop a top (d - nextSpeed a top d v) (nextSpeed a top d v)
+
+-- A setpoint moved by the distance that is left stands at the goal, without a fraction, whatever wraps on the way.
+abbrev pub Reaches : Type 0
+Reaches = (goal p : ℕ) → goal < 2 ^ 32 → p < 2 ^ 48 → moved p (distance goal p) ≡ goal * 65536
+
+-- At rest every profile can stop, whatever its goal, also half the range away.
+abbrev pub Rest : Type 0
+Rest = (p : Profile) → 0 < p .acceleration → p .speed ≡ pos 0 → Running p
+
+-- A tick takes its speed off the distance that is left: the wrap of counts, of the setpoint and of the distance never turns a move round.
+abbrev pub Taken : Type 0
+Taken = (p : Profile) → Ranged p → Running p → left (byTrapezoid p) ≡ left p -ℤ byTrapezoid p .speed
+
+-- A trapezoid that runs, in either direction, still runs after a tick.
+abbrev pub Runs : Type 0
+Runs = (p : Profile) → Ranged p → Running p → Running (byTrapezoid p)
+
+-- Its speed, sign and all, changes by at most the acceleration.
+abbrev pub Gentle : Type 0
+Gentle = (p : Profile) → Running p → natAbs (byTrapezoid p .speed -ℤ p .speed) ≤ p .acceleration
+
+-- 01 Tick: the speed w is from v to the goal, in either order of the two, at most a away from v, and less than a away only at the goal.
+pub record Toward (a : ℕ) (goal v w : ℤ) : Type 0 where
+  pub rises : leZ v goal ≡ true → (leZ v w ≡ true) × (leZ w goal ≡ true)
+  pub falls : leZ v goal ≡ false → (leZ goal w ≡ true) × (leZ w v ≡ true)
+  pub most : natAbs (w -ℤ v) ≤ a
+  pub full : (natAbs (w -ℤ v) ≡ a) ⊎ (w ≡ goal)
+
+-- Velocity mode goes from the old speed to the goal by as much as the acceleration allows, and never past the goal.
+abbrev pub Velocity : Type 0
+Velocity = (a : ℕ) (goal v : ℤ) → Toward a goal v (toward a goal v)
+
+-- Both ticks keep the ranges of a stored profile.
+abbrev pub InRange : Type 0
+InRange = (p : Profile) → Ranged p → Ranged (byTrapezoid p) × Ranged (byVelocity p)
+
+-- The test of a profile's numbers is the whole of its ranges, where setpoint and goal are such as their bytes spell.
+abbrev pub InRanges : Type 0
+InRanges =
+    (p : Profile)
+    → p .setpoint < 2 ^ 48 → p .goal < 2 ^ 32
+    → (inRange p ≡ true → Ranged p) × (Ranged p → inRange p ≡ true)

@@ -1,0 +1,266 @@
+// What a frame asks of a servo: its code, the number of its data bytes and their values, read into an order or found malformed.
+ghost use mathlib.Core.Path.{_≡_};
+ghost use Prim.Native.Nat.{_<_};
+ghost use Rattle.base_layout.specs.Bytes.{ofLe, readAt};
+ghost use Rattle.module_station.specs.Touch.{frameOf};
+ghost use Rattle.servo_parse.specs.Loads.{isSet, needed, carriedAt, carriedIn, inRange};
+ghost use Rattle.servo_parse.specs.Orders.{counted, ranged, loadRequest, gainsIn, gainsFit, gainRequest, haltOf, oneHalt, stopCount, stopRequest, own, request};
+use module_station::Asked;
+use module_station::Head;
+use module_station::Setting;
+use servo_filter::Gains;
+
+// What a Load Trajectory carries; 0 for what it does not.
+pub struct Carried {
+    pub control: u8,
+    pub place: u32,
+    pub velocity: u32,
+    pub acceleration: u32,
+    pub pulse: u8,
+}
+
+// What Set Gain brings.
+pub struct Tuning {
+    pub gains: Gains,
+    pub cl: u8,
+    pub sm: u8,
+}
+
+// The kinds of Stop: none of bits 1 to 4, off, abrupt, smooth, Stop Here.
+pub enum Halt {
+    Keep,
+    Release,
+    Abrupt,
+    Smooth,
+    Here,
+}
+
+pub enum Order {
+    Set(Setting),
+    Reset,
+    ResetPosition,
+    LoadTrajectory(Carried),
+    Start,
+    SetGain(Tuning),
+    Stop(bool, Halt, u32),
+    ClearBits,
+}
+
+pub enum Request {
+    Malformed,
+    Wants(Order),
+}
+
+// Whether bit k of a byte is set.
+pub fn is_set(k: u8, b: u8) -> bool
+    requires { ⌜ k < 8 ⌝ }
+    ensures { λ r. ⌜ r ≡ isSet k b ⌝ }
+{
+    (b >> k) % 2 == 1
+}
+
+// The number in four data bytes from place at on, 0 beyond the end.
+fn four_at(ds: &[u8], at: usize) -> u32
+    requires { ⌜ at < 256 ⌝ }
+    ensures { λ r. ⌜ r ≡ ofLe (readAt 4 at (now (ds .entry))) ⌝ }
+{
+    let b = at + 1;
+    let c = b + 1;
+    base_layout::of4(
+        base_layout::byte_at(ds, at),
+        base_layout::byte_at(ds, b),
+        base_layout::byte_at(ds, c),
+        base_layout::byte_at(ds, c + 1),
+    )
+}
+
+fn two_at(ds: &[u8], at: usize) -> u16
+    requires { ⌜ at < 256 ⌝ }
+    ensures { λ r. ⌜ r ≡ ofLe (readAt 2 at (now (ds .entry))) ⌝ }
+{
+    base_layout::of2(
+        base_layout::byte_at(ds, at),
+        base_layout::byte_at(ds, at + 1),
+    )
+}
+
+// How many data bytes a load's control byte asks for.
+fn needed(control: u8) -> usize
+    ensures { λ r. ⌜ r ≡ needed control ⌝ }
+{
+    let numbers = u8::count_ones(control % 8) as usize;
+    let pulse = (control / 8 % 2) as usize;
+    1 + 4 * numbers + pulse
+}
+
+fn counted(n: usize, ds: &[u8], r: Request) -> Request
+    ensures { λ q. ⌜ q ≡ counted n (now (ds .entry)) r ⌝ }
+{
+    if ds.len() == n {
+        return r;
+    }
+    Request::Malformed
+}
+
+fn ranged(ok: bool, c: Order) -> Request
+    ensures { λ r. ⌜ r ≡ ranged ok c ⌝ }
+{
+    if ok {
+        return Request::Wants(c);
+    }
+    Request::Malformed
+}
+
+// A carried number, from place at on, 0 where it is not carried.
+fn carried_at(t: bool, at: usize, ds: &[u8]) -> u32
+    requires { ⌜ at < 256 ⌝ }
+    ensures { λ r. ⌜ r ≡ carriedAt t at (now (ds .entry)) ⌝ }
+{
+    if t {
+        return four_at(ds, at);
+    }
+    0
+}
+
+// What a load carries.
+fn carried_in(ds: &[u8]) -> Carried
+    ensures { λ r. ⌜ r ≡ carriedIn (now (ds .entry)) ⌝ }
+{
+    let c = base_layout::byte_at(ds, 0);
+    let second = 1 + 4 * ((c % 2) as usize);
+    let third = second + 4 * ((c / 2 % 2) as usize);
+    let fourth = third + 4 * ((c / 4 % 2) as usize);
+    Carried {
+        control: c,
+        place: carried_at(c % 2 == 1, 1, ds),
+        velocity: carried_at(c / 2 % 2 == 1, second, ds),
+        acceleration: carried_at(c / 4 % 2 == 1, third, ds),
+        pulse: if c / 8 % 2 == 1 {
+            base_layout::byte_at(ds, fourth)
+        } else {
+            0
+        },
+    }
+}
+
+impl Carried {
+    fn is_in_range(self) -> bool
+        ensures { λ r. ⌜ r ≡ inRange self ⌝ }
+    {
+        (self.velocity <= 83_886_080)
+            & (self.acceleration <= 83_886_080)
+            & (!is_set(2, self.control) | (1 <= self.acceleration))
+    }
+}
+
+fn load_request(ds: &[u8]) -> Request
+    ensures { λ r. ⌜ r ≡ loadRequest (now (ds .entry)) ⌝ }
+{
+    let c = carried_in(ds);
+    counted(
+        needed(base_layout::byte_at(ds, 0)),
+        ds,
+        ranged(c.is_in_range(), Order::LoadTrajectory(c)),
+    )
+}
+
+fn gains_in(ds: &[u8]) -> Gains
+    ensures { λ r. ⌜ r ≡ gainsIn (now (ds .entry)) ⌝ }
+{
+    Gains {
+        kp: two_at(ds, 0),
+        kd: two_at(ds, 2),
+        ki: two_at(ds, 4),
+        il: two_at(ds, 6),
+        ol: base_layout::byte_at(ds, 8),
+        el: two_at(ds, 10),
+    }
+}
+
+fn gains_fit(g: Gains) -> bool
+    ensures { λ r. ⌜ r ≡ gainsFit g ⌝ }
+{
+    (g.kp <= 32767) & (g.kd <= 32767) & (g.ki <= 32767) & (g.il <= 32767) & (g.el <= 16383)
+}
+
+fn gain_request(ds: &[u8]) -> Request
+    ensures { λ r. ⌜ r ≡ gainRequest (now (ds .entry)) ⌝ }
+{
+    let gains = gains_in(ds);
+    let fit = gains_fit(gains)
+        & (base_layout::byte_at(ds, 12) == 1)
+        & (base_layout::byte_at(ds, 13) == 0);
+    let tuning = Tuning {
+        gains,
+        cl: base_layout::byte_at(ds, 9),
+        sm: base_layout::byte_at(ds, 14),
+    };
+    counted(15, ds, ranged(fit, Order::SetGain(tuning)))
+}
+
+fn halt_of(control: u8) -> Halt
+    ensures { λ r. ⌜ r ≡ haltOf control ⌝ }
+{
+    if is_set(1, control) {
+        return Halt::Release;
+    }
+    if is_set(2, control) {
+        return Halt::Abrupt;
+    }
+    if is_set(3, control) {
+        return Halt::Smooth;
+    }
+    if is_set(4, control) {
+        return Halt::Here;
+    }
+    Halt::Keep
+}
+
+fn is_one_halt(control: u8) -> bool
+    ensures { λ r. ⌜ r ≡ oneHalt control ⌝ }
+{
+    (u8::count_ones(control / 2 % 16) <= 1) & (control / 32 == 0)
+}
+
+fn stop_count(control: u8) -> usize
+    ensures { λ r. ⌜ r ≡ stopCount control ⌝ }
+{
+    if is_set(4, control) { 5 } else { 1 }
+}
+
+fn stop_request(ds: &[u8]) -> Request
+    ensures { λ r. ⌜ r ≡ stopRequest (now (ds .entry)) ⌝ }
+{
+    let c = base_layout::byte_at(ds, 0);
+    let halt = halt_of(c);
+    let order = Order::Stop(is_set(0, c), halt, four_at(ds, 1));
+    counted(stop_count(c), ds, ranged(is_one_halt(c), order))
+}
+
+// What the type's own codes ask.
+fn own_request(code: u8, ds: &[u8]) -> Request
+    ensures { λ r. ⌜ r ≡ own code (now (ds .entry)) ⌝ }
+{
+    match code {
+        0 => counted(0, ds, Request::Wants(Order::ResetPosition)),
+        4 => load_request(ds),
+        5 => counted(0, ds, Request::Wants(Order::Start)),
+        6 => gain_request(ds),
+        7 => stop_request(ds),
+        11 => counted(0, ds, Request::Wants(Order::ClearBits)),
+        _ => Request::Malformed,
+    }
+}
+
+// What a frame asks; alone says that it was for this module individually.
+pub fn request_of(f: Head, alone: bool, ds: &[u8]) -> Request
+    ensures { λ r. ⌜ r ≡ request (frameOf f (now (ds .entry))) alone ⌝ }
+{
+    let asked = module_station::asked_by(f.code, alone, ds);
+    match asked {
+        Asked::Other => own_request(f.code, ds),
+        Asked::Malformed => Request::Malformed,
+        Asked::Wants(s) => Request::Wants(Order::Set(s)),
+        Asked::Reset => Request::Wants(Order::Reset),
+    }
+}

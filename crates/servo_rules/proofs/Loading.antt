@@ -1,0 +1,31 @@
+-- What a load stores, and that starts, stops and shifts keep the velocity and acceleration that were loaded. Assumes nothing.
+use mathlib.Core.Path.{refl}
+use mathlib.Core.Bool.{or-true}
+use Rattle.servo_parse.specs.Loads.{isSet}
+use Rattle.servo_rules.specs.Loads.{wayOf, ratesOf, loaded, start}
+use Rattle.servo_rules.specs.Orders.{resetPosition, stopped}
+use Rattle.servo_rules.specs.LoadPromises.{Loads, Ways}
+use Rattle.servo_rules.proofs.Keeping.{started-keeps, halted-keeps}
+
+pub loads : Loads
+unfolding loaded ratesOf start stopped resetPosition
+loads c m = record {
+  does = λ e. rw e refl;
+  load = refl;
+  profile = refl;
+  memory = refl;
+  drive = refl;
+  velocity = λ e. (rw e refl, rw e refl);
+  noVelocity = λ e. (rw e refl, rw e refl);
+  acceleration = λ e. (rw e refl, rw e refl);
+  noAcceleration = λ e. (rw e refl, rw e refl);
+  paced = λ e. rw e (or-true (isSet 1 (c .control)));
+  ramped = λ e. rw e (or-true (isSet 2 (c .control)));
+  used = started-keeps (m .load .way) m .rates;
+  stopping = λ a h x. halted-keeps h x m .rates;
+  shifting = refl;
+}
+
+pub ways : Ways
+unfolding wayOf
+ways control = (λ e. rw e refl, λ e g. rw (e, g) refl, λ e g. rw (e, g) refl)

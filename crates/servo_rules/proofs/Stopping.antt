@@ -1,0 +1,64 @@
+-- What each kind of stop leaves, and when it can be carried out. Assumes nothing.
+use mathlib.Core.Path.{_≡_, refl}
+use mathlib.Core.Bool.{Bool, true, false}
+use Prim.Native.Nat.{ℕ}
+use Rattle.servo_parse.specs.declared.Halt.{Halt}
+use Rattle.servo_parse.specs.declared.Halt.the-variants.{Keep, Release, Abrupt, Smooth, Here}
+use Rattle.servo_rules.specs.declared.Servo.{Servo}
+use Rattle.servo_rules.specs.Servo.{servoOff, idled, off}
+use Rattle.servo_rules.specs.Loads.{toSpeed}
+use Rattle.servo_rules.specs.Orders.{halted, holding, smooth, stopped}
+use Rattle.servo_rules.specs.StopPromises.{Released, Slows, Stops, StopsNow}
+use Rattle.servo_rules.proofs.Readying.{ready-is, is-ready}
+use Rattle.servo_rules.proofs.Keeping.{halted-keeps}
+
+module _ (a : Bool) (x : ℕ) (m : Servo) where
+  slows : servoOff (m .drive .mode) ≡ false → Slows m (stopped a Smooth x m)
+  unfolding stopped smooth toSpeed
+  slows e = record {
+    mode = rw e refl;
+    aim = rw e refl;
+    acceleration = rw e refl;
+    setpoint = rw e refl;
+    speed = rw e refl;
+    output = rw e refl;
+    memory = rw e refl;
+  }
+
+  slows-off : servoOff (m .drive .mode) ≡ true → Released (stopped a Smooth x m)
+  unfolding stopped smooth off idled
+  slows-off e = record { mode = rw e refl; speed = rw e refl; output = rw e refl; pulse = rw e refl; memory = rw e refl }
+
+  released : Released (stopped a Release x m)
+  unfolding stopped off idled
+  released = record { mode = refl; speed = refl; output = refl; pulse = refl; memory = refl }
+
+  waits-not : (h : Halt) → (h ≡ Keep → ⊥) → halted h x m .load .waits ≡ false
+  waits-not Keep n = absurd (n refl)
+  waits-not Release n = refl
+  waits-not Abrupt n = refl
+  waits-not Smooth n = refl
+  waits-not Here n = refl
+
+pub stops : Stops
+unfolding stopped holding
+stops a x m = record {
+  keep = refl;
+  release = released a x m;
+  abrupt = record { mode = refl; setpoint = refl; speed = refl; output = refl; memory = refl };
+  here = record { mode = refl; setpoint = refl; speed = refl; output = refl; memory = refl };
+  slow = slows a x m;
+  slowOff = slows-off a x m;
+  amplifier = λ h. refl;
+  error = λ h. halted-keeps h x m .error;
+  waits = waits-not a x m;
+}
+
+pub stops-now : StopsNow
+stops-now a x m = record {
+  abrupt = (ready-is m, is-ready m);
+  here = (ready-is m, is-ready m);
+  keep = refl;
+  release = refl;
+  slow = refl;
+}

@@ -1,0 +1,117 @@
+-- Loads and starts (document 01, "Servo", 4 Load Trajectory and 5 Start).
+use Prim.Native.Nat.{ℕ, _^_}
+use mathlib.Core.Bool.{Bool, true, cond, not, _&&_, _||_}
+use lib.Dec.{eqb, ltb}
+use lib.IntN.{ℤ, pos, negℤ}
+use Rattle.base_integers.specs.Whole.{same, less}
+use Rattle.servo_motion.specs.declared.Profile.{Profile}
+use Rattle.servo_motion.specs.Setpoint.{whole}
+use Rattle.servo_parse.specs.declared.Carried.{Carried}
+use Rattle.servo_parse.specs.Loads.{isSet}
+use Rattle.servo_rules.specs.declared.Mode.{Mode}
+use Rattle.servo_rules.specs.declared.Mode.the-variants.{Pwm, Velocity, Trapezoid}
+use Rattle.servo_rules.specs.declared.Way.{Way}
+use Rattle.servo_rules.specs.declared.Way.the-variants.{Pulse, Speed, Move}
+use Rattle.servo_rules.specs.declared.Load.{Load}
+use Rattle.servo_rules.specs.declared.Rates.{Rates}
+use Rattle.servo_rules.specs.declared.Drive.{Drive}
+use Rattle.servo_rules.specs.declared.Servo.{Servo}
+use Rattle.servo_rules.specs.Servo.{position, setpointAt, ready, servoOff, withLoad, dropped, running, driving, idled}
+
+-- 01 Load Trajectory: bit 4 clear is PWM, else bit 5 velocity mode, else a trapezoid
+unfoldable pub wayOf : ℕ → Way
+wayOf control = cond (isSet 4 control) (cond (isSet 5 control) Speed Move) Pulse
+
+-- 01 Load Trajectory: the load that waits afterwards; bit 6 reverses
+unfoldable pub loadOf : Carried → Load
+loadOf c = record {
+  waits = true;
+  way = wayOf (c .control);
+  placed = isSet 0 (c .control);
+  place = c .place;
+  pulsed = isSet 3 (c .control);
+  pulse = c .pulse;
+  reverse = isSet 6 (c .control);
+}
+
+-- 01 Load Trajectory: absent velocity and acceleration keep the numbers of earlier executed loads
+unfoldable pub ratesOf : Carried → Rates → Rates
+ratesOf c r = record {
+  velocity = cond (isSet 1 (c .control)) (c .velocity) (r .velocity);
+  acceleration = cond (isSet 2 (c .control)) (c .acceleration) (r .acceleration);
+  paced = isSet 1 (c .control) || r .paced;
+  ramped = isSet 2 (c .control) || r .ramped;
+}
+
+-- 01 Load Trajectory: an executed load replaces the waiting one
+unfoldable pub loaded : Carried → Servo → Servo
+loaded c m = withLoad (ratesOf c (m .rates)) (loadOf c) m
+
+-- 01 Load Trajectory: bit 7 starts now
+abbrev pub startsNow : Carried → Bool
+startsNow c = isSet 7 (c .control)
+
+-- 01 Start: the setpoint that a start begins with: from servo off, the position
+unfoldable pub beginning : Servo → ℕ
+beginning m = cond (servoOff (m .drive .mode)) (setpointAt (position m)) (m .profile .setpoint)
+
+-- 01 Start: velocity and acceleration have been loaded since power-up
+abbrev pub bothLoaded : Rates → Bool
+bothLoaded r = r .paced && r .ramped
+
+abbrev pub atRest : Servo → Bool
+atRest m = same (m .profile .speed) (pos 0)
+
+-- 01 Start: a trapezoid's load is complete with a position, a velocity above 0, no speed now, and a goal not 2 ^ 31 counts away
+unfoldable pub movable : Servo → Bool
+movable m =
+    bothLoaded (m .rates)
+    && m .load .placed
+    && ltb 0 (m .rates .velocity)
+    && atRest m
+    && not (eqb (less (m .load .place) (whole (beginning m))) (2 ^ 31))
+
+-- 01 Start: what a complete load is, by its mode
+abbrev pub completeBy : Way → Servo → Bool
+completeBy Pulse m = m .load .pulsed
+completeBy Speed m = bothLoaded (m .rates)
+completeBy Move m = movable m
+
+unfoldable pub complete : Servo → Bool
+complete m = completeBy (m .load .way) m
+
+-- 01 Start: a load waits, it is complete, power is 1 and the error bit is clear
+unfoldable pub startable : Servo → Bool
+startable m = m .load .waits && complete m && ready m
+
+-- 01 Load Trajectory: a number with its sign
+unfoldable pub signedBy : Bool → ℕ → ℤ
+signedBy reverse n = cond reverse (negℤ (pos n)) (pos n)
+
+-- 01 Tick: the drive of a servo that is on; its output stays until the tick
+abbrev pub servoing : Mode → Drive → Drive
+servoing mode d = driving mode (pos 0) (d .output) d
+
+-- 01 Start, Tick: a profile toward a goal speed, and one toward a position; the speed goes on from what it is
+abbrev pub aimed : ℕ → ℤ → ℕ → Profile → Profile
+aimed setpoint aim a p = record { setpoint = setpoint; speed = p .speed; goal = p .goal; aim = aim; acceleration = a; top = p .top }
+
+abbrev pub sent : ℕ → ℕ → ℕ → ℕ → Profile → Profile
+sent setpoint goal a top p = record { setpoint = setpoint; speed = p .speed; goal = goal; aim = p .aim; acceleration = a; top = top }
+
+-- 01 Start, Tick: velocity mode, and a trapezoid
+unfoldable pub toSpeed : ℕ → ℤ → ℕ → Servo → Servo
+toSpeed setpoint aim a m = running (aimed setpoint aim a (m .profile)) (m .memory) (servoing Velocity (m .drive)) m
+
+unfoldable pub toPlace : ℕ → ℕ → ℕ → ℕ → Servo → Servo
+toPlace setpoint goal a top m = running (sent setpoint goal a top (m .profile)) (m .memory) (servoing Trapezoid (m .drive)) m
+
+-- 01 Start: what a start of each mode makes of the servo
+abbrev pub startedBy : Way → Servo → Servo
+startedBy Pulse m = idled Pwm (signedBy (m .load .reverse) (m .load .pulse)) m
+startedBy Speed m = toSpeed (beginning m) (signedBy (m .load .reverse) (m .rates .velocity)) (m .rates .acceleration) m
+startedBy Move m = toPlace (beginning m) (m .load .place) (m .rates .acceleration) (m .rates .velocity) m
+
+-- 01 Start: starting uses the load up
+unfoldable pub start : Servo → Servo
+start m = dropped (startedBy (m .load .way) m)

@@ -1,0 +1,61 @@
+-- What is promised of a servo at rest (01 Tick, what motion is). Each is proved under its name, with small letters, in proofs/.
+use mathlib.Core.Path.{_≡_}
+use mathlib.Core.Logic.{_⊎_}
+use Prim.Native.Nat.{ℕ, _^_, _<_}
+use mathlib.Core.Bool.{Bool, true, false}
+use lib.IntN.{ℤ, pos}
+use Rattle.base_integers.specs.Whole.{difference}
+use Rattle.line_receiver.specs.Frames.{Frame}
+use Rattle.servo_motion.specs.declared.Profile.{Profile}
+use Rattle.servo_motion.specs.Setpoint.{whole}
+use Rattle.servo_motion.specs.Profile.{left}
+use Rattle.servo_parse.specs.declared.Halt.the-variants.{Here}
+use Rattle.servo_parse.specs.declared.Order.{Order}
+use Rattle.servo_parse.specs.declared.Order.the-variants.{Stop}
+use Rattle.servo_parse.specs.declared.Request.the-variants.{Wants}
+use Rattle.servo_parse.specs.Orders.{request}
+use Rattle.servo_rules.specs.declared.Sample.{Sample}
+use Rattle.servo_rules.specs.declared.Mode.{Mode}
+use Rattle.servo_rules.specs.declared.Mode.the-variants.{Velocity, Trapezoid}
+use Rattle.servo_rules.specs.declared.Servo.{Servo}
+use Rattle.servo_rules.specs.Servo.{position, started, sampled}
+use Rattle.servo_rules.specs.Orders.{can, execute}
+use Rattle.servo_rules.specs.Tick.{ticked}
+use Rattle.servo_rules.specs.LoadPromises.{Starting}
+use Rattle.servo_rules.specs.StopPromises.{Counted}
+
+-- neither moving nor about to: no speed, no PWM value, no goal speed, no distance left
+pub record Rests (p : Profile) (mode : Mode) (value : ℤ) : Type 0 where
+  pub speed : p .speed ≡ pos 0
+  pub pulse : value ≡ pos 0
+  pub aim : mode ≡ Velocity → p .aim ≡ pos 0
+  pub goal : mode ≡ Trapezoid → left p ≡ pos 0
+
+abbrev pub Resting : Servo → Type 0
+Resting m = Rests (m .profile) (m .drive .mode) (m .drive .pulse)
+
+-- A servo at rest stays at rest, and its setpoint where it is, until a Start or a load with bit 7 is carried out.
+pub record StaysResting : Type 0 where
+  pub power : Resting started
+  pub frame : (f : Frame) (alone : Bool) (m : Servo)
+      → Counted m
+      → Resting m
+      → ((c : Order) → f .damaged ≡ false → request f alone ≡ Wants c → can c m ≡ true → Starting c → ⊥)
+      → Resting (execute f alone m)
+  pub sampling : (x : Sample) (m : Servo) → Resting m → Resting (sampled x m)
+  pub tick : (m : Servo)
+      → m .profile .setpoint < 2 ^ 48
+      → Resting m
+      → Resting (ticked m) × (ticked m .profile .setpoint ≡ m .profile .setpoint)
+
+-- how far the setpoint is from the position
+abbrev pub following : Servo → ℤ
+following m = difference (whole (m .profile .setpoint)) (position m)
+
+-- No frame but an executed Stop Here puts the setpoint elsewhere: it stays as far from the position as it was, or is put at the position.
+abbrev pub OnlyHere : Type 0
+OnlyHere =
+    (f : Frame) (alone : Bool) (m : Servo)
+    → Counted m
+    → ((a : Bool) (x : ℕ) → f .damaged ≡ false → request f alone ≡ Wants (Stop a Here x) → can (Stop a Here x) m ≡ true → ⊥)
+    → (following (execute f alone m) ≡ following m) ⊎ (following (execute f alone m) ≡ pos 0)

@@ -1,0 +1,201 @@
+// The parts of a servo as bytes.
+ghost use mathlib.Core.Path.{_≡_};
+ghost use mathlib.Core.List.{[], _∷_, _++_};
+ghost use Rattle.base_integers.specs.Whole.{word};
+ghost use Rattle.base_layout.specs.Bytes.{le};
+ghost use Rattle.base_layout.specs.Codec.{bit};
+ghost use Rattle.servo_slot_rules.specs.Slot.{wayByte, modeByte, sample, tuning, rates, load, memory, drive};
+use servo_filter::Memory;
+use servo_parse::Tuning;
+use servo_rules::Drive;
+use servo_rules::Load;
+use servo_rules::Mode;
+use servo_rules::Rates;
+use servo_rules::Sample;
+use servo_rules::Way;
+
+fn way_byte(w: Way) -> u8
+    ensures { λ r. ⌜ r ≡ wayByte w ⌝ }
+{
+    match w {
+        Way::Pulse => 0,
+        Way::Speed => 1,
+        Way::Move => 2,
+    }
+}
+
+fn mode_byte(m: Mode) -> u8
+    ensures { λ r. ⌜ r ≡ modeByte m ⌝ }
+{
+    match m {
+        Mode::Off => 0,
+        Mode::Pwm => 1,
+        Mode::Hold => 2,
+        Mode::Velocity => 3,
+        Mode::Trapezoid => 4,
+    }
+}
+
+pub fn sample_bytes(x: Sample) -> [u8; 6]
+    ensures { λ r. ⌜ r ≡ sample .codec .enc x ⌝ }
+{
+    [
+        (x.raw % 256) as u8,
+        (x.raw / 256 % 256) as u8,
+        (x.raw / 256 / 256 % 256) as u8,
+        (x.raw / 256 / 256 / 256 % 256) as u8,
+        x.power,
+        x.ad,
+    ]
+}
+
+// Two numbers of four bytes.
+pub fn pair_bytes(a: u32, b: u32) -> [u8; 8]
+    ensures { λ r. ⌜ r ≡ le 4 a ++ le 4 b ⌝ }
+{
+    [
+        (a % 256) as u8,
+        (a / 256 % 256) as u8,
+        (a / 256 / 256 % 256) as u8,
+        (a / 256 / 256 / 256 % 256) as u8,
+        (b % 256) as u8,
+        (b / 256 % 256) as u8,
+        (b / 256 / 256 % 256) as u8,
+        (b / 256 / 256 / 256 % 256) as u8,
+    ]
+}
+
+pub fn tuning_bytes(t: Tuning) -> [u8; 13]
+    ensures { λ r. ⌜ r ≡ tuning .codec .enc t ⌝ }
+{
+    let g = t.gains;
+    [
+        (g.kp % 256) as u8,
+        (g.kp / 256 % 256) as u8,
+        (g.kd % 256) as u8,
+        (g.kd / 256 % 256) as u8,
+        (g.ki % 256) as u8,
+        (g.ki / 256 % 256) as u8,
+        (g.il % 256) as u8,
+        (g.il / 256 % 256) as u8,
+        g.ol,
+        (g.el % 256) as u8,
+        (g.el / 256 % 256) as u8,
+        t.cl,
+        t.sm,
+    ]
+}
+
+pub fn rates_bytes(r: Rates) -> [u8; 10]
+    ensures { λ q. ⌜ q ≡ rates .codec .enc r ⌝ }
+{
+    [
+        (r.velocity % 256) as u8,
+        (r.velocity / 256 % 256) as u8,
+        (r.velocity / 256 / 256 % 256) as u8,
+        (r.velocity / 256 / 256 / 256 % 256) as u8,
+        (r.acceleration % 256) as u8,
+        (r.acceleration / 256 % 256) as u8,
+        (r.acceleration / 256 / 256 % 256) as u8,
+        (r.acceleration / 256 / 256 / 256 % 256) as u8,
+        r.paced as u8,
+        r.ramped as u8,
+    ]
+}
+
+pub fn load_bytes(l: Load) -> [u8; 10]
+    ensures { λ r. ⌜ r ≡ load .codec .enc l ⌝ }
+{
+    let w = l.way;
+    let way = way_byte(w);
+    [
+        l.waits as u8,
+        way,
+        l.placed as u8,
+        (l.place % 256) as u8,
+        (l.place / 256 % 256) as u8,
+        (l.place / 256 / 256 % 256) as u8,
+        (l.place / 256 / 256 / 256 % 256) as u8,
+        l.pulsed as u8,
+        l.pulse,
+        l.reverse as u8,
+    ]
+}
+
+pub fn setpoint_bytes(x: u64) -> [u8; 6]
+    ensures { λ r. ⌜ r ≡ le 6 x ⌝ }
+{
+    [
+        (x % 256) as u8,
+        (x / 256 % 256) as u8,
+        (x / 256 / 256 % 256) as u8,
+        (x / 256 / 256 / 256 % 256) as u8,
+        (x / 256 / 256 / 256 / 256 % 256) as u8,
+        (x / 256 / 256 / 256 / 256 / 256 % 256) as u8,
+    ]
+}
+
+// What stands after the setpoint: five numbers of four bytes.
+pub fn course_bytes(speed: u32, goal: u32, aim: u32, acceleration: u32, top: u32) -> [u8; 20]
+    ensures { λ r. ⌜ r ≡ le 4 speed ++ le 4 goal ++ le 4 aim ++ le 4 acceleration ++ le 4 top ⌝ }
+{
+    [
+        (speed % 256) as u8,
+        (speed / 256 % 256) as u8,
+        (speed / 256 / 256 % 256) as u8,
+        (speed / 256 / 256 / 256 % 256) as u8,
+        (goal % 256) as u8,
+        (goal / 256 % 256) as u8,
+        (goal / 256 / 256 % 256) as u8,
+        (goal / 256 / 256 / 256 % 256) as u8,
+        (aim % 256) as u8,
+        (aim / 256 % 256) as u8,
+        (aim / 256 / 256 % 256) as u8,
+        (aim / 256 / 256 / 256 % 256) as u8,
+        (acceleration % 256) as u8,
+        (acceleration / 256 % 256) as u8,
+        (acceleration / 256 / 256 % 256) as u8,
+        (acceleration / 256 / 256 / 256 % 256) as u8,
+        (top % 256) as u8,
+        (top / 256 % 256) as u8,
+        (top / 256 / 256 % 256) as u8,
+        (top / 256 / 256 / 256 % 256) as u8,
+    ]
+}
+
+pub fn memory_bytes(y: Memory) -> [u8; 8]
+    ensures { λ r. ⌜ r ≡ memory .codec .enc y ⌝ }
+{
+    pair_bytes(
+        base_integers::word(y.integral),
+        base_integers::word(y.previous),
+    )
+}
+
+// The mode's number, the two numbers as words and the two bits of a drive.
+fn drive_parts_bytes(mode: u8, pulse: u32, output: u32, error: bool, amplifier: bool) -> [u8; 11]
+    ensures { λ r. ⌜ r ≡ mode ∷ le 4 pulse ++ le 4 output ++ bit error ∷ bit amplifier ∷ [] ⌝ }
+{
+    [
+        mode,
+        (pulse % 256) as u8,
+        (pulse / 256 % 256) as u8,
+        (pulse / 256 / 256 % 256) as u8,
+        (pulse / 256 / 256 / 256 % 256) as u8,
+        (output % 256) as u8,
+        (output / 256 % 256) as u8,
+        (output / 256 / 256 % 256) as u8,
+        (output / 256 / 256 / 256 % 256) as u8,
+        error as u8,
+        amplifier as u8,
+    ]
+}
+
+pub fn drive_bytes(d: Drive) -> [u8; 11]
+    ensures { λ r. ⌜ r ≡ drive .codec .enc d ⌝ }
+{
+    let mode = d.mode;
+    let pulse = base_integers::word(d.pulse);
+    let output = base_integers::word(d.output);
+    drive_parts_bytes(mode_byte(mode), pulse, output, d.error, d.amplifier)
+}

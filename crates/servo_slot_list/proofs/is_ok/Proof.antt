@@ -1,0 +1,65 @@
+-- `servo_slot_list::is_ok` meets its contract. Assumes nothing.
+use Rattle.servo_slot_rules.proofs.Tested.{ok-is, ranged-in}
+use Rattle.servo_slot_rules.specs.List.{soundAt}
+use Rattle.servo_slot_rules.specs.Slot.{okOf}
+use Rattle.servo_motion.specs.Profile.{Ranged}
+use Prim.Native.Nat.{ℕ}
+use native.Mathlib.Omega.{arith}
+use lib.ListN.{getD}
+use mathlib.Core.Bool.{Bool, true, _&&_}
+use mathlib.Core.List.{List}
+use mathlib.Core.Path.{_≡_, sym, ap, _∙_}
+use borrow.Author.Needs.{needs}
+use Rattle.servo_slot_list.proofs.is_ok.Statement.{statement}
+use Rattle.servo_slot_list.proofs.is_ok.Tie as tie
+
+-- what is known when all but the last test is made
+module _ (c : tie.After-is-motion-ok) where
+  abbrev drives : tie.After-drive-in
+  drives = c .before .before .before
+
+  abbrev profiles : tie.After-profile-in
+  profiles = drives .before .before
+
+  abbrev start : tie.After-shared-slice-known
+  start = profiles .before .before
+
+  abbrev slot : List ℕ
+  slot = start .before .args .s .now
+
+  abbrev soundHere : Bool
+  soundHere = soundAt (getD slot 18 0) (profiles .profile-in .result) (drives .before .memory-in .result) (drives .drive-in .result)
+
+  tests : okOf slot ≡ (c .is-motion-ok .result && soundHere)
+  tests = ok-is slot (profiles .before .rates-in .ensures) (profiles .profile-in .ensures) (drives .before .memory-in .ensures) (drives .drive-in .ensures)
+      (c .before .before .is-front-ok .ensures) (c .before .is-load-ok .ensures) (c .is-motion-ok .ensures)
+
+  ranged : c .is-motion-ok .result ≡ true → Ranged (profiles .profile-in .result)
+  ranged = ranged-in slot (profiles .before .rates-in .ensures) (profiles .profile-in .ensures) (drives .before .memory-in .ensures) (drives .drive-in .ensures)
+      (c .before .before .is-front-ok .ensures) (c .before .is-load-ok .ensures) (c .is-motion-ok .ensures)
+      (λ i. omega (arith, start .shared-slice-known .given i))
+
+is-sound-requires : tie.Need-is-sound-requires
+is-sound-requires c κs = ranged (c .before .before) (c .before .if1 .taken)
+
+returns : tie.Need-returns
+returns c = let t = c .before .before in c .is-sound .ensures ∙ sym (tests (t .before) ∙ ap (λ (b : Bool). b && soundHere (t .before)) (t .if1 .taken))
+
+returns-2 : tie.Need-returns-2
+returns-2 c = sym (tests (c .before) ∙ ap (λ (b : Bool). b && soundHere (c .before)) (c .if1 .left))
+
+pub is-ok-spec : {M : Type 1} → statement M
+is-ok-spec =
+    tie.close
+    (tie.spec
+    (λ c κs. search needs)
+    (λ c κs. search needs)
+    (λ c κs. search needs)
+    (λ c κs. search needs)
+    (λ c κs. search needs)
+    (λ c κs. search needs)
+    (λ c κs. search needs)
+    (λ c. search needs)
+    is-sound-requires
+    returns
+    returns-2)

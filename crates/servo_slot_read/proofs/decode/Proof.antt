@@ -1,0 +1,25 @@
+-- `servo_slot_read::decode` meets its contract. Assumes nothing.
+use Rattle.servo_slot_rules.specs.Slot.{decodeOf}
+use borrow.Author.Needs.{needs}
+use Rattle.servo_slot_read.proofs.decode.Statement.{statement}
+use Rattle.servo_slot_read.proofs.decode.Tie as tie
+
+returns : tie.Need-returns
+unfolding decodeOf
+returns c = rw (c .drive-in .ensures, c .before .memory-in .ensures, c .before .before .profile-in .ensures, c .before .before .before .load-in .ensures, c .before .before .before .before .rates-in .ensures, c .before .before .before .before .before .tuning-in .ensures, c .before .before .before .before .before .before .counts-in .ensures, c .before .before .before .before .before .before .before .sample-in2 .ensures, c .before .before .before .before .before .before .before .before .sample-in .ensures, c .before .before .before .before .before .before .before .before .before .in-slot .ensures)
+
+pub decode-spec : {M : Type 1} → statement M
+decode-spec =
+    tie.close
+    (tie.spec
+    (λ c κs. search needs)
+    (λ c κs. search needs)
+    (λ c κs. search needs)
+    (λ c κs. search needs)
+    (λ c κs. search needs)
+    (λ c κs. search needs)
+    (λ c κs. search needs)
+    (λ c κs. search needs)
+    (λ c κs. search needs)
+    (λ c κs. search needs)
+    returns)

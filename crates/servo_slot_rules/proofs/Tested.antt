@@ -1,0 +1,55 @@
+-- The tests of a slot are its list, and what a valid slot gives to the calls on it. Assumes nothing.
+use mathlib.Core.Path.{_≡_, sym, ap, _∙_}
+use mathlib.Core.List.{List, _∷_}
+use mathlib.Core.Bool.{Bool, true, _&&_}
+use Prim.Native.Nat.{ℕ, _<_}
+use native.Mathlib.Omega.{arith}
+use lib.IntN.{natAbs}
+use lib.ListN.{getD}
+use Rattle.base_layout.specs.Bytes.{Bytes}
+use Rattle.base_layout.specs.Every.{every, everyFrom}
+use Rattle.base_layout.proofs.Codec.{head-sound}
+use Rattle.base_layout.proofs.Every.{every-hold}
+use Rattle.line_receiver.specs.Frames.{Frame}
+use Rattle.servo_motion.specs.declared.Profile.{Profile}
+use Rattle.servo_motion.specs.Profile.{Ranged, inRange}
+use Rattle.servo_motion.proofs.Tests.{in-ranges}
+use Rattle.servo_filter.specs.declared.Memory.{Memory}
+use Rattle.servo_rules.specs.declared.Rates.{Rates}
+use Rattle.servo_rules.specs.declared.Drive.{Drive}
+use Rattle.servo_rules.specs.Orders.{execute}
+use Rattle.servo_rules.specs.Tick.{Steady}
+use Rattle.servo_slot_rules.specs.List.{soundAt, sound}
+use Rattle.servo_slot_rules.specs.Slot.{slot, rates, profile, memory, drive, decodeOf, okOf}
+use Rattle.servo_slot_rules.specs.Parts.{frontTests, loadTests, motionTests}
+use Rattle.servo_slot_rules.specs.Promises.{Fits}
+use Rattle.servo_slot_rules.proofs.Good.{good}
+use Rattle.servo_slot_rules.proofs.Within.{kept, defined}
+
+module _ (s : List ℕ) {r : Rates} {p : Profile} {y : Memory} {d : Drive} {front load run : Bool} (er : r ≡ rates .codec .dec 41 s)
+    (ep : p ≡ profile .codec .dec 61 s) (ey : y ≡ memory .codec .dec 87 s) (ed : d ≡ drive .codec .dec 95 s) (ef : front ≡ every (frontTests s))
+    (el : load ≡ everyFrom front (loadTests r s)) (eu : run ≡ everyFrom load (motionTests p y d s)) where
+  pub ok-is : okOf s ≡ (run && soundAt (getD s 18 0) p y d)
+  unfolding okOf sound
+  ok-is = rw (eu, el, ef, ed, ey, ep, er)
+
+  -- the last test is only made where the profile is in range
+  pub ranged-in : Bytes s → run ≡ true → Ranged p
+  ranged-in bytes e =
+      let h = every-hold (load ∷ motionTests p y d s) (sym eu ∙ e) .1 .0 in
+      let t = profile .lawful .sound 61 s bytes (ap inRange (sym ep) ∙ h, tt) in
+      rw ep (in-ranges (profile .codec .dec 61 s) (t .0 .0) (t .0 .1 .1 .0) .0 (t .1))
+
+module _ (s : List ℕ) (bytes : Bytes s) (ok : okOf s ≡ true) where
+  fits-in : Fits (decodeOf s)
+  unfolding decodeOf okOf
+  fits-in = head-sound (slot .lawful) s bytes ok
+
+  pub steady-in : Steady (decodeOf s)
+  steady-in = defined (decodeOf s) fits-in
+
+  pub output-in : natAbs (decodeOf s .drive .output) < 256
+  output-in = omega (arith, good (decodeOf s) fits-in .sane .output)
+
+  pub ranged-after : (f : Frame) (alone : Bool) → Bytes (f .content) → Ranged (execute f alone (decodeOf s) .profile)
+  ranged-after f alone b = defined (execute f alone (decodeOf s)) (kept .frame f alone (decodeOf s) b fits-in) .profile

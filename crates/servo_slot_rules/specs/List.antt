@@ -1,0 +1,58 @@
+-- What a servo in a slot satisfies beyond the ranges of its bytes (document 01, "Numbers given back", the list for 16).
+use mathlib.Core.Bool.{Bool, not, _&&_, _||_}
+use Prim.Native.Nat.{ℕ}
+use lib.Dec.{eqb, leb}
+use lib.IntN.{pos, natAbs}
+use Rattle.base_integers.specs.Whole.{same}
+use Rattle.servo_motion.specs.declared.Profile.{Profile}
+use Rattle.servo_motion.specs.Profile.{fastest, running}
+use Rattle.servo_filter.specs.declared.Memory.{Memory}
+use Rattle.servo_rules.specs.declared.Rates.{Rates}
+use Rattle.servo_rules.specs.declared.Mode.{Mode}
+use Rattle.servo_rules.specs.declared.Mode.the-variants.{Off, Pwm, Hold, Velocity, Trapezoid}
+use Rattle.servo_rules.specs.declared.Drive.{Drive}
+use Rattle.servo_rules.specs.declared.Servo.{Servo}
+
+-- loaded velocity and acceleration are at most the greatest; an acceleration that was loaded is not 0
+unfoldable pub ratesFit : Rates → Bool
+ratesFit r = leb (r .velocity) fastest && leb (r .acceleration) fastest && (not (r .ramped) || leb 1 (r .acceleration))
+
+-- the integral within 32,767, the previous error within 16,383
+unfoldable pub memoryFits : Memory → Bool
+memoryFits y = leb (natAbs (y .integral)) 32767 && leb (natAbs (y .previous)) 16383
+
+-- PWM value and output within 255
+unfoldable pub driveFits : Drive → Bool
+driveFits d = leb (natAbs (d .pulse)) 255 && leb (natAbs (d .output)) 255
+
+-- the memory that off leaves
+unfoldable pub emptied : Memory → Bool
+emptied y = same (y .integral) (pos 0) && same (y .previous) (pos 0)
+
+abbrev pub silent : Drive → Bool
+silent d = same (d .output) (pos 0)
+
+abbrev pub unpulsed : Drive → Bool
+unpulsed d = same (d .pulse) (pos 0)
+
+abbrev pub still : Profile → Bool
+still p = same (p .speed) (pos 0)
+
+-- what every mode but off needs: a clear error bit, and power that is not low
+abbrev pub live : ℕ → Drive → Bool
+live power d = not (d .error) && not (eqb power 0)
+
+-- each mode's own conditions; a trapezoid goes toward its goal and can still stop within the distance left
+abbrev pub modeFits : Mode → ℕ → Profile → Memory → Drive → Bool
+modeFits Off power p y d = still p && silent d && emptied y && unpulsed d
+modeFits Pwm power p y d = still p && emptied y && live power d
+modeFits Hold power p y d = still p && unpulsed d && live power d
+modeFits Velocity power p y d = unpulsed d && live power d
+modeFits Trapezoid power p y d = unpulsed d && live power d && running p
+
+-- without good power there is no output
+unfoldable pub soundAt : ℕ → Profile → Memory → Drive → Bool
+soundAt power p y d = (eqb power 1 || silent d) && modeFits (d .mode) power p y d
+
+unfoldable pub sound : Servo → Bool
+sound m = soundAt (m .latched .power) (m .profile) (m .memory) (m .drive)

@@ -1,0 +1,227 @@
+-- How a servo stands in a slot: 106 bytes, of which the first is its type.
+use mathlib.Core.Path.{_≡_, refl}
+use Prim.Native.Nat.{ℕ, zero, suc, _≤_}
+use native.Mathlib.Omega.{arith}
+use mathlib.Core.List.{List}
+use mathlib.Core.Bool.{Bool}
+use lib.IntN.{ℤ}
+use Rattle.base_layout.specs.Codec.{okIn}
+use Rattle.base_layout.proofs.Shape.{Shape, byte, number, capped, topped, whole, flag, oneOf, stamp, such, _then_, shaped}
+use Rattle.module_station.specs.declared.Station.{Station}
+use Rattle.module_station.specs.Slot.{station}
+use Rattle.servo_motion.specs.declared.Profile.{Profile}
+use Rattle.servo_motion.specs.Profile.{inRange}
+use Rattle.servo_filter.specs.declared.Gains.{Gains}
+use Rattle.servo_filter.specs.declared.Memory.{Memory}
+use Rattle.servo_parse.specs.declared.Tuning.{Tuning}
+use Rattle.servo_rules.specs.declared.Sample.{Sample}
+use Rattle.servo_rules.specs.declared.Counts.{Counts}
+use Rattle.servo_rules.specs.declared.Way.{Way}
+use Rattle.servo_rules.specs.declared.Way.the-variants.{Pulse, Speed, Move}
+use Rattle.servo_rules.specs.declared.Load.{Load}
+use Rattle.servo_rules.specs.declared.Rates.{Rates}
+use Rattle.servo_rules.specs.declared.Mode.{Mode}
+use Rattle.servo_rules.specs.declared.Mode.the-variants.{Off, Pwm, Hold, Velocity, Trapezoid}
+use Rattle.servo_rules.specs.declared.Drive.{Drive}
+use Rattle.servo_rules.specs.declared.Servo.{Servo}
+use Rattle.servo_slot_rules.specs.List.{ratesFit, memoryFits, driveFits, sound}
+
+abbrev pub typeByte : ℕ
+typeByte = 0
+
+-- the numbers of the ways and of the modes
+abbrev pub wayByte : Way → ℕ
+wayByte Pulse = 0
+wayByte Speed = 1
+wayByte Move = 2
+
+abbrev pub wayIn : ℕ → Way
+wayIn zero = Pulse
+wayIn (suc zero) = Speed
+wayIn (suc (suc n)) = Move
+
+abbrev pub modeByte : Mode → ℕ
+modeByte Off = 0
+modeByte Pwm = 1
+modeByte Hold = 2
+modeByte Velocity = 3
+modeByte Trapezoid = 4
+
+abbrev pub modeIn : ℕ → Mode
+modeIn zero = Off
+modeIn (suc zero) = Pwm
+modeIn (suc (suc zero)) = Hold
+modeIn (suc (suc (suc zero))) = Velocity
+modeIn (suc (suc (suc (suc n)))) = Trapezoid
+
+pub way-most : (x : Way) → wayByte x ≤ 2
+way-most Pulse = omega arith
+way-most Speed = omega arith
+way-most Move = omega arith
+
+pub way-back : (x : Way) → wayIn (wayByte x) ≡ x
+way-back Pulse = refl
+way-back Speed = refl
+way-back Move = refl
+
+pub way-there : (n : ℕ) → n ≤ 2 → wayByte (wayIn n) ≡ n
+way-there zero h = refl
+way-there (suc zero) h = refl
+way-there (suc (suc zero)) h = refl
+way-there (suc (suc (suc n))) h = absurd (omega arith)
+
+pub mode-most : (x : Mode) → modeByte x ≤ 4
+mode-most Off = omega arith
+mode-most Pwm = omega arith
+mode-most Hold = omega arith
+mode-most Velocity = omega arith
+mode-most Trapezoid = omega arith
+
+pub mode-back : (x : Mode) → modeIn (modeByte x) ≡ x
+mode-back Off = refl
+mode-back Pwm = refl
+mode-back Hold = refl
+mode-back Velocity = refl
+mode-back Trapezoid = refl
+
+pub mode-there : (n : ℕ) → n ≤ 4 → modeByte (modeIn n) ≡ n
+mode-there zero h = refl
+mode-there (suc zero) h = refl
+mode-there (suc (suc zero)) h = refl
+mode-there (suc (suc (suc zero))) h = refl
+mode-there (suc (suc (suc (suc zero)))) h = refl
+mode-there (suc (suc (suc (suc (suc n))))) h = absurd (omega arith)
+
+abbrev pub way : Shape Way
+way = oneOf 2 (omega arith) wayByte wayIn way-most way-back way-there
+
+abbrev pub mode : Shape Mode
+mode = oneOf 4 (omega arith) modeByte modeIn mode-most mode-back mode-there
+
+-- the parts of each struct in the order of the slot, and the struct of its parts
+abbrev pub sampleParts : Sample → ℕ × (ℕ × ℕ)
+sampleParts x = (x .raw, (x .power, x .ad))
+
+abbrev pub sampleOf : ℕ × (ℕ × ℕ) → Sample
+sampleOf t = record { raw = t .0; power = t .1 .0; ad = t .1 .1 }
+
+abbrev pub countsParts : Counts → ℕ × ℕ
+countsParts x = (x .offset, x .last)
+
+abbrev pub countsOf : ℕ × ℕ → Counts
+countsOf t = record { offset = t .0; last = t .1 }
+
+abbrev pub gainsParts : Gains → ℕ × (ℕ × (ℕ × (ℕ × (ℕ × ℕ))))
+gainsParts g = (g .kp, (g .kd, (g .ki, (g .il, (g .ol, g .el)))))
+
+abbrev pub gainsOf : ℕ × (ℕ × (ℕ × (ℕ × (ℕ × ℕ)))) → Gains
+gainsOf t = record { kp = t .0; kd = t .1 .0; ki = t .1 .1 .0; il = t .1 .1 .1 .0; ol = t .1 .1 .1 .1 .0; el = t .1 .1 .1 .1 .1 }
+
+abbrev pub tuningParts : Tuning → Gains × (ℕ × ℕ)
+tuningParts x = (x .gains, (x .cl, x .sm))
+
+abbrev pub tuningOf : Gains × (ℕ × ℕ) → Tuning
+tuningOf t = record { gains = t .0; cl = t .1 .0; sm = t .1 .1 }
+
+abbrev pub ratesParts : Rates → ℕ × (ℕ × (Bool × Bool))
+ratesParts r = (r .velocity, (r .acceleration, (r .paced, r .ramped)))
+
+abbrev pub ratesOf : ℕ × (ℕ × (Bool × Bool)) → Rates
+ratesOf t = record { velocity = t .0; acceleration = t .1 .0; paced = t .1 .1 .0; ramped = t .1 .1 .1 }
+
+abbrev pub loadParts : Load → Bool × (Way × (Bool × (ℕ × (Bool × (ℕ × Bool)))))
+loadParts l = (l .waits, (l .way, (l .placed, (l .place, (l .pulsed, (l .pulse, l .reverse))))))
+
+abbrev pub loadOf : Bool × (Way × (Bool × (ℕ × (Bool × (ℕ × Bool))))) → Load
+loadOf t = record {
+  waits = t .0;
+  way = t .1 .0;
+  placed = t .1 .1 .0;
+  place = t .1 .1 .1 .0;
+  pulsed = t .1 .1 .1 .1 .0;
+  pulse = t .1 .1 .1 .1 .1 .0;
+  reverse = t .1 .1 .1 .1 .1 .1;
+}
+
+abbrev pub profileParts : Profile → ℕ × (ℤ × (ℕ × (ℤ × (ℕ × ℕ))))
+profileParts p = (p .setpoint, (p .speed, (p .goal, (p .aim, (p .acceleration, p .top)))))
+
+abbrev pub profileOf : ℕ × (ℤ × (ℕ × (ℤ × (ℕ × ℕ)))) → Profile
+profileOf t = record { setpoint = t .0; speed = t .1 .0; goal = t .1 .1 .0; aim = t .1 .1 .1 .0; acceleration = t .1 .1 .1 .1 .0; top = t .1 .1 .1 .1 .1 }
+
+abbrev pub memoryParts : Memory → ℤ × ℤ
+memoryParts y = (y .integral, y .previous)
+
+abbrev pub memoryOf : ℤ × ℤ → Memory
+memoryOf t = record { integral = t .0; previous = t .1 }
+
+abbrev pub driveParts : Drive → Mode × (ℤ × (ℤ × (Bool × Bool)))
+driveParts d = (d .mode, (d .pulse, (d .output, (d .error, d .amplifier))))
+
+abbrev pub driveOf : Mode × (ℤ × (ℤ × (Bool × Bool))) → Drive
+driveOf t = record { mode = t .0; pulse = t .1 .0; output = t .1 .1 .0; error = t .1 .1 .1 .0; amplifier = t .1 .1 .1 .1 }
+
+abbrev pub Parts : Type 0
+Parts = Unit {0} × (Station × (Sample × (Sample × (Counts × (Tuning × (Rates × (Load × (Profile × (Memory × Drive)))))))))
+
+abbrev pub servoParts : Servo → Parts
+servoParts m = (tt, (m .station, (m .waiting, (m .latched, (m .counts, (m .tuning, (m .rates, (m .load, (m .profile, (m .memory, m .drive))))))))))
+
+abbrev pub servoOf : Parts → Servo
+servoOf t = record {
+  station = t .1 .0;
+  waiting = t .1 .1 .0;
+  latched = t .1 .1 .1 .0;
+  counts = t .1 .1 .1 .1 .0;
+  tuning = t .1 .1 .1 .1 .1 .0;
+  rates = t .1 .1 .1 .1 .1 .1 .0;
+  load = t .1 .1 .1 .1 .1 .1 .1 .0;
+  profile = t .1 .1 .1 .1 .1 .1 .1 .1 .0;
+  memory = t .1 .1 .1 .1 .1 .1 .1 .1 .1 .0;
+  drive = t .1 .1 .1 .1 .1 .1 .1 .1 .1 .1;
+}
+
+-- power is 0 to 2
+abbrev pub sample : Shape Sample
+sample = shaped sampleOf sampleParts (λ t. refl) (λ x. refl) (number 4 then capped 2 then byte)
+
+abbrev pub counts : Shape Counts
+counts = shaped countsOf countsParts (λ t. refl) (λ x. refl) (number 4 then number 4)
+
+-- gains and IL below 32,768, EL below 16,384
+abbrev pub gains : Shape Gains
+gains = shaped gainsOf gainsParts (λ t. refl) (λ g. refl) (topped 127 then topped 127 then topped 127 then topped 127 then byte then topped 63)
+
+abbrev pub tuning : Shape Tuning
+tuning = shaped tuningOf tuningParts (λ t. refl) (λ x. refl) (gains then byte then byte)
+
+abbrev pub rates : Shape Rates
+rates = such ratesFit (shaped ratesOf ratesParts (λ t. refl) (λ r. refl) (number 4 then number 4 then flag then flag))
+
+abbrev pub load : Shape Load
+load = shaped loadOf loadParts (λ t. refl) (λ l. refl) (flag then way then flag then number 4 then flag then byte then flag)
+
+abbrev pub profile : Shape Profile
+profile = such inRange (shaped profileOf profileParts (λ t. refl) (λ p. refl) (number 6 then whole then number 4 then whole then number 4 then number 4))
+
+abbrev pub memory : Shape Memory
+memory = such memoryFits (shaped memoryOf memoryParts (λ t. refl) (λ y. refl) (whole then whole))
+
+abbrev pub drive : Shape Drive
+drive = such driveFits (shaped driveOf driveParts (λ t. refl) (λ d. refl) (mode then whole then whole then flag then flag))
+
+abbrev pub slot : Shape Servo
+slot =
+    such sound
+    (shaped servoOf servoParts (λ t. refl) (λ m. refl)
+    (stamp typeByte (omega arith) then station then sample then sample then counts then tuning then rates then load then profile then memory then drive))
+
+-- a servo's bytes, the servo in a slot, and whether a slot is valid
+unfoldable pub encodeOf : Servo → List ℕ
+encodeOf m = slot .codec .enc m
+
+unfoldable pub decodeOf : List ℕ → Servo
+decodeOf s = slot .codec .dec 0 s
+
+unfoldable pub okOf : List ℕ → Bool
+okOf s = okIn (slot .codec) s

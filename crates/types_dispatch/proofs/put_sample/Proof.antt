@@ -1,0 +1,23 @@
+-- `types_dispatch::put_sample` meets its contract. Assumes nothing.
+use borrow.Author.Needs.{needs}
+use Rattle.types_dispatch.proofs.put_sample.Statement.{statement}
+use Rattle.types_dispatch.proofs.put_sample.Tie as tie
+
+returns : tie.Need-returns
+returns c = rw (c .before .before .before .before .before .x .given .1) (c .before .before .put-servo-sample .ensures)
+
+returns-2 : tie.Need-returns-2
+returns-2 c = rw (c .before .before .before .before .before .x2 .given .1) (c .before .before .put-io-sample .ensures)
+
+pub put-sample-spec : {M : Type 1} → statement M
+put-sample-spec =
+    tie.close
+    (tie.spec
+    (λ c. search needs)
+    (λ c κs. search needs)
+    (λ c. search needs)
+    (λ c κs. search needs)
+    (λ c. search needs)
+    returns
+    (λ c. search needs)
+    returns-2)

@@ -1,0 +1,109 @@
+// The calls on a slot of either type: each goes to the crate of its type, by the first byte.
+ghost use mathlib.Core.Path.{_≡_};
+ghost use mathlib.Core.Bool.{true};
+ghost use mathlib.Core.Logic.{inl, inr};
+ghost use Prim.Native.Nat.{_+_, _≤_};
+ghost use lib.ListN.{length};
+ghost use Rattle.base_layout.specs.Bytes.{pasted};
+ghost use Rattle.module_station.specs.Touch.{frameOf};
+ghost use Rattle.chain_rules.specs.Chain.{executed, replied};
+ghost use Rattle.chain_rules.specs.Slots.{slotSize};
+ghost use Rattle.types_rules.specs.Types.{kind, slots, known, powered, measured, outputs};
+use module_station::Head;
+use types_rules::Measured;
+
+pub fn is_known(t: u8) -> bool
+    ensures { λ r. ⌜ r ≡ known t ⌝ }
+{
+    (t == 0) | (t == 2)
+}
+
+// Whether a slot holds a valid module.
+pub fn is_ok(s: &[u8]) -> bool
+    requires { ⌜ length (now s) ≡ slotSize ⌝ }
+    ensures { λ r. ⌜ r ≡ slots .ok (now (s .entry)) ⌝ }
+{
+    if s[0] == 0 {
+        return servo_slot_list::is_ok(s);
+    }
+    inout_slot::is_ok(s)
+}
+
+// A module of a known type at power-up, put into a slot.
+pub fn power_up(s: &mut [u8], t: u8)
+    requires { ⌜ (length (now s) ≡ slotSize) × (known t ≡ true) ⌝ }
+    ensures { λ _. ⌜ now (s .exit) ≡ pasted 0 (slots .enc (powered t)) (now (s .entry)) ⌝ }
+{
+    if t == 0 {
+        servo_slot_put::put(s, servo_perform::power_up());
+    } else {
+        inout_slot::put(s, inout_perform::power_up());
+    }
+}
+
+// A frame that touches the module in a slot: the module after it, and its reply in the room from place from on; how many bytes that has.
+pub fn touch(s: &mut [u8], f: Head, ds: &[u8], room: &mut [u8], from: usize) -> usize
+    requires { ⌜ (length (now s) ≡ slotSize) × (slots .ok (now s) ≡ true) × (from + 19 ≤ length (now room)) ⌝ }
+    ensures { λ r. ⌜ r ≡ length (replied kind (frameOf f (now (ds .entry))) (slots .dec (now (s .entry)))) ⌝ }
+    ensures { λ _. ⌜ now (s .exit) ≡ pasted 0 (slots .enc (executed kind (frameOf f (now (ds .entry))) (slots .dec (now (s .entry))))) (now (s .entry)) ⌝ }
+    ensures { λ _. ⌜ now (room .exit) ≡ pasted from (replied kind (frameOf f (now (ds .entry))) (slots .dec (now (s .entry)))) (now (room .entry)) ⌝ }
+{
+    if s[0] == 0 {
+        return servo_calls::touch(s, f, ds, room, from);
+    }
+    inout_calls::touch(s, f, ds, room, from)
+}
+
+// The module in a slot, after a tick.
+pub fn tick(s: &mut [u8])
+    requires { ⌜ (length (now s) ≡ slotSize) × (slots .ok (now s) ≡ true) ⌝ }
+    ensures { λ _. ⌜ now (s .exit) ≡ pasted 0 (slots .enc (kind .tick (slots .dec (now (s .entry))))) (now (s .entry)) ⌝ }
+{
+    if s[0] == 0 {
+        servo_calls::tick(s);
+    } else {
+        inout_calls::tick(s);
+    }
+}
+
+// A sample for a servo; a module of another type is left as it is.
+fn put_servo_sample(s: &mut [u8], x: servo_rules::Sample)
+    requires { ⌜ (length (now s) ≡ slotSize) × (slots .ok (now s) ≡ true) ⌝ }
+    ensures { λ _. ⌜ now (s .exit) ≡ pasted 0 (slots .enc (kind .sample (inl x) (slots .dec (now (s .entry))))) (now (s .entry)) ⌝ }
+{
+    if s[0] == 0 {
+        servo_calls::put_sample(s, x);
+    }
+}
+
+// A sample for an I/O module.
+fn put_io_sample(s: &mut [u8], x: inout_rules::Sample)
+    requires { ⌜ (length (now s) ≡ slotSize) × (slots .ok (now s) ≡ true) ⌝ }
+    ensures { λ _. ⌜ now (s .exit) ≡ pasted 0 (slots .enc (kind .sample (inr x) (slots .dec (now (s .entry))))) (now (s .entry)) ⌝ }
+{
+    if s[0] != 0 {
+        inout_calls::put_sample(s, x);
+    }
+}
+
+// The module in a slot, with a sample waiting; one for another type changes nothing.
+pub fn put_sample(s: &mut [u8], x: Measured)
+    requires { ⌜ (length (now s) ≡ slotSize) × (slots .ok (now s) ≡ true) ⌝ }
+    ensures { λ _. ⌜ now (s .exit) ≡ pasted 0 (slots .enc (kind .sample (measured x) (slots .dec (now (s .entry))))) (now (s .entry)) ⌝ }
+{
+    match x {
+        Measured::Servo(y) => put_servo_sample(s, y),
+        Measured::Io(y) => put_io_sample(s, y),
+    }
+}
+
+// What the board drives for the module in a slot.
+pub fn outputs(s: &[u8]) -> [u8; 8]
+    requires { ⌜ (length (now s) ≡ slotSize) × (slots .ok (now s) ≡ true) ⌝ }
+    ensures { λ r. ⌜ r ≡ outputs (slots .dec (now (s .entry))) ⌝ }
+{
+    if s[0] == 0 {
+        return servo_calls::outputs(s);
+    }
+    inout_perform::outputs(inout_slot::decode(s))
+}
