@@ -99,6 +99,38 @@ fn program_reads_standard_input_too() {
     assert_eq!(replay_of_standard_input(&[]), "");
 }
 
+/// What the program says on standard error, where it is to say something.
+fn told(command: &mut Command) -> (String, String) {
+    let output = command.output().expect("the replay program runs");
+    let text = |bytes| String::from_utf8(bytes).expect("plain text");
+    (text(output.stdout), text(output.stderr))
+}
+
+#[test]
+fn program_tells_where_it_cannot_write() {
+    let full = fs::OpenOptions::new().write(true).open("/dev/full").expect("the device that is always full");
+    let capture = captures::folder().join("groups-and-leaders.nmc");
+    let (_, said) = told(Command::new(program()).arg(capture).stdout(full));
+    // once: the replay ends there
+    assert_eq!(said, "write: No space left on device\n");
+}
+
+#[test]
+fn program_tells_where_it_cannot_read() {
+    let missing = captures::folder().join("there-is-no-such.nmc");
+    let (printed, said) = told(Command::new(program()).arg(&missing));
+    assert_eq!((printed.as_str(), said), ("", format!("{}: No such file or directory\n", missing.display())));
+    let (printed, said) = told(Command::new(program()).arg(captures::folder()));
+    assert_eq!((printed.as_str(), said.as_str()), ("", "read: Is a directory\n"));
+}
+
+#[test]
+fn program_with_two_names_says_how_it_is_used() {
+    let capture = captures::folder().join("no-op.nmc");
+    let (printed, said) = told(Command::new(program()).args([&capture, &capture]));
+    assert_eq!((printed.as_str(), said.as_str()), ("", "usage: replay [CAPTURE]\n"));
+}
+
 /// A command that a module of this type knows, with data that it can often take.
 fn command(dice: &mut Dice, module_type: u8) -> (u8, Vec<u8>) {
     if module_type == 2 {

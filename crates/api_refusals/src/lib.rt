@@ -5,10 +5,10 @@ ghost use Rattle.api_rules.specs.Table.{first, setupTable, byteTable, sampleTab
 pub fn setup_refusal(net: &[u8], types: &[u8]) -> u32
     ensures { λ r. ⌜ r ≡ first (setupTable (now (net .entry)) (now (types .entry))) ⌝ }
 {
-    if net.len() != 4116 {
+    if net.len() != net_rules::NET_LEN {
         return 16;
     }
-    if (types.len() == 0) | (32 < types.len()) {
+    if (types.len() == 0) | (net_rules::CHAIN_MOST < types.len()) {
         return 11;
     }
     if !net_record::is_all_known(types) {
@@ -26,7 +26,7 @@ pub fn byte_refusal(net: &[u8], mark: u32, room: &[u8]) -> u32
     if 1 < mark {
         return 14;
     }
-    if room.len() < 608 {
+    if room.len() < net_rules::ROOM_LEN {
         return 15;
     }
     0

@@ -1,5 +1,7 @@
 -- What a chain of any modules promises holds of this network's: who is touched, whose record changes, who replies. Assumes nothing.
-use Rattle.chain_rules.specs.Promises.{TouchedBefore, Enabled, OwnRecord, Untouched, SpeaksBefore, Says, RepliesAre, InOrder, Lengths, ByteTaken}
+use Rattle.chain_rules.specs.Promises.{TouchedBefore, Enabled, OwnRecord, Untouched, Says, RepliesAre, InOrder, Lengths, ByteTaken}
+use Rattle.module_rules.specs.Promises.{SpeaksBefore}
+use Rattle.module_rules.proofs.Speaking as Speaking
 use Rattle.chain_rules.proofs.Touching as Touching
 use Rattle.chain_rules.proofs.Replies as Replies
 use Rattle.chain_rules.proofs.Bytes as Bytes
@@ -18,7 +20,7 @@ pub untouched : Untouched kind
 untouched = Touching.untouched kind
 
 pub speaks-before : SpeaksBefore kind
-speaks-before = Touching.speaks-before kind
+speaks-before = Speaking.speaks-before kind
 
 pub says : Says kind
 says = Touching.says kind

@@ -9,6 +9,8 @@ use lib.Dec.{eqb, ltb}
 use borrow.Author.Tests.{ltb-false}
 use Rattle.base_layout.specs.Bytes.{Bytes}
 use Rattle.chain_rules.specs.Chain.{Net}
+use Rattle.inout_rules.specs.Answers as Inout
+use Rattle.servo_rules.specs.Answers as Servos
 use Rattle.types_rules.specs.Types.{Module, AnySample, kind, slots, powered, Good}
 use Rattle.types_rules.proofs.Laws.{lawful}
 use Rattle.types_rules.proofs.Kept.{preserves}
@@ -56,7 +58,7 @@ unfolding After fresh
 setup-after net types e =
     let p = setup-passes net types e in
     let l = length-map types powered in
-    let q = Powered.powered lawful (map powered types) (omega (arith, setup-some net types e)) (omega (arith, p .1)) (Powered.powered-each types (p .2)) in
+    let q = Powered.powered lawful (map powered types) (omega (arith, setup-some net types e)) (omega (arith, p .1)) (Powered.powered-each types) in
     ((q .1, q .2), q .0)
 
 -- samples whose fields are in range
@@ -90,9 +92,9 @@ kept = record {
   setup = λ net types p. subst ValidRecord (done (setupTable net types) _ (fresh types) refl p) (setup-after net types p .0);
   byte = λ net mark byte room h v.
       either-way ValidRecord (byteTable net mark room) net (stored slots (stepOf net mark byte .net) net) v (λ p. byte-after net mark byte h v .0);
-  servoSample = λ net place raw power ad h v. sample-kept 0 net place (ltb 2 power) (servoSampleOf raw power ad) (λ e. servo-good raw power ad e h) v;
+  servoSample = λ net place raw power ad h v. sample-kept Servos.typeNumber net place (ltb 2 power) (servoSampleOf raw power ad) (λ e. servo-good raw power ad e h) v;
   ioSample = λ net place inputs ad1 ad2 ad3 counter h v.
-      sample-kept 2 net place (ltb 4095 inputs) (ioSampleOf inputs ad1 ad2 ad3 counter) (λ e. io-good inputs ad1 ad2 ad3 counter e h) v;
+      sample-kept Inout.typeNumber net place (ltb 4095 inputs) (ioSampleOf inputs ad1 ad2 ad3 counter) (λ e. io-good inputs ad1 ad2 ad3 counter e h) v;
   tick = λ net v.
       either-way ValidRecord (tickTable net) net (stored slots (tickStep (netIn slots net)) net) v (λ p. tick-after net v .0);
 }
@@ -105,9 +107,9 @@ holds = record {
       ap (netIn slots) (sym (done (byteTable net mark room) net (stored slots (stepOf net mark byte .net) net) refl p))
       ∙ byte-after net mark byte h (byte-passes net mark room p .0, b) .1;
   servoSample = λ net place raw power ad h b p.
-      sample-holds 0 net place (ltb 2 power) (servoSampleOf raw power ad) (λ e. servo-good raw power ad e h) b p;
+      sample-holds Servos.typeNumber net place (ltb 2 power) (servoSampleOf raw power ad) (λ e. servo-good raw power ad e h) b p;
   ioSample = λ net place inputs ad1 ad2 ad3 counter h b p.
-      sample-holds 2 net place (ltb 4095 inputs) (ioSampleOf inputs ad1 ad2 ad3 counter) (λ e. io-good inputs ad1 ad2 ad3 counter e h) b p;
+      sample-holds Inout.typeNumber net place (ltb 4095 inputs) (ioSampleOf inputs ad1 ad2 ad3 counter) (λ e. io-good inputs ad1 ad2 ad3 counter e h) b p;
   tick = λ net b p.
       ap (netIn slots) (sym (done (tickTable net) net (stored slots (tickStep (netIn slots net)) net) refl p)) ∙ tick-after net (tick-passes net p, b) .1;
 }

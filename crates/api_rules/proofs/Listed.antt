@@ -5,25 +5,20 @@ use mathlib.Core.Bool.{Bool, true, false, cond, _&&_}
 use Prim.Native.Nat.{ℕ, zero, suc, _+_, _*_, _/_, _<_, _≤_}
 use native.Mathlib.Nat.{mul-suc}
 use native.Mathlib.Omega.{arith}
-use lib.ListN.{length, getD, take, drop, length-drop}
-use lib.Seq.{drop-drop, length-take-le}
+use lib.ListN.{getD, take, drop}
+use lib.Seq.{drop-drop}
 use lib.Dec.{eqb, leb}
-use borrow.Author.Tests.{eqb-true, eqb-false, eq-eqb, ne-eqb, leb-true, leb-false, le-leb}
+use borrow.Author.Tests.{eqb-true, eq-eqb, leb-true, leb-false, le-leb}
 use Rattle.base_layout.specs.Bytes.{readAt, Bytes}
 use Rattle.base_layout.proofs.Laws.{bytes-take, bytes-drop}
-use Rattle.base_layout.proofs.Every.{hold-every}
-use Rattle.chain_rules.specs.Slots.{slotSize}
-use Rattle.types_rules.specs.Types.{slots}
-use Rattle.inout_rules.specs.Slot.{slot, decodeOf, okOf}
-use Rattle.inout_rules.specs.Promises.{Lines}
-use Rattle.inout_rules.proofs.Listed as Slot
-use Rattle.servo_slot_rules.specs.Slot as ServoSlot
-use Rattle.servo_slot_rules.proofs.Listed as Servo
-use Rattle.net_rules.specs.Record.{slotsAt, blank, okReceiver, okSlots, valid}
+use Rattle.module_rules.specs.Slots.{slotSize}
+use Rattle.types_rules.specs.Types.{slots, typeOfSlot}
+use Rattle.types_rules.proofs.Owed as Owed
+use Rattle.net_rules.specs.Record.{receiverSize, fillAt, commandAt, markedAt, countAt, slotsAt, blank, okReceiver, okSlots, valid}
 use Rattle.net_rules.proofs.Tests.{and-true}
 use Rattle.net_rules.proofs.Head.{told}
-use Rattle.net_rules.proofs.Valid.{Valid, valid-is, is-valid}
-use Rattle.api_rules.specs.Promises.{SlotLines, Satisfies, Listed}
+use Rattle.net_rules.proofs.Valid.{valid-is, is-valid}
+use Rattle.api_rules.specs.Promises.{Satisfies, Listed}
 
 -- bytes that are read as 0
 blank-read : (k at : ℕ) (s : List ℕ) → blank (readAt k at s) ≡ true → (i : ℕ) → at ≤ i → i < at + k → getD s i 0 ≡ 0
@@ -44,19 +39,19 @@ read-blank (suc k) at s h =
 -- the receiver's lines
 receiver-ok : (s : List ℕ) → Satisfies s → okReceiver s ≡ true
 unfolding okReceiver
-receiver-ok s h = go (eqb (getD s 17 0) 0) refl
+receiver-ok s h = go (eqb (getD s fillAt 0) 0) refl
   where
-    go : (t : Bool) → eqb (getD s 17 0) 0 ≡ t
-        → cond t (blank (readAt 19 0 s)) (leb (getD s 17 0) (3 + getD s 16 0 / 16) && leb (getD s 18 0) 1) ≡ true
-    go true e = read-blank 19 0 s (λ i a b. h .idle (eqb-true _ _ e) i (omega arith))
+    go : (t : Bool) → eqb (getD s fillAt 0) 0 ≡ t
+        → cond t (blank (readAt receiverSize 0 s)) (leb (getD s fillAt 0) (3 + getD s commandAt 0 / 16) && leb (getD s markedAt 0) 1) ≡ true
+    go true e = read-blank receiverSize 0 s (λ i a b. h .idle (eqb-true _ _ e) i (omega arith))
     go false e = ap₂ _&&_ (le-leb _ _ (h .within)) (le-leb _ _ (h .mark))
 
-idle-blank : (s : List ℕ) → okReceiver s ≡ true → getD s 17 0 ≡ 0 → (i : ℕ) → i < 19 → getD s i 0 ≡ 0
+idle-blank : (s : List ℕ) → okReceiver s ≡ true → getD s fillAt 0 ≡ 0 → (i : ℕ) → i < receiverSize → getD s i 0 ≡ 0
 unfolding okReceiver
 idle-blank s v z i h =
-    let q : blank (readAt 19 0 s) ≡ true =
-    ap (λ (t : Bool). cond t (blank (readAt 19 0 s)) (leb (getD s 17 0) (3 + getD s 16 0 / 16) && leb (getD s 18 0) 1)) (sym (eq-eqb (getD s 17 0) 0 z)) ∙ v in
-    blank-read 19 0 s q i (omega arith) (omega arith)
+    let q : blank (readAt receiverSize 0 s) ≡ true =
+    ap (λ (t : Bool). cond t (blank (readAt receiverSize 0 s)) (leb (getD s fillAt 0) (3 + getD s commandAt 0 / 16) && leb (getD s markedAt 0) 1)) (sym (eq-eqb (getD s fillAt 0) 0 z)) ∙ v in
+    blank-read receiverSize 0 s q i (omega arith) (omega arith)
 
 -- the slots' lines
 next-slot : (i : ℕ) (t : List ℕ) → drop (slotSize * i) (drop slotSize t) ≡ drop (slotSize * suc i) t
@@ -77,61 +72,14 @@ ok-each (suc k) t h =
     ap₂ _&&_ (h 0 (omega arith))
     (ok-each k (drop slotSize t) (λ i l. ap (λ (x : List ℕ). slots .ok (take slotSize x)) (next-slot i t) ∙ h (suc i) (omega arith)))
 
--- an I/O module's slot that satisfies its list passes the tests
-io-ok : (s : List ℕ) → Lines s → okOf s ≡ true
-unfolding okOf decodeOf
-io-ok s l =
-    hold-every (slot .codec .tests 0 s) (
-      eq-eqb _ _ (l .typeByte),
-      (
-        le-leb _ _ (l .leader),
-        (
-          le-leb _ _ (l .low),
-          (
-            le-leb _ _ (l .cause),
-            (
-              le-leb _ _ (top (getD s 8 0) _ (l .waitingInputs)),
-              (
-                le-leb _ _ (top (getD s 17 0) _ (l .latchedInputs)),
-                (
-                  le-leb _ _ (top (getD s 26 0) _ (l .direction)),
-                  (le-leb _ _ (top (getD s 28 0) _ (l .register)), (le-leb _ _ (top (getD s 32 0) _ (l .synchBits)), (le-leb _ _ (top (getD s 37 0) _ (l .capturedInputs)), tt))),
-                ),
-              ),
-            ),
-          ),
-        ),
-      ),
-    )
-  where
-    top : (a b : ℕ) → a + 256 * (b + 256 * 0) < 4096 → b ≤ 15
-    top a b h = omega arith
-
--- a slot of either type
-slot-ok : (s : List ℕ) → Bytes s → SlotLines s → slots .ok s ≡ true
-slot-ok s b l = go (eqb (getD s 0 0) 0) refl
-  where
-    go : (t : Bool) → eqb (getD s 0 0) 0 ≡ t → cond t (ServoSlot.okOf s) (okOf s) ≡ true
-    go true e = Servo.listed s b .1 (l .servo (eqb-true _ _ e))
-    go false e = io-ok s (l .io (eqb-false _ _ e))
-
-slot-lines : (s : List ℕ) → Bytes s → 43 ≤ length s → slots .ok s ≡ true → SlotLines s
-slot-lines s b h v = record {
-  servo = λ e. Servo.listed s b .0 (rw (eq-eqb _ _ e) at v);
-  io = λ n. Slot.listed s b h (rw (ne-eqb _ _ n) at v);
-}
-
-at-slot : (i : ℕ) (s : List ℕ) → drop (slotSize * i) (drop slotsAt s) ≡ drop (20 + 128 * i) s
+at-slot : (i : ℕ) (s : List ℕ) → drop (slotSize * i) (drop slotsAt s) ≡ drop (slotsAt + slotSize * i) s
 at-slot i s = drop-drop (slotSize * i) slotsAt s
 
 pub listed : Listed
 listed s b = (there, back)
   where
-    slot-long : (i : ℕ) → Valid slots s → i < getD s 19 0 → 43 ≤ length (take 128 (drop (20 + 128 * i) s))
-    slot-long i w h =
-        let z = w .size in
-        let m = w .most in
-        omega (arith, length-take-le 128 (drop (20 + 128 * i) s) (omega (arith, length-drop (20 + 128 * i) s)))
+    bytes-at : (i : ℕ) → Bytes (take slotSize (drop (slotsAt + slotSize * i) s))
+    bytes-at i = bytes-take slotSize (drop (slotsAt + slotSize * i) s) (bytes-drop (slotsAt + slotSize * i) s b)
 
     there : valid slots s ≡ true → Satisfies s
     there v =
@@ -145,8 +93,8 @@ listed s b = (there, back)
           within = t .within;
           mark = t .flag;
           each = λ i h.
-              slot-lines (take 128 (drop (20 + 128 * i) s)) (bytes-take 128 (drop (20 + 128 * i) s) (bytes-drop (20 + 128 * i) s b)) (slot-long i w h)
-              (ap (λ (l : List ℕ). slots .ok (take 128 l)) (sym (at-slot i s)) ∙ each-ok (getD s 19 0) (drop slotsAt s) (w .slots) i h);
+              Owed.listed (typeOfSlot (take slotSize (drop (slotsAt + slotSize * i) s))) (take slotSize (drop (slotsAt + slotSize * i) s)) (bytes-at i) .0
+              (ap (λ (l : List ℕ). slots .ok (take slotSize l)) (sym (at-slot i s)) ∙ each-ok (getD s countAt 0) (drop slotsAt s) (w .slots) i h);
         }
 
     back : Satisfies s → valid slots s ≡ true
@@ -156,6 +104,8 @@ listed s b = (there, back)
           some = h .some;
           most = h .most;
           receiver = receiver-ok s h;
-          slots = ok-each (getD s 19 0) (drop slotsAt s)
-              (λ i l. ap (λ (x : List ℕ). slots .ok (take 128 x)) (at-slot i s) ∙ slot-ok (take 128 (drop (20 + 128 * i) s)) (bytes-take 128 (drop (20 + 128 * i) s) (bytes-drop (20 + 128 * i) s b)) (h .each i l));
+          slots = ok-each (getD s countAt 0) (drop slotsAt s)
+              (λ i l.
+              ap (λ (x : List ℕ). slots .ok (take slotSize x)) (at-slot i s)
+              ∙ Owed.listed (typeOfSlot (take slotSize (drop (slotsAt + slotSize * i) s))) (take slotSize (drop (slotsAt + slotSize * i) s)) (bytes-at i) .1 (h .each i l));
         })

@@ -11,8 +11,8 @@ use Rattle.base_layout.specs.Bytes.{pasted}
 use Rattle.chain_rules.specs.Chain.{Step, flat}
 use Rattle.types_rules.specs.Types.{Module, AnySample, slots}
 use Rattle.net_rules.specs.declared.Called.{Called}
-use Rattle.net_rules.specs.Record.{recordSize, netIn, stored, valid}
-use Rattle.net_rules.specs.Calls.{allKnown, byteOf, calledBy, sampleStep}
+use Rattle.net_rules.specs.Record.{chainMost, recordSize, roomSize, netIn, stored, valid}
+use Rattle.net_rules.specs.Calls.{byteOf, calledBy, sampleStep}
 use Rattle.net_rules.proofs.Calls.{of-type-below}
 use Rattle.api_rules.specs.Table.{Line, first, setupTable, byteTable, sampleTable, tickTable, outputsTable}
 use Rattle.api_rules.specs.Promises.{Passes}
@@ -39,22 +39,22 @@ or-false : (a b : Bool) → (a || b) ≡ false → (a ≡ false) × (b ≡ false
 or-false false b e = (refl, e)
 or-false true b e = let z : true ≡ false = e in (z, cc)
 
-pub setup-passes : (net types : List ℕ) → first (setupTable net types) ≡ 0 → (length net ≡ recordSize) × (length types ≤ 32) × (allKnown types ≡ true)
+pub setup-passes : (net types : List ℕ) → first (setupTable net types) ≡ 0 → (length net ≡ recordSize) × (length types ≤ chainMost)
 setup-passes net types e =
     let n = none-applies (setupTable net types) (omega arith, (omega arith, (omega arith, tt))) e in
-    (eqb-true _ _ (not-false _ (n .0)), ltb-false _ _ (or-false (eqb (length types) 0) (ltb 32 (length types)) (n .1 .0) .1), not-false _ (n .1 .1 .0))
+    (eqb-true _ _ (not-false _ (n .0)), ltb-false _ _ (or-false (eqb (length types) 0) (ltb chainMost (length types)) (n .1 .0) .1))
 
 pub setup-some : (net types : List ℕ) → first (setupTable net types) ≡ 0 → 1 ≤ length types
 setup-some net types e =
     let n = none-applies (setupTable net types) (omega arith, (omega arith, (omega arith, tt))) e in
-    let h = eqb-false _ _ (or-false (eqb (length types) 0) (ltb 32 (length types)) (n .1 .0) .0) in
+    let h = eqb-false _ _ (or-false (eqb (length types) 0) (ltb chainMost (length types)) (n .1 .0) .0) in
     positive (length types) h
   where
     positive : (k : ℕ) → (k ≡ 0 → ⊥) → 1 ≤ k
     positive zero h = absurd (h refl)
     positive (suc k) h = omega arith
 
-pub byte-passes : (net : List ℕ) (mark : ℕ) (room : List ℕ) → first (byteTable net mark room) ≡ 0 → (valid slots net ≡ true) × (608 ≤ length room)
+pub byte-passes : (net : List ℕ) (mark : ℕ) (room : List ℕ) → first (byteTable net mark room) ≡ 0 → (valid slots net ≡ true) × (roomSize ≤ length room)
 byte-passes net mark room e =
     let n = none-applies (byteTable net mark room) (omega arith, (omega arith, (omega arith, tt))) e in
     (not-false _ (n .0), ltb-false _ _ (n .1 .1 .0))

@@ -1,4 +1,4 @@
--- What a byte call writes: its replies at the room's start, never more than 608 bytes; no frame, nothing. Assumes nothing.
+-- What a byte call writes: its replies at the room's start, never more than the room that it asks for; no frame, nothing. Assumes nothing.
 use mathlib.Core.Path.{_≡_, refl, sym, ap, _∙_}
 use mathlib.Core.List.{List, []}
 use mathlib.Core.Bool.{Bool, true, false, cond}
@@ -16,13 +16,14 @@ use Rattle.line_receiver.specs.declared.Answer.{Answer}
 use Rattle.line_receiver.specs.declared.Answer.the-variants.{Ended, Nothing}
 use Rattle.line_receiver.specs.Receive.{taken, numberOf}
 use Rattle.line_receiver.specs.Frames.{Byte, Frame, frameIn}
+use Rattle.module_rules.specs.Owes.{replySize}
 use Rattle.chain_rules.specs.Chain.{Net, Step, flat, said, byteStep}
 use Rattle.chain_rules.proofs.Bytes.{step-on, step-end}
 use Rattle.chain_rules.proofs.Replies.{flat-join}
 use Rattle.chain_rules.proofs.Along as Along
 use Rattle.types_rules.specs.Types.{Module, kind, slots}
 use Rattle.types_rules.proofs.Laws.{lawful, said-short}
-use Rattle.net_rules.specs.Record.{receiverBytes, netIn, stored}
+use Rattle.net_rules.specs.Record.{receiverSize, roomSize, receiverBytes, netIn, stored}
 use Rattle.net_rules.specs.Calls.{byteOf}
 use Rattle.net_rules.proofs.Valid.{valid-is}
 use Rattle.net_rules.proofs.Head.{length-receiver}
@@ -40,18 +41,18 @@ begins xs room = ap (take (length xs)) (pasted-start xs room) ∙ take-append-se
 rest : (xs room : List ℕ) → drop (length xs) (pasted 0 xs room) ≡ drop (length xs) room
 rest xs room = ap (drop (length xs)) (pasted-start xs room) ∙ drop-append-seam xs (drop (length xs) room)
 
--- the replies of a chain, 19 bytes for each module at most
-flat-short : (n : Net Module) (b : Byte) → length (flat (byteStep kind n b .replies)) ≤ 19 * length (n .modules)
+-- the replies of a chain, each module's no longer than a reply can be
+flat-short : (n : Net Module) (b : Byte) → length (flat (byteStep kind n b .replies)) ≤ replySize * length (n .modules)
 flat-short n b =
     let t : Received = taken (n .receiver) (b .value) (b .mark) in
     go (t .answer) (t .next) refl
   where
     go : (a : Answer) (r : Receiver) → taken (n .receiver) (b .value) (b .mark) ≡ record { next = r; answer = a }
-        → length (flat (byteStep kind n b .replies)) ≤ 19 * length (n .modules)
+        → length (flat (byteStep kind n b .replies)) ≤ replySize * length (n .modules)
     go Nothing r e = rw (step-on kind n b r e) (omega arith)
     go (Ended d) r e =
         let f : Frame = frameIn (n .receiver) d in
-        rw (step-end kind n b r d e, flat-join 0 (said kind f true (n .modules))) (Along.said-short kind f 19 (said-short f) true (n .modules))
+        rw (step-end kind n b r d e, flat-join 0 (said kind f true (n .modules))) (Along.said-short kind f replySize (said-short f) true (n .modules))
 
 module _ (net : List ℕ) (mark byte : ℕ) (room : List ℕ) where
   -- the replies' bytes
@@ -59,10 +60,10 @@ module _ (net : List ℕ) (mark byte : ℕ) (room : List ℕ) where
   out = flat (stepOf net mark byte .replies)
 
   -- how many there are in a call that is not refused
-  out-short : length out ≤ 19 * length (netIn slots net .modules)
+  out-short : length out ≤ replySize * length (netIn slots net .modules)
   out-short = flat-short (netIn slots net) (byteOf byte (eqb mark 1))
 
-  out-most : Passes (byteTable net mark room) → length out ≤ 608
+  out-most : Passes (byteTable net mark room) → length out ≤ roomSize
   out-most p =
       let m = valid-is slots net (byte-passes net mark room p .0) .most in
       let s = out-short in
@@ -84,8 +85,8 @@ written-room net mark byte room = record {
   rest = go (eqb (first ls) 0);
   long = either-way (λ (l : List ℕ). length l ≡ length room) ls room (pasted 0 xs room) refl
       (λ p. length-pasted 0 xs room (omega (arith, out-most net mark byte room p, byte-passes net mark room p .1)));
-  short = either-way (λ (n : ℕ). n ≤ 19 * length (netIn slots net .modules)) ls 0 (length xs) (omega arith) (λ p. out-short net mark byte room);
-  most = either-way (λ (n : ℕ). n ≤ 608) ls 0 (length xs) (omega arith) (λ p. out-most net mark byte room p);
+  short = either-way (λ (n : ℕ). n ≤ replySize * length (netIn slots net .modules)) ls 0 (length xs) (omega arith) (λ p. out-short net mark byte room);
+  most = either-way (λ (n : ℕ). n ≤ roomSize) ls 0 (length xs) (omega arith) (λ p. out-most net mark byte room p);
 }
   where
     xs : List ℕ
@@ -136,7 +137,7 @@ no-frame net mark byte room b z =
     sym (done (byteTable net mark room) net (stored slots (stepOf net mark byte .net) net) refl p)
     ∙ ap (λ (s : Step Module). stored slots (s .net) net) q
     ∙ sym (waits lawful net b v r) in (
-      ap (drop 19) d
+      ap (drop receiverSize) d
           ∙ ap (λ (k : ℕ). drop k (pasted 0 (receiverBytes r) net)) (sym (length-receiver r))
           ∙ rest (receiverBytes r) net
           ∙ ap (λ (k : ℕ). drop k net) (length-receiver r),

@@ -1,31 +1,26 @@
--- The status reader takes apart what a module replies. Assumes nothing.
-use mathlib.Core.Path.{_≡_, refl, ap, _∙_}
-use mathlib.Core.Logic.{inl, inr}
+-- The status reader takes apart what a module of any type replies. Assumes nothing.
+use mathlib.Core.Path.{_≡_, refl, sym, ap, subst⁻¹, _∙_}
 use mathlib.Core.List.{List, []}
 use mathlib.Core.Bool.{Bool, true, false, cond, _&&_}
 use Prim.Native.Nat.{ℕ}
 use lib.Dec.{eqb}
 use Rattle.line_receiver.specs.Frames.{Frame}
-use Rattle.module_station.specs.declared.Station.{Station}
-use Rattle.module_station.specs.Touch.{individually, speaks}
-use Rattle.module_station.specs.Report.{report, itemsFor, replyOf, causeBit, servoSizes, inoutSizes, Fit}
-use Rattle.chain_rules.specs.Chain.{Kind, executed, replied}
-use Rattle.chain_rules.proofs.Touching.{speaks-before}
-use Rattle.inout_rules.specs.declared.Io.{Io}
-use Rattle.inout_rules.specs.Module as Inout
-use Rattle.inout_rules.specs.Promises as InoutPromises
-use Rattle.inout_rules.proofs.Within as Inouts
-use Rattle.servo_rules.specs.declared.Servo.{Servo}
-use Rattle.servo_rules.specs.Answers as ServoAnswers
-use Rattle.servo_rules.proofs.Reply as ServoReply
-use Rattle.servo_slot_rules.specs.Promises as ServoPromises
-use Rattle.servo_slot_rules.proofs.Good.{good}
-use Rattle.servo_slot_rules.proofs.Within as Servos
-use Rattle.host_status.specs.Reading.{statusOf}
-use Rattle.host_status.specs.Promises.{ThereIs}
-use Rattle.host_status.specs.Reading.{sizesOf}
-use Rattle.host_status.proofs.Status.{taken}
-use Rattle.api_rules.specs.Promises.{readOf, servoRead, ioRead, StatusRead}
+use Rattle.module_rules.specs.declared.Station.{Station}
+use Rattle.module_rules.specs.Touch.{individually, speaks}
+use Rattle.module_rules.specs.Report.{report, itemsFor, replyOf, Fit}
+use Rattle.module_rules.specs.Kind.{Kind, executed, replied}
+use Rattle.module_rules.specs.Rules.{reply, kindOf}
+use Rattle.module_rules.proofs.Speaking.{speaks-before}
+use Rattle.module_rules.proofs.Kept.{preserves}
+use Rattle.types_rules.specs.Table.{ModuleType, Of, rulesOf, slotsOf, GoodOf}
+use Rattle.types_rules.specs.Types.{sizesOf}
+use Rattle.types_rules.specs.Promises.{ThereIs}
+use Rattle.types_rules.proofs.Owed.{owes}
+use Rattle.types_rules.proofs.Laws.{type-back}
+use Rattle.types_rules.proofs.Promised.{there-is}
+use Rattle.host_rules.specs.Reading.{statusOf}
+use Rattle.host_rules.proofs.Status.{taken}
+use Rattle.api_rules.specs.Promises.{readOf, moduleRead, StatusRead}
 
 -- a reply that is not nothing, read
 module _ (kind : ℕ) (known : ThereIs kind) (f : Frame) (s : Station) (status : ℕ) (numbers : List ℕ) (fit : Fit (sizesOf kind) numbers) where
@@ -49,27 +44,27 @@ speaking K f m n = go (speaks (f .address) (K .address m)) refl
     go true e = speaks-before K .1 f m e
     go false e = absurd (n (speaks-before K .0 f m e))
 
-servo-after : (f : Frame) (m : Servo) → ServoPromises.Fits m → (ServoAnswers.reply f m ≡ [] → ⊥)
-    → statusOf 0 (itemsFor f (m .station)) (ServoAnswers.reply f m) ≡ servoRead f m
-unfolding ServoAnswers.reply
-servo-after f m h n =
-    reply-read 0 (inl refl) f (m .station) (ServoAnswers.status m) (ServoAnswers.numbers m) (ServoReply.numbers-fit m (good m h .latched .1 .1)) n
+-- the sizes that the reader takes are the type's own
+sizes-are : (t : ModuleType) → sizesOf (rulesOf t .number) ≡ rulesOf t .sizes
+sizes-are t = ap (λ (u : ModuleType). rulesOf u .sizes) (type-back t)
 
-io-after : (f : Frame) (m : Io) → InoutPromises.Fits m → (Inout.reply f m ≡ [] → ⊥)
-    → statusOf 2 (itemsFor f (m .station)) (Inout.reply f m) ≡ ioRead f m
-unfolding Inout.reply
-io-after f m h n = reply-read 2 (inr refl) f (m .station) (causeBit (m .station .cause)) (Inout.numbers m) (Inouts.numbers-fit m h) n
+after : (t : ModuleType) (f : Frame) (m : Of t) → slotsOf t .fits m → (reply (rulesOf t) f m ≡ [] → ⊥)
+    → statusOf (rulesOf t .number) (itemsFor f (rulesOf t .station m)) (reply (rulesOf t) f m) ≡ moduleRead t f m
+unfolding reply
+after t f m h n =
+    let s : Station = rulesOf t .station m in
+    let spelled : List ℕ → List ℕ = λ ks. replyOf f s (rulesOf t .status m) ks (rulesOf t .numbers m) in
+    ap (λ (ks : List ℕ). statusOf (rulesOf t .number) (itemsFor f s) (spelled ks)) (sym (sizes-are t))
+    ∙ reply-read (rulesOf t .number) (there-is t) f s (rulesOf t .status m) (rulesOf t .numbers m)
+    (subst⁻¹ (λ (ks : List ℕ). Fit ks (rulesOf t .numbers m)) (sizes-are t) (owes t .numbers m h))
+    (λ z. n (ap spelled (sym (sizes-are t)) ∙ z))
 
 pub status-read : StatusRead
 status-read = record {
-  servoAfter = servo-after;
-  servoBefore = λ f m b h n.
-      let q = speaking ServoAnswers.servo f m n in
-      let a : ServoPromises.Fits (executed ServoAnswers.servo f m) = Servos.kept .frame f (individually (f .address) (m .station .address)) m b h in
-      ap (statusOf 0 (itemsFor f (executed ServoAnswers.servo f m .station))) q ∙ servo-after f (executed ServoAnswers.servo f m) a (λ z. n (q ∙ z));
-  ioAfter = io-after;
-  ioBefore = λ f m b h n.
-      let q = speaking Inout.inout f m n in
-      let a : InoutPromises.Fits (executed Inout.inout f m) = Inouts.kept .frame f (individually (f .address) (m .station .address)) m b h in
-      ap (statusOf 2 (itemsFor f (executed Inout.inout f m .station))) q ∙ io-after f (executed Inout.inout f m) a (λ z. n (q ∙ z));
+  after = after;
+  before = λ t f m b h n.
+      let K : Kind (Of t) _ = kindOf (rulesOf t) in
+      let q = speaking K f m n in
+      let a = preserves (rulesOf t) (slotsOf t) (GoodOf t) (owes t) .execute f (individually (f .address) (K .address m)) m b h in
+      ap (statusOf (rulesOf t .number) (itemsFor f (rulesOf t .station (executed K f m)))) q ∙ after t f (executed K f m) a (λ z. n (q ∙ z));
 }

@@ -3,17 +3,15 @@
 use Prim.Native.Nat.{ℕ, zero, suc, _+_}
 use mathlib.Core.List.{List, [], _∷_, _++_}
 use mathlib.Core.Bool.{Bool, cond}
-use mathlib.Core.Logic.{inl, inr}
 use lib.ListN.{length, getD}
 use lib.Dec.{eqb}
 use Rattle.base_layout.specs.Bytes.{le, pasted}
 use Rattle.chain_rules.specs.Chain.{Step, flat, byteStep}
+use Rattle.types_rules.specs.Table.{servo, inout}
 use Rattle.types_rules.specs.Types.{Module, AnySample, kind, slots}
-use Rattle.inout_rules.specs.declared.Sample as Inouts
-use Rattle.servo_rules.specs.declared.Sample as Servos
 use Rattle.net_rules.specs.Record.{netIn, stored}
 use Rattle.net_rules.specs.Calls.{byteOf, fresh, tickStep, sampleStep, outputsAt}
-use Rattle.host_status.specs.declared.Reading.{Reading}
+use Rattle.host_rules.specs.declared.Reading.{Reading}
 use Rattle.api_rules.specs.Table.{Line, first, setupTable, byteTable, tickTable, outputsTable}
 
 -- what holds where no line of a table applies, and what where one does
@@ -42,10 +40,10 @@ byteWritten net mark byte room = unless (byteTable net mark room) 0 (length (fla
 
 -- samples, as C hands their fields over
 abbrev pub servoSampleOf : ℕ → ℕ → ℕ → AnySample
-servoSampleOf raw power ad = inl (record { raw = raw; power = power; ad = ad })
+servoSampleOf raw power ad = (servo, record { raw = raw; power = power; ad = ad })
 
 abbrev pub ioSampleOf : ℕ → ℕ → ℕ → ℕ → ℕ → AnySample
-ioSampleOf inputs ad1 ad2 ad3 counter = inr (record { inputs = inputs; ad1 = ad1; ad2 = ad2; ad3 = ad3; counter = counter })
+ioSampleOf inputs ad1 ad2 ad3 counter = (inout, record { inputs = inputs; ad1 = ad1; ad2 = ad2; ad3 = ad3; counter = counter })
 
 unfoldable pub sampleRecord : List Line → List ℕ → ℕ → AnySample → List ℕ
 sampleRecord table net place x = unless table net (stored slots (sampleStep place x (netIn slots net)) net)

@@ -8,22 +8,20 @@ use mathlib.Core.Bool.{true, false}
 use lib.ListN.{length, getD, take, drop}
 use Rattle.base_layout.specs.Bytes.{Bytes}
 use Rattle.line_receiver.specs.Frames.{Frame}
-use Rattle.module_station.specs.Report.{itemsFor, causeBit}
-use Rattle.chain_rules.specs.Chain.{flat, executed, replied}
-use Rattle.types_rules.specs.Types.{slots}
-use Rattle.inout_rules.specs.declared.Io.{Io}
-use Rattle.inout_rules.specs.Module as Inout
-use Rattle.inout_rules.specs.Promises as InoutPromises
-use Rattle.servo_rules.specs.declared.Servo.{Servo}
-use Rattle.servo_rules.specs.Answers as ServoAnswers
-use Rattle.servo_slot_rules.specs.Slot.{decodeOf}
-use Rattle.servo_slot_rules.specs.Promises as ServoPromises
-use Rattle.net_rules.specs.Record.{netIn, valid}
+use Rattle.module_rules.specs.Report.{itemsFor}
+use Rattle.module_rules.specs.Kind.{executed, replied}
+use Rattle.module_rules.specs.Slots.{slotSize}
+use Rattle.module_rules.specs.Rules.{reply, kindOf}
+use Rattle.module_rules.specs.Owes.{replySize}
+use Rattle.chain_rules.specs.Chain.{flat}
+use Rattle.types_rules.specs.Table.{ModuleType, Of, rulesOf, slotsOf, LinesOf}
+use Rattle.types_rules.specs.Types.{slots, typeOfSlot}
+use Rattle.net_rules.specs.Record.{receiverSize, fillAt, commandAt, markedAt, chainMost, countAt, slotsAt, recordSize, roomSize, netIn, valid}
 use Rattle.net_rules.specs.Calls.{setUp, tickStep, sampleStep}
 use Rattle.net_rules.specs.Promises.{There, Back}
-use Rattle.host_status.specs.declared.Answered.{Answered}
-use Rattle.host_status.specs.Reading.{statusOf}
-use Rattle.host_status.specs.Promises.{shown}
+use Rattle.host_rules.specs.declared.Answered.{Answered}
+use Rattle.host_rules.specs.Reading.{statusOf}
+use Rattle.host_rules.specs.Promises.{shown}
 use Rattle.api_rules.specs.Table.{Line, first, setupTable, byteTable, servoSampleTable, ioSampleTable, tickTable, outputsTable}
 use Rattle.api_rules.specs.Calls.{setupRecord, stepOf, byteNumber, byteRecord, byteRoom, byteWritten, servoSampleOf, ioSampleOf, sampleRecord, tickRecord, outputsBytes}
 
@@ -155,75 +153,63 @@ ThereAndBack = There slots × Back slots
 abbrev pub readOf : ℕ → ℕ → List ℕ → Answered
 readOf status items numbers = record { number = 0; reading = record { status = status; numbers = shown items numbers } }
 
-abbrev pub servoRead : Frame → Servo → Answered
-servoRead f m = readOf (ServoAnswers.status m) (itemsFor f (m .station)) (ServoAnswers.numbers m)
+abbrev pub moduleRead : (t : ModuleType) → Frame → Of t → Answered
+moduleRead t f m = readOf (rulesOf t .status m) (itemsFor f (rulesOf t .station m)) (rulesOf t .numbers m)
 
-abbrev pub ioRead : Frame → Io → Answered
-ioRead f m = readOf (causeBit (m .station .cause)) (itemsFor f (m .station)) (Inout.numbers m)
-
--- The status reader takes apart whatever a module replies: of the record after the frame, and so on the line, of the record before it.
+-- The status reader takes apart whatever a module of any type replies: of the record after the frame, and so on the line, of the record before
+-- it.
 pub record StatusRead : Type 0 where
-  pub servoAfter : (f : Frame) (m : Servo)
-      → ServoPromises.Fits m
-      → (ServoAnswers.reply f m ≡ [] → ⊥)
-      → statusOf 0 (itemsFor f (m .station)) (ServoAnswers.reply f m) ≡ servoRead f m
-  pub servoBefore : (f : Frame) (m : Servo)
+  pub after : (t : ModuleType) (f : Frame) (m : Of t)
+      → slotsOf t .fits m
+      → (reply (rulesOf t) f m ≡ [] → ⊥)
+      → statusOf (rulesOf t .number) (itemsFor f (rulesOf t .station m)) (reply (rulesOf t) f m) ≡ moduleRead t f m
+  pub before : (t : ModuleType) (f : Frame) (m : Of t)
       → Bytes (f .content)
-      → ServoPromises.Fits m
-      → (replied ServoAnswers.servo f m ≡ [] → ⊥)
-      → statusOf 0 (itemsFor f (executed ServoAnswers.servo f m .station)) (replied ServoAnswers.servo f m)
-      ≡ servoRead f (executed ServoAnswers.servo f m)
-  pub ioAfter : (f : Frame) (m : Io)
-      → InoutPromises.Fits m
-      → (Inout.reply f m ≡ [] → ⊥)
-      → statusOf 2 (itemsFor f (m .station)) (Inout.reply f m) ≡ ioRead f m
-  pub ioBefore : (f : Frame) (m : Io)
-      → Bytes (f .content)
-      → InoutPromises.Fits m
-      → (replied Inout.inout f m ≡ [] → ⊥)
-      → statusOf 2 (itemsFor f (executed Inout.inout f m .station)) (replied Inout.inout f m) ≡ ioRead f (executed Inout.inout f m)
+      → slotsOf t .fits m
+      → (replied (kindOf (rulesOf t)) f m ≡ [] → ⊥)
+      → statusOf (rulesOf t .number) (itemsFor f (rulesOf t .station (executed (kindOf (rulesOf t)) f m))) (replied (kindOf (rulesOf t)) f m)
+      ≡ moduleRead t f (executed (kindOf (rulesOf t)) f m)
 
--- the lines of a slot: a servo's where its first byte is 0, an I/O module's where it is another, which must then be 2
-pub record SlotLines (s : List ℕ) : Type 0 where
-  pub servo : getD s 0 0 ≡ 0 → ServoPromises.Lines s (decodeOf s)
-  pub io : (getD s 0 0 ≡ 0 → ⊥) → InoutPromises.Lines s
+-- the lines of a slot, by its first byte
+abbrev pub SlotLines : List ℕ → Type 0
+SlotLines s = LinesOf (typeOfSlot s) s
 
 -- the list that a valid record satisfies, line by line
 pub record Satisfies (s : List ℕ) : Type 0 where
-  pub size : length s ≡ 4116
-  pub some : 1 ≤ getD s 19 0
-  pub most : getD s 19 0 ≤ 32
-  -- the receiver: idle it is 19 bytes of 0; in a frame there are never more bytes in than the command announces, and the mark is 0 or 1
-  pub idle : getD s 17 0 ≡ 0 → (i : ℕ) → i < 19 → getD s i 0 ≡ 0
-  pub within : getD s 17 0 ≤ 3 + getD s 16 0 / 16
-  pub mark : getD s 18 0 ≤ 1
-  -- each module's slot
-  pub each : (i : ℕ) → i < getD s 19 0 → SlotLines (take 128 (drop (20 + 128 * i) s))
+  pub size : length s ≡ recordSize
+  pub some : 1 ≤ getD s countAt 0
+  pub most : getD s countAt 0 ≤ chainMost
+  -- the receiver: idle it is all 0; in a frame there are never more bytes in than the command announces, and the mark is 0 or 1
+  pub idle : getD s fillAt 0 ≡ 0 → (i : ℕ) → i < receiverSize → getD s i 0 ≡ 0
+  pub within : getD s fillAt 0 ≤ 3 + getD s commandAt 0 / 16
+  pub mark : getD s markedAt 0 ≤ 1
+  -- each module's slot satisfies the lines of the type that its first byte says
+  pub each : (i : ℕ) → i < getD s countAt 0 → SlotLines (take slotSize (drop (slotsAt + slotSize * i) s))
 
 -- A record of bytes is valid exactly when it satisfies the list.
 abbrev pub Listed : Type 0
 Listed = (s : List ℕ) → Bytes s → (valid slots s ≡ true) ↔ Satisfies s
 
 -- A byte call that is not refused writes the replies at the room's start and reports their length; the rest of the room is as it was, and
--- 19 bytes for each module, so 608, are always enough.
+-- a reply's greatest length for each module is always enough.
 pub record Written (net : List ℕ) (mark byte : ℕ) (room : List ℕ) : Type 0 where
   pub reported : Passes (byteTable net mark room) → byteWritten net mark byte room ≡ length (flat (stepOf net mark byte .replies))
   pub begins : Passes (byteTable net mark room)
       → take (byteWritten net mark byte room) (byteRoom net mark byte room) ≡ flat (stepOf net mark byte .replies)
   pub rest : drop (byteWritten net mark byte room) (byteRoom net mark byte room) ≡ drop (byteWritten net mark byte room) room
   pub long : length (byteRoom net mark byte room) ≡ length room
-  pub short : byteWritten net mark byte room ≤ 19 * length (netIn slots net .modules)
-  pub most : byteWritten net mark byte room ≤ 608
+  pub short : byteWritten net mark byte room ≤ replySize * length (netIn slots net .modules)
+  pub most : byteWritten net mark byte room ≤ roomSize
 
 abbrev pub WrittenRoom : Type 0
 WrittenRoom = (net : List ℕ) (mark byte : ℕ) (room : List ℕ) → Written net mark byte room
 
--- A byte that ends no frame, for which the call gives 0, changes no byte of the record but the receiver's 19, and none of the room.
+-- A byte that ends no frame, for which the call gives 0, changes no byte of the record but the receiver's, and none of the room.
 abbrev pub NoFrame : Type 0
 NoFrame =
     (net : List ℕ) (mark byte : ℕ) (room : List ℕ)
     → Bytes net
     → byteNumber net mark byte room ≡ 0
-    → (drop 19 (byteRecord net mark byte room) ≡ drop 19 net)
+    → (drop receiverSize (byteRecord net mark byte room) ≡ drop receiverSize net)
     × (byteRoom net mark byte room ≡ room)
     × (byteWritten net mark byte room ≡ 0)

@@ -4,8 +4,10 @@ use mathlib.Core.List.{List, [], _∷_}
 use mathlib.Core.Bool.{Bool, cond, not, _||_}
 use lib.ListN.{length}
 use lib.Dec.{eqb, ltb}
+use Rattle.inout_rules.specs.Answers as Inout
+use Rattle.servo_rules.specs.Answers as Servos
 use Rattle.types_rules.specs.Types.{slots}
-use Rattle.net_rules.specs.Record.{recordSize, netIn, valid}
+use Rattle.net_rules.specs.Record.{chainMost, recordSize, roomSize, netIn, valid}
 use Rattle.net_rules.specs.Calls.{allKnown, ofType}
 
 -- a line of the table: its number, and whether it applies
@@ -30,16 +32,16 @@ beyond net place = record { number = 13; applies = not (ltb place (length (netIn
 abbrev pub setupTable : List ℕ → List ℕ → List Line
 setupTable net types =
     record { number = 16; applies = not (eqb (length net) recordSize) }
-    ∷ record { number = 11; applies = eqb (length types) 0 || ltb 32 (length types) }
+    ∷ record { number = 11; applies = eqb (length types) 0 || ltb chainMost (length types) }
     ∷ record { number = 12; applies = not (allKnown types) }
     ∷ []
 
--- a line byte: 16, 14 the mark is neither 0 nor 1, 15 the room is under 608
+-- a line byte: 16, 14 the mark is neither 0 nor 1, 15 the room is under what all replies need
 abbrev pub byteTable : List ℕ → ℕ → List ℕ → List Line
 byteTable net mark room =
     broken net
     ∷ record { number = 14; applies = ltb 1 mark }
-    ∷ record { number = 15; applies = ltb (length room) 608 }
+    ∷ record { number = 15; applies = ltb (length room) roomSize }
     ∷ []
 
 -- 13: no module of type t is at the place; 14: a field of a sample is out of range
@@ -55,10 +57,10 @@ sampleTable t net place far = broken net ∷ unlike t net place ∷ outside far 
 
 -- a servo's power is at most 2, an I/O module's inputs are twelve bits
 abbrev pub servoSampleTable : List ℕ → ℕ → ℕ → List Line
-servoSampleTable net place power = sampleTable 0 net place (ltb 2 power)
+servoSampleTable net place power = sampleTable Servos.typeNumber net place (ltb 2 power)
 
 abbrev pub ioSampleTable : List ℕ → ℕ → ℕ → List Line
-ioSampleTable net place inputs = sampleTable 2 net place (ltb 4095 inputs)
+ioSampleTable net place inputs = sampleTable Inout.typeNumber net place (ltb 4095 inputs)
 
 -- a tick: 16
 abbrev pub tickTable : List ℕ → List Line

@@ -8,9 +8,10 @@ use native.Mathlib.Nat.{mul-suc}
 use lib.ListN.{length, length-append}
 use Rattle.line_receiver.specs.Frames.{Frame}
 use Rattle.line_receiver.specs.Receive.{total}
-use Rattle.module_station.specs.Touch.{named, speaks}
-use Rattle.chain_rules.specs.Chain.{Kind, join, executed, replied, handed, said}
-use Rattle.chain_rules.proofs.Touching.{speaks-before}
+use Rattle.module_rules.specs.Touch.{named, speaks}
+use Rattle.module_rules.specs.Kind.{Kind, executed, replied}
+use Rattle.chain_rules.specs.Chain.{join, handed, said}
+use Rattle.module_rules.proofs.Speaking.{speaks-before}
 
 pub length-join : (ws : List (List ℕ)) → length (join ws) ≡ total (map (λ (w : List ℕ). length w) ws)
 length-join [] = refl

@@ -6,7 +6,8 @@ use Rattle.line_receiver.specs.declared.Receiver.{Receiver}
 use Rattle.line_receiver.specs.declared.Answer.the-variants.{Ended}
 use Rattle.line_receiver.specs.Receive.{waits, taken}
 use Rattle.line_receiver.specs.Frames.{Byte, frameIn}
-use Rattle.chain_rules.specs.Chain.{Kind, Net, frameStep, byteStep}
+use Rattle.module_rules.specs.Kind.{Kind}
+use Rattle.chain_rules.specs.Chain.{Net, frameStep, byteStep}
 use Rattle.chain_rules.specs.Promises.{ByteTaken}
 
 module _ {M S : Type 0} (K : Kind M S) where

@@ -2,5 +2,3 @@ pub mod Touching
 pub mod Replies
 pub mod Bytes
 pub mod Along
-pub mod Slotted
-pub mod Either

@@ -10,7 +10,8 @@ use lib.ListN.{length, getElem?, getD, length-append}
 use lib.Dec.{eqb}
 use Rattle.line_receiver.specs.Frames.{Frame}
 use Rattle.line_receiver.specs.Receive.{total}
-use Rattle.chain_rules.specs.Chain.{Kind, Reply, flat, join, repliesOf, once, addresses, touched, replied, said, sentBy, repliesFrom}
+use Rattle.module_rules.specs.Kind.{Kind, replied}
+use Rattle.chain_rules.specs.Chain.{Reply, flat, join, repliesOf, once, addresses, touched, said, sentBy, repliesFrom}
 use Rattle.chain_rules.specs.Promises.{RepliesAre, Rising, InOrder, Lengths}
 use Rattle.chain_rules.proofs.Touching.{says}
 

@@ -6,10 +6,11 @@ use mathlib.Core.Option.{Option, some, none, Option·map}
 use Prim.Native.Nat.{ℕ, zero, suc}
 use lib.ListN.{getElem?}
 use Rattle.line_receiver.specs.Frames.{Frame}
-use Rattle.module_station.specs.declared.Address.{Address}
-use Rattle.module_station.specs.Touch.{named}
-use Rattle.chain_rules.specs.Chain.{Kind, addresses, touched, enabledAt, executed, replied, handed, said}
-use Rattle.chain_rules.specs.Promises.{TouchedBefore, Enabled, OwnRecord, Untouched, SpeaksBefore, Says}
+use Rattle.module_rules.specs.declared.Address.{Address}
+use Rattle.module_rules.specs.Touch.{named}
+use Rattle.module_rules.specs.Kind.{Kind, executed, replied}
+use Rattle.chain_rules.specs.Chain.{addresses, touched, enabledAt, handed, said}
+use Rattle.chain_rules.specs.Promises.{TouchedBefore, Enabled, OwnRecord, Untouched, Says}
 
 pub enabled : Enabled
 enabled a zero [] w e = let z : none ≡ some w = e in cc
@@ -46,12 +47,6 @@ module _ {M S : Type 0} (K : Kind M S) where
 
   pub says : Says K
   says f ms i = said-at f true ms i
-
-  pub speaks-before : SpeaksBefore K
-  speaks-before = (
-    λ f m e. ap (λ (t : Bool). cond t (K .reply f (executed K f m)) []) e,
-    λ f m e. ap (λ (t : Bool). cond t (K .reply f (executed K f m)) []) e,
-  )
 
   pub untouched : Untouched K
   untouched f ms i m e t = (

@@ -11,20 +11,9 @@ use Rattle.line_receiver.specs.declared.Answer.{Answer}
 use Rattle.line_receiver.specs.declared.Answer.the-variants.{Ended, Nothing}
 use Rattle.line_receiver.specs.Receive.{taken, numberOf}
 use Rattle.line_receiver.specs.Frames.{Byte, Frame, frameIn}
-use Rattle.module_station.specs.declared.Address.{Address}
-use Rattle.module_station.specs.Touch.{individually, named, speaks}
-
--- What the chain knows of a module type M, whose samples are S.
-pub record Kind (M S : Type 0) : Type 0 where
-  -- who the module is on the line
-  pub address : M → Address
-  -- the module after a frame that touched it, individually or by group
-  pub execute : Frame → Bool → M → M
-  -- its reply, of the record as it is after the frame; [] is none
-  pub reply : Frame → M → List ℕ
-  -- the module with a sample waiting, and after a tick
-  pub sample : S → M → M
-  pub tick : M → M
+use Rattle.module_rules.specs.declared.Address.{Address}
+use Rattle.module_rules.specs.Touch.{named}
+use Rattle.module_rules.specs.Kind.{Kind, executed, replied}
 
 pub record Net (M : Type 0) : Type 0 where
   pub receiver : Receiver
@@ -75,13 +64,6 @@ abbrev pub enabledAt : List Address → ℕ → Bool
 enabledAt ws zero = true
 enabledAt ws (suc i) = elim (getElem? ws i) [ none ↦ false | some p ↦ p .low ]
 
--- a touched module after the frame, and its reply
-abbrev pub executed : {M S : Type 0} → Kind M S → Frame → M → M
-executed K f m = K .execute f (individually (f .address) (K .address m)) m
-
-abbrev pub replied : {M S : Type 0} → Kind M S → Frame → M → List ℕ
-replied K f m = cond (speaks (f .address) (K .address m)) (K .reply f (executed K f m)) []
-
 -- the frame handed along the chain: enabling, touching and speaking are judged on the modules as they were before it
 abbrev pub handed : {M S : Type 0} → Kind M S → Frame → Bool → List M → List M
 handed K f enabled [] = []
@@ -118,3 +100,9 @@ byteStep K n b =
       | Nothing ↦ record { number = numberOf Nothing; net = record { receiver = t .next; modules = n .modules }; replies = [] }
       | Ended d ↦ frameStep K (frameIn (n .receiver) d) (t .next) (n .modules)
     ]
+
+-- the chain with g applied to the module at place i
+abbrev pub changed : {M : Type 0} → (M → M) → ℕ → List M → List M
+changed g i [] = []
+changed g zero (m ∷ ms) = g m ∷ ms
+changed g (suc i) (m ∷ ms) = m ∷ changed g i ms

@@ -1,4 +1,2 @@
 pub mod Chain
-pub mod Slots
-pub mod Either
 pub mod Promises

@@ -9,9 +9,10 @@ use Rattle.line_receiver.specs.declared.Receiver.{Receiver}
 use Rattle.line_receiver.specs.declared.Answer.the-variants.{Ended}
 use Rattle.line_receiver.specs.Receive.{total, waits, taken}
 use Rattle.line_receiver.specs.Frames.{Byte, Frame, frameIn}
-use Rattle.module_station.specs.declared.Address.{Address}
-use Rattle.module_station.specs.Touch.{named, speaks}
-use Rattle.chain_rules.specs.Chain.{Kind, Net, Reply, flat, join, repliesOf, once, addresses, touched, enabledAt, executed, replied, handed, said, repliesFrom, frameStep, byteStep}
+use Rattle.module_rules.specs.declared.Address.{Address}
+use Rattle.module_rules.specs.Touch.{named}
+use Rattle.module_rules.specs.Kind.{Kind, executed, replied}
+use Rattle.chain_rules.specs.Chain.{Net, Reply, flat, join, repliesOf, once, addresses, touched, enabledAt, handed, said, repliesFrom, frameStep, byteStep}
 
 -- After a frame the module at place i is the one that was there, executed exactly if the addresses before the frame say that it is touched.
 abbrev pub TouchedBefore : {M S : Type 0} → Kind M S → Type 0
@@ -46,12 +47,6 @@ Untouched {M} K =
     → getElem? ms i ≡ some m
     → touched true (f .address) (addresses K ms) i ≡ false
     → (getElem? (handed K f true ms) i ≡ some m) × (getElem? (said K f true ms) i ≡ some [])
-
--- Whether a touched module replies is judged on its address before the frame; its reply is that of its record after the frame.
-abbrev pub SpeaksBefore : {M S : Type 0} → Kind M S → Type 0
-SpeaksBefore {M} K =
-    ((f : Frame) (m : M) → speaks (f .address) (K .address m) ≡ false → replied K f m ≡ [])
-    × ((f : Frame) (m : M) → speaks (f .address) (K .address m) ≡ true → replied K f m ≡ K .reply f (executed K f m))
 
 -- Place i says its module's reply if it is touched, and nothing if not.
 abbrev pub Says : {M S : Type 0} → Kind M S → Type 0

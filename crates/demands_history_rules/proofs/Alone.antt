@@ -7,7 +7,8 @@ use Prim.Native.Nat.{ℕ}
 use lib.ListN.{getElem?}
 use Rattle.line_receiver.specs.Receive.{idle}
 use Rattle.line_receiver.specs.Frames.{Frame}
-use Rattle.chain_rules.specs.Chain.{Kind, Net, repliesOf, addresses}
+use Rattle.module_rules.specs.Kind.{Kind}
+use Rattle.chain_rules.specs.Chain.{Net, repliesOf, addresses}
 use Rattle.chain_rules.proofs.Replies.{replies-append}
 use Rattle.demands_history_rules.specs.Events.{Event, sent, sampled, ticked, event, run, Frames, meets, metInTurn, own, ownReply, alone, aloneReplies}
 use Rattle.demands_history_rules.proofs.Events.{WholeEvent, map-same, fromSome, from-nothing, event-idle, event-at, event-replies}

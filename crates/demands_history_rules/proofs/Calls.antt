@@ -7,7 +7,8 @@ use Prim.Native.Nat.{ℕ}
 use borrow.Author.Tests.{eqb-true, eqb-false}
 use lib.ListN.{take}
 use lib.Dec.{eqb}
-use Rattle.chain_rules.specs.Chain.{Kind, Net, Reply, flat}
+use Rattle.module_rules.specs.Kind.{Kind}
+use Rattle.chain_rules.specs.Chain.{Net, Reply, flat}
 use Rattle.types_rules.specs.Types.{Module, AnySample, kind, slots}
 use Rattle.net_rules.specs.Record.{netIn}
 use Rattle.api_rules.specs.Table.{Line, first}

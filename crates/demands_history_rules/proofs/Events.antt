@@ -14,11 +14,11 @@ use Rattle.line_receiver.specs.Receive.{idle, taken}
 use Rattle.line_receiver.specs.Frames.{Byte, Frame, Reading, waiting, ended, reads, frameIn}
 use Rattle.line_receiver.proofs.Holding.{reads-on, reads-end}
 use Rattle.line_receiver.proofs.Marked.{marked}
-use Rattle.chain_rules.specs.Chain.{Kind, Net, Reply, Step, repliesOf, once, addresses, touched, executed, replied, handed, said, repliesFrom}
+use Rattle.module_rules.specs.Kind.{Kind, executed, replied}
+use Rattle.chain_rules.specs.Chain.{Net, Reply, Step, repliesOf, once, addresses, touched, handed, said, repliesFrom, changed}
 use Rattle.chain_rules.proofs.Touching.{touched-before}
 use Rattle.chain_rules.proofs.Replies.{replies-are}
 use Rattle.chain_rules.proofs.Bytes.{step-on, step-end}
-use Rattle.net_rules.specs.Walk.{changed}
 use Rattle.demands_history_rules.specs.Events.{Event, sent, sampled, ticked, Outcome, after, taking, event, Reads, FramesAreWhole, ofFrame, meets, own, ownReply}
 
 pub frames-are-whole : FramesAreWhole

@@ -2,7 +2,8 @@
 use mathlib.Core.Path.{_≡_, refl, sym, ap, _∙_}
 use mathlib.Core.List.{List, [], _∷_, _++_, map, append-nil, append-assoc}
 use Rattle.line_receiver.specs.Frames.{Byte}
-use Rattle.chain_rules.specs.Chain.{Kind, Net, Reply, byteStep}
+use Rattle.module_rules.specs.Kind.{Kind}
+use Rattle.chain_rules.specs.Chain.{Net, Reply, byteStep}
 use Rattle.demands_history_rules.specs.Events.{Event, sent, sampled, ticked, Outcome, after, taking, event, run, singly}
 
 module _ {M S : Type 0} (K : Kind M S) where

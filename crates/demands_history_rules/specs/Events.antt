@@ -8,9 +8,9 @@ use lib.ListN.{length}
 use lib.Dec.{eqb}
 use Rattle.line_receiver.specs.Receive.{idle}
 use Rattle.line_receiver.specs.Frames.{Byte, Frame, waiting, ended, reads, header}
-use Rattle.module_station.specs.declared.Address.{Address}
-use Rattle.chain_rules.specs.Chain.{Kind, Net, Reply, once, addresses, touched, executed, replied, byteStep}
-use Rattle.net_rules.specs.Walk.{changed}
+use Rattle.module_rules.specs.declared.Address.{Address}
+use Rattle.module_rules.specs.Kind.{Kind, executed, replied}
+use Rattle.chain_rules.specs.Chain.{Net, Reply, once, addresses, touched, byteStep, changed}
 
 -- what happens to a network: the bytes of a frame come, a sample for a place, a tick
 pub data Event (S : Type 0) : Type 0 where

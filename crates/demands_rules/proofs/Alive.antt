@@ -11,23 +11,27 @@ use lib.ListN.{length, replicate, length-replicate}
 use Rattle.line_receiver.specs.Receive.{idle, taken}
 use Rattle.line_receiver.specs.Frames.{Byte, Frame, reads, header, clean, written, values}
 use Rattle.line_receiver.proofs.Read.{read}
-use Rattle.module_station.specs.declared.Address.{Address}
-use Rattle.module_station.specs.Commands as Station
-use Rattle.module_station.specs.Report as Report
+use Rattle.module_rules.specs.declared.Address.{Address}
+use Rattle.module_rules.specs.Commands.{asked}
+use Rattle.module_rules.specs.Report.{report, replyOf}
+use Rattle.module_rules.specs.Rules.{request, execute, reply}
 use Rattle.chain_rules.specs.Chain.{Net, addresses, byteStep}
-use Rattle.inout_rules.specs.Commands as InoutCommands
-use Rattle.inout_rules.specs.Pins as Pins
-use Rattle.inout_rules.specs.Module as Inout
-use Rattle.servo_filter.specs.Filter as Filter
-use Rattle.servo_parse.specs.Loads as Carried
-use Rattle.servo_parse.specs.Orders as Orders
-use Rattle.servo_rules.specs.Servo as Servo
-use Rattle.servo_rules.specs.Loads as Loads
-use Rattle.servo_rules.specs.Orders as Performed
+use Rattle.inout_rules.specs.Asks as InoutAsks
+use Rattle.inout_rules.specs.Pins.{blend}
+use Rattle.inout_rules.specs.Answers as Inout
+use Rattle.servo_filter.specs.Filter.{held}
+use Rattle.servo_rules.specs.Carried.{carriedIn, inRange}
+use Rattle.servo_rules.specs.Asks.{loadRequest, gainsIn, gainsFit, gainRequest, haltOf, stopRequest, own}
+use Rattle.servo_rules.specs.State.{idled}
+use Rattle.servo_rules.specs.Loads.{wayOf, loadOf, loaded, complete, startable, signedBy, start}
+use Rattle.servo_rules.specs.Perform.{stopped}
 use Rattle.servo_rules.specs.Tick as Tick
-use Rattle.servo_rules.specs.Answers as Answers
+use Rattle.servo_rules.specs.Tick.{putOut, pulsed, ran}
+use Rattle.servo_rules.specs.Answers as Servos
+use Rattle.servo_rules.specs.Answers.{done, statusOf, numbersOf, outputsFrom}
+use Rattle.types_rules.specs.Table.{servo, inout}
 use Rattle.types_rules.specs.Types.{Module, AnySample, kind, slots}
-use Rattle.net_rules.specs.Record.{recordSize, netIn}
+use Rattle.net_rules.specs.Record.{recordSize, roomSize, netIn}
 use Rattle.net_rules.specs.Calls.{byteOf, setUp}
 use Rattle.api_rules.specs.Calls.{setupRecord}
 use Rattle.api_rules.specs.Promises.{ValidRecord}
@@ -38,6 +42,10 @@ use Rattle.demands_rules.specs.Order.{MeetsTheSame, Lives, Alive}
 use Rattle.demands_rules.proofs.Calls.{from-setup, any-calls}
 use Rattle.demands_rules.proofs.Order.{keeps-address, order-does-not-matter, order-of-all, by-calls}
 use Rattle.demands_rules.proofs.OnTheLine.{small, fed-handed, fed-two, fed-both}
+
+-- a servo and an I/O module
+abbrev types : List ℕ
+types = Servos.typeNumber ∷ Inout.typeNumber ∷ []
 
 abbrev History : Type 0
 History = List (Event AnySample)
@@ -51,7 +59,7 @@ abbrev prepared : History
 prepared =
     frame 0 1 (1 ∷ 0xFF ∷ [])
     ∷ frame 0 1 (2 ∷ 0xFF ∷ [])
-    ∷ sampled 0 (inl (record { raw = 5; power = 1; ad = 0 }))
+    ∷ sampled 0 (servo, record { raw = 5; power = 1; ad = 0 })
     ∷ ticked
     ∷ frame 1 11 []
     ∷ frame 1 6 (0 ∷ 0 ∷ 0 ∷ 0 ∷ 0 ∷ 0 ∷ 0 ∷ 0 ∷ 255 ∷ 0 ∷ 0 ∷ 0 ∷ 1 ∷ 0 ∷ 1 ∷ [])
@@ -59,7 +67,7 @@ prepared =
     ∷ []
 
 unfoldable pub ready : Net Module
-ready = run kind prepared (setUp (0 ∷ 2 ∷ [])) .net
+ready = run kind prepared (setUp types) .net
 
 -- for the servo: a load of PWM 100, a Hard Reset of which a byte is marked, a start
 abbrev toServo : History
@@ -70,7 +78,7 @@ abbrev toInout : History
 toInout =
     frame 2 0 (0 ∷ 0 ∷ [])
     ∷ frame 2 6 (0x34 ∷ 0x02 ∷ [])
-    ∷ sampled 1 (inr (record { inputs = 0; ad1 = 77; ad2 = 0; ad3 = 0; counter = 0 }))
+    ∷ sampled 1 (inout, record { inputs = 0; ad1 = 77; ad2 = 0; ad3 = 0; counter = 0 })
     ∷ []
 
 -- each is asked: the servo for its position, the I/O module for its bits and the first A/D value
@@ -115,7 +123,7 @@ unfolding ready taken byteStep
 idles = refl
 
 ready-addresses : addresses kind (ready .modules) ≡ ws
-unfolding ws ready taken byteStep Station.asked InoutCommands.own InoutCommands.request Inout.execute Orders.own Orders.request Performed.execute Tick.ticked Orders.gainRequest Orders.gainsFit Orders.gainsIn Orders.stopRequest ones Orders.haltOf Performed.stopped
+unfolding ws ready taken byteStep asked request execute own Tick.ticked gainRequest gainsFit gainsIn stopRequest ones haltOf stopped
 ready-addresses = refl
 
 met-by : (i : ℕ) → metBy ws i oneByOne ≡ metBy ws i inTurns
@@ -164,7 +172,7 @@ in-turns =
     (x, (a, (y, (b, (c, (z, (d, tt)))))))
 
 lives : Lives (run kind oneByOne ready) × Lives (run kind inTurns ready)
-unfolding ready taken byteStep Station.asked InoutCommands.own InoutCommands.request Inout.execute Inout.reply Pins.blend Report.report Report.replyOf Orders.own Orders.request Orders.gainRequest Orders.gainsFit Orders.gainsIn Orders.stopRequest Orders.haltOf Orders.loadRequest ones Carried.inRange Carried.carriedIn Loads.loaded Loads.loadOf Loads.wayOf Loads.complete Loads.startable Loads.signedBy Loads.start Servo.idled Performed.stopped Performed.execute Filter.held Tick.putOut Tick.pulsed Tick.ticked Answers.done Answers.status Answers.numbers Answers.reply Answers.outputsOf
+unfolding ready taken byteStep asked request execute reply replyOf report InoutAsks.own blend own gainRequest gainsFit gainsIn stopRequest haltOf loadRequest ones inRange carriedIn loaded loadOf wayOf complete startable signedBy start idled stopped held putOut pulsed ran Tick.ticked done statusOf numbersOf outputsFrom
 lives = (
   record { servoDrives = refl; inoutDrives = refl; servoReplied = refl; inoutReplied = refl },
   record { servoDrives = refl; inoutDrives = refl; servoReplied = refl; inoutReplied = refl },
@@ -189,13 +197,13 @@ abbrev zeros : List ℕ
 zeros = replicate recordSize 0
 
 abbrev lent : List ℕ
-lent = setupRecord zeros (0 ∷ 2 ∷ [])
+lent = setupRecord zeros types
 
 abbrev room : List ℕ
-room = replicate 608 0
+room = replicate roomSize 0
 
-enough : 608 ≤ length room
-enough = omega (arith, length-replicate {A = ℕ} 608 0)
+enough : roomSize ≤ length room
+enough = omega (arith, length-replicate {A = ℕ} roomSize 0)
 
 abbrev noOp : ℕ → List Byte
 noOp address = clean (written address 14 [])
@@ -210,7 +218,7 @@ abbrev addressed : List ℕ
 addressed = leftBy (fed room (setFirst ++ setSecond)) lent
 
 valid : ValidRecord lent
-valid = from-setup zeros (0 ∷ 2 ∷ []) refl .0
+valid = from-setup zeros types refl .0
 
 addressed-valid : ValidRecord addressed
 addressed-valid =
@@ -218,20 +226,20 @@ addressed-valid =
 
 -- the network after the two Set Address, computed once
 addressedNet : Net Module
-addressedNet = run kind (sent setFirst ∷ sent setSecond ∷ []) (setUp (0 ∷ 2 ∷ [])) .net
+addressedNet = run kind (sent setFirst ∷ sent setSecond ∷ []) (setUp types) .net
 
 holds-addressed : netIn slots addressed ≡ addressedNet
 unfolding addressedNet
 holds-addressed =
     fed-both room setFirst setSecond lent enough valid (small (values (setFirst ++ setSecond)) refl)
-    ∙ ap (λ (n : Net Module). run kind (sent setFirst ∷ sent setSecond ∷ []) n .net) (from-setup zeros (0 ∷ 2 ∷ []) refl .1)
+    ∙ ap (λ (n : Net Module). run kind (sent setFirst ∷ sent setSecond ∷ []) n .net) (from-setup zeros types refl .1)
 
 addressed-idles : addressedNet .receiver ≡ idle
 unfolding addressedNet taken byteStep
 addressed-idles = refl
 
 addressed-ws : addresses kind (addressedNet .modules) ≡ ws
-unfolding addressedNet ws taken byteStep Station.asked InoutCommands.own InoutCommands.request Inout.execute Orders.own Orders.request Performed.execute
+unfolding addressedNet ws taken byteStep asked request execute
 addressed-ws = refl
 
 abbrev firstThenSecond : History

@@ -6,11 +6,11 @@ use Prim.Native.Nat.{ℕ}
 use Rattle.chain_rules.specs.Chain.{Net, Reply, flat}
 use Rattle.types_rules.specs.Types.{Module, AnySample, kind, slots}
 use Rattle.net_rules.specs.Record.{netIn}
-use Rattle.api_rules.specs.Promises.{ValidRecord, Refuses, Passes}
+use Rattle.api_rules.specs.Promises.{Refuses, Passes}
 use Rattle.api_rules.proofs.Kept.{kept, holds}
 use Rattle.api_rules.proofs.Refused.{refused, done}
 use Rattle.demands_history_rules.specs.Events.{Event, event, run}
-use Rattle.demands_history_rules.specs.Calls.{Call, AllHanded, refusals, leaves, leftBy, writes, writtenBy, does, doneBy}
+use Rattle.demands_history_rules.specs.Calls.{Call, refusals, leaves, leftBy, writes, writtenBy, does, doneBy}
 use Rattle.demands_history_rules.proofs.Calls.{passes?, call-kept, refused-leaves, refused-writes, passed-leaves, passed-writes}
 use Rattle.demands_rules.specs.Motion.{FromSetup, Through, AnyCalls, RefusedIsNoStep}
 

@@ -1,9 +1,9 @@
 -- Demand 1 through the exported calls. Assumes nothing.
 use mathlib.Core.Path.{_≡_, refl, sym, ap, subst, _∙_}
 use mathlib.Core.Logic.{_⊎_, inl, inr}
-use mathlib.Core.List.{List, [], _∷_, _++_, map}
+use mathlib.Core.List.{List, [], _∷_, map}
 use mathlib.Core.Bool.{Bool, true, false, cond, true≢false}
-use mathlib.Core.Option.{Option, some, Option·map}
+use mathlib.Core.Option.{Option, some, none, Option·map}
 use Prim.Native.Nat.{ℕ, zero, suc}
 use lib.ListN.{getElem?}
 use lib.Dec.{eqb}
@@ -12,20 +12,22 @@ use Rattle.line_receiver.specs.declared.Received.{Received}
 use Rattle.line_receiver.specs.declared.Answer.{Answer}
 use Rattle.line_receiver.specs.declared.Answer.the-variants.{Ended, Nothing}
 use Rattle.line_receiver.specs.Receive.{taken}
-use Rattle.line_receiver.specs.Frames.{Byte, Frame, frameIn}
-use Rattle.module_station.specs.Touch.{individually}
-use Rattle.chain_rules.specs.Chain.{Net, Step, addresses, touched, executed, byteStep}
+use Rattle.line_receiver.specs.Frames.{Frame, frameIn}
+use Rattle.module_rules.specs.Touch.{individually}
+use Rattle.module_rules.specs.Kind.{executed}
+use Rattle.chain_rules.specs.Chain.{Net, Step, addresses, touched, byteStep}
 use Rattle.chain_rules.proofs.Bytes.{step-on, step-end}
 use Rattle.chain_rules.proofs.Touching.{touched-before}
 use Rattle.servo_rules.specs.declared.Sample.{Sample}
 use Rattle.servo_rules.specs.declared.Servo.{Servo}
-use Rattle.servo_rules.specs.Servo.{started, sampled}
-use Rattle.servo_rules.specs.Orders.{execute}
+use Rattle.servo_rules.specs.State.{sampled}
 use Rattle.servo_rules.specs.Tick.{ticked}
+use Rattle.servo_rules.specs.Answers.{execute}
 use Rattle.servo_rules.specs.RestPromises.{Resting}
 use Rattle.servo_rules.proofs.AtRest.{stays-resting}
 use Rattle.servo_slot_rules.specs.Promises.{Fits}
-use Rattle.types_rules.specs.Types.{Module, AnySample, kind, slots, powered}
+use Rattle.types_rules.specs.Table.{ModuleType, servo, inout, Of, rulesOf}
+use Rattle.types_rules.specs.Types.{Module, AnySample, kind, typeIn, slots, powered}
 use Rattle.types_rules.proofs.Laws.{lawful}
 use Rattle.net_rules.specs.Record.{netIn}
 use Rattle.net_rules.specs.Calls.{byteOf, sampleStep}
@@ -39,16 +41,25 @@ use Rattle.demands_history_rules.specs.Events.{event}
 use Rattle.demands_history_rules.specs.Calls.{Call, byte, servoSample, ioSample, tick, Handed, AllHanded, refusals, leaves, leftBy, does}
 use Rattle.demands_history_rules.proofs.Events.{changed-at, map-at}
 use Rattle.demands_history_rules.proofs.Calls.{passes?, call-kept, refused-leaves, passed-leaves}
-use Rattle.demands_rules.specs.Motion.{Moves, Bound, AtRest, Begins, moving, bound, put, Starts, byStart, byLoad, byStopHere, At, LineStarts, CallStarts, EveryCall, StartedBy, Never}
+use Rattle.demands_rules.specs.Motion.{Moves, Bound, Begins, moving, bound, put, Starts, byStart, byLoad, byStopHere, At, LineStarts, CallStarts, EveryCall, StartedBy, Never}
 use Rattle.demands_rules.proofs.Motion.{resting-rests, rests-resting, frame-starts, frame-rests, ticked-bound, ticked-moves, ticked-rests, sampled-begins}
 
-same-place : (ms : List Module) (i : ℕ) (m k : Servo) → getElem? ms i ≡ some (inl m) → getElem? ms i ≡ some (inl k) → m ≡ k
-same-place ms i m k e q = let z : some (inl m) ≡ some (inl k) = sym e ∙ q in cc
+-- the servo that a module is, if it is one
+abbrev servoOf : (t : ModuleType) → Of t → Option Servo
+servoOf servo m = some m
+servoOf inout m = none
+
+abbrev servoIn : Option Module → Option Servo
+servoIn none = none
+servoIn (some m) = servoOf (m .0) (m .1)
+
+same-place : (ms : List Module) (i : ℕ) (m k : Servo) → getElem? ms i ≡ some (servo, m) → getElem? ms i ≡ some (servo, k) → m ≡ k
+same-place ms i m k e q = let z : some m ≡ some k = ap servoIn (sym e ∙ q) in cc
 
 -- every module of a valid record fits its slot
-each-at : (ms : List Module) (i : ℕ) (m : Servo) → Each (slots .fits) ms → getElem? ms i ≡ some (inl m) → Fits m
+each-at : (ms : List Module) (i : ℕ) (m : Servo) → Each (slots .fits) ms → getElem? ms i ≡ some (servo, m) → Fits m
 each-at [] i m h e = let z : _≡_ {A = Bool} true false = cc in absurd (true≢false z)
-each-at (x ∷ ms) zero m h e = let z : x ≡ inl m = cc in subst (slots .fits) z (h .0)
+each-at (x ∷ ms) zero m h e = let z : x ≡ (servo, m) = cc in subst (slots .fits) z (h .0)
 each-at (x ∷ ms) (suc i) m h e = each-at ms i m (h .1) e
 
 fits-at : (net : List ℕ) (i : ℕ) (m : Servo) → ValidRecord net → At net i m → Fits m
@@ -67,7 +78,7 @@ data Made (net : List ℕ) (i : ℕ) (m : Servo) : Call → Servo → Type 0 whe
 
 -- after a step that is not refused place i has a servo that such a step can make
 Makes : List ℕ → ℕ → Servo → Call → Type 0
-Makes net i m c = (k : Servo) × (getElem? (event kind (does c) (netIn slots net) .net .modules) i ≡ some (inl k)) × Made net i m c k
+Makes net i m c = (k : Servo) × (getElem? (event kind (does c) (netIn slots net) .net .modules) i ≡ some (servo, k)) × Made net i m c k
 
 isTick : Call → Bool
 isTick (byte mark x room) = false
@@ -90,15 +101,15 @@ module _ (net : List ℕ) (i : ℕ) (m : Servo) (before : At net i m) where
   unfolding Makes
   after-frame mark x room goes d r e t q =
       let f : Frame = frameIn (n .receiver) d in
-      let p : getElem? (byteStep kind n (byteOf x (eqb mark 1)) .net .modules) i ≡ some (cond t (executed kind f (inl m)) (inl m)) =
+      let p : getElem? (byteStep kind n (byteOf x (eqb mark 1)) .net .modules) i ≡ some (cond t (executed kind f (servo, m)) (servo, m)) =
       ap (λ (s : Step Module). getElem? (s .net .modules) i) (step-end kind n (byteOf x (eqb mark 1)) r d e)
       ∙ touched-before kind f (n .modules) i
       ∙ ap (λ (o : Option Module). Option·map (λ (m : Module). cond (touched true (f .address) (addresses kind (n .modules)) i) (executed kind f m) m) o) before
-      ∙ ap (λ (t : Bool). some (cond t (executed kind f (inl m)) (inl m))) q in
+      ∙ ap (λ (t : Bool). some (cond t (executed kind f (servo, m)) (servo, m))) q in
       by t q p
     where
       by : (t : Bool) → touched true (n .receiver .address) (addresses kind (n .modules)) i ≡ t
-          → getElem? (byteStep kind n (byteOf x (eqb mark 1)) .net .modules) i ≡ some (cond t (executed kind (frameIn (n .receiver) d) (inl m)) (inl m))
+          → getElem? (byteStep kind n (byteOf x (eqb mark 1)) .net .modules) i ≡ some (cond t (executed kind (frameIn (n .receiver) d) (servo, m)) (servo, m))
           → Makes net i m (byte mark x room)
       by true q p = (_, p, framed mark x room d goes (ap (λ (r : Received). r .answer) e) q)
       by false q p = (m, p, same (byte mark x room))
@@ -110,15 +121,15 @@ module _ (net : List ℕ) (i : ℕ) (m : Servo) (before : At net i m) where
       (m, ap (λ (s : Step Module). getElem? (s .net .modules) i) (step-on kind n (byteOf x (eqb mark 1)) r e) ∙ before, same (byte mark x room))
   after-byte mark x room goes (Ended d) r e = after-frame mark x room goes d r e (touched true (n .receiver .address) (addresses kind (n .modules)) i) refl
 
-  -- a sample, of either type, for place i or another
+  -- a sample, of whatever type, for place i or another
   sample-seen : (place : ℕ) (x : AnySample)
-      → getElem? (sampleStep place x n .modules) i ≡ some (cond (eqb i place) (kind .sample x (inl m)) (inl m))
+      → getElem? (sampleStep place x n .modules) i ≡ some (cond (eqb i place) (kind .sample x (servo, m)) (servo, m))
   sample-seen place x =
       changed-at (kind .sample x) place (n .modules) i
       ∙ ap (λ (o : Option Module). Option·map (λ (m : Module). cond (eqb i place) (kind .sample x m) m) o) before
 
   after-sample : (c : Call) (place : ℕ) (x : Sample) → isTick c ≡ false → (t : Bool)
-      → getElem? (event kind (does c) n .net .modules) i ≡ some (cond t (kind .sample (inl x) (inl m)) (inl m)) → Makes net i m c
+      → getElem? (event kind (does c) n .net .modules) i ≡ some (cond t (kind .sample (servo, x) (servo, m)) (servo, m)) → Makes net i m c
   unfolding Makes
   after-sample c place x e true p = (sampled x m, p, measured c x (no-tick c e))
   after-sample c place x e false p = (m, p, same c)
@@ -133,7 +144,7 @@ module _ (net : List ℕ) (i : ℕ) (m : Servo) (before : At net i m) where
   makes (servoSample place raw power ad) goes =
       after-sample (servoSample place raw power ad) place (record { raw = raw; power = power; ad = ad }) refl (eqb i place) (sample-seen place (servoSampleOf raw power ad))
   makes (ioSample place inputs ad1 ad2 ad3 counter) goes =
-      (m, sample-seen place (ioSampleOf inputs ad1 ad2 ad3 counter) ∙ ap some (unmoved (eqb i place) (inl m)), same (ioSample place inputs ad1 ad2 ad3 counter))
+      (m, sample-seen place (ioSampleOf inputs ad1 ad2 ad3 counter) ∙ ap some (unmoved (eqb i place) (servo, m)), same (ioSample place inputs ad1 ad2 ad3 counter))
   makes tick goes = (ticked m, map-at (kind .tick) (n .modules) i ∙ ap (λ (o : Option Module). Option·map (kind .tick) o) before, timed)
 
 -- the servo that a call leaves, refused or not
@@ -204,17 +215,14 @@ tick-call net i m k v e q =
     by _ (measured c x u) = absurd (u refl)
     by _ timed = (ticked-moves m t, ticked-bound m t)
 
-powered-rests : (types : List ℕ) (i : ℕ) (k : Servo) → getElem? (map powered types) i ≡ some (inl k) → Resting k
+powered-rests : (types : List ℕ) (i : ℕ) (k : Servo) → getElem? (map powered types) i ≡ some (servo, k) → Resting k
 powered-rests [] i k e = let z : _≡_ {A = Bool} true false = cc in absurd (true≢false z)
-powered-rests (t ∷ ts) zero k e = at (eqb t 0) refl
+powered-rests (n ∷ ns) zero k e = at (typeIn n) (ap servoIn e)
   where
-    at : (u : Bool) → eqb t 0 ≡ u → Resting k
-    at true q =
-        let p : powered t ≡ inl started = rw q refl in
-        let z : started ≡ k = cc in
-        subst Resting z (stays-resting .power)
-    at false q = let z : _≡_ {A = Bool} true false = cc in absurd (true≢false z)
-powered-rests (t ∷ ts) (suc i) k e = powered-rests ts i k e
+    at : (t : ModuleType) → servoOf t (rulesOf t .started) ≡ some k → Resting k
+    at servo q = let z : rulesOf servo .started ≡ k = cc in subst Resting z (stays-resting .power)
+    at inout q = let z : _≡_ {A = Bool} true false = cc in absurd (true≢false z)
+powered-rests (n ∷ ns) (suc i) k e = powered-rests ns i k e
 
 pub every-call : EveryCall
 every-call = record {

@@ -1,7 +1,7 @@
 -- Beside the theorems of demands 1 and 2: servos, frames, calls and records that meet what they ask for, computed. Assumes nothing.
-use mathlib.Core.Path.{_≡_, refl, sym, ap, ap₂, _∙_}
+use mathlib.Core.Path.{_≡_, refl, sym, ap, _∙_}
 use mathlib.Core.Logic.{inl, inr}
-use mathlib.Core.List.{List, [], _∷_, _++_, map, map-append, append-nil}
+use mathlib.Core.List.{List, [], _∷_, _++_, append-nil}
 use mathlib.Core.Bool.{true, false}
 use mathlib.Core.Option.{some}
 use Prim.Native.Nat.{ℕ, _+_, _≤_}
@@ -10,30 +10,33 @@ use lib.Count.{ones}
 use lib.ListN.{length, replicate, length-replicate, getElem?}
 use lib.IntN.{ℤ, pos, natAbs}
 use Rattle.base_integers.specs.Whole.{same, signed, difference}
-use Rattle.line_receiver.specs.Receive.{idle, taken}
+use Rattle.line_receiver.specs.Receive.{taken}
 use Rattle.line_receiver.specs.Frames.{Byte, Frame, reads, clean, written, values}
-use Rattle.module_station.specs.Commands.{asked}
+use Rattle.module_rules.specs.Commands.{asked}
+use Rattle.module_rules.specs.Rules as Any
 use Rattle.chain_rules.specs.Chain.{Net, addresses, touched, byteStep}
 use Rattle.servo_motion.specs.Trapezoid.{terms, stop, pick, greatest, nextSpeed}
 use Rattle.servo_motion.specs.Setpoint.{distance, moved}
 use Rattle.servo_motion.specs.Velocity.{toward}
 use Rattle.servo_motion.specs.Profile.{trapezoid, stepped, byTrapezoid, byVelocity}
 use Rattle.servo_filter.specs.Filter.{filtered}
-use Rattle.servo_parse.specs.Loads.{needed, carriedIn, inRange}
-use Rattle.servo_parse.specs.Orders.{loadRequest, haltOf, stopRequest, own, request}
 use Rattle.servo_rules.specs.declared.Mode.the-variants.{Velocity, Trapezoid}
 use Rattle.servo_rules.specs.declared.Servo.{Servo}
-use Rattle.servo_rules.specs.Servo.{started, sampled, idled}
-use Rattle.servo_rules.specs.Loads.{wayOf, loadOf, ratesOf, loaded, beginning, movable, complete, startable, signedBy, toSpeed, toPlace, start}
-use Rattle.servo_rules.specs.Orders.{holding, stopped, withCause, execute}
-use Rattle.servo_rules.specs.Tick.{advanced, servoed, ticked}
+use Rattle.servo_rules.specs.Carried.{needed, carriedIn, inRange}
+use Rattle.servo_rules.specs.Asks.{loadRequest, haltOf, stopRequest, own}
+use Rattle.servo_rules.specs.State.{started, sampled, idled}
+use Rattle.servo_rules.specs.Loads.{wayOf, loadOf, ratesOf, loaded, beginningAt, movable, complete, startable, signedBy, toSpeed, toPlace, start}
+use Rattle.servo_rules.specs.Perform.{holding, stopped}
+use Rattle.servo_rules.specs.Tick.{advanced, servoed, ran, ticked}
+use Rattle.servo_rules.specs.Answers.{typeNumber, withCause, execute}
 use Rattle.servo_rules.specs.RestPromises.{following}
 use Rattle.servo_slot_rules.specs.Promises.{Fits}
 use Rattle.servo_slot_rules.proofs.Within.{kept}
+use Rattle.types_rules.specs.Table.{servo}
 use Rattle.types_rules.specs.Types.{Module, AnySample, kind, slots}
-use Rattle.net_rules.specs.Record.{recordSize, netIn}
-use Rattle.net_rules.specs.Calls.{setUp, ofType}
-use Rattle.host_status.specs.Writing.{writtenOf}
+use Rattle.net_rules.specs.Record.{recordSize, roomSize, netIn}
+use Rattle.net_rules.specs.Calls.{setUp}
+use Rattle.host_rules.specs.Writing.{writtenOf}
 use Rattle.api_rules.specs.Table.{setupTable}
 use Rattle.api_rules.specs.Calls.{setupRecord, servoSampleOf}
 use Rattle.api_rules.specs.Promises.{Passes, Refuses, ValidRecord}
@@ -42,7 +45,7 @@ use Rattle.demands_history_rules.specs.Events as Events
 use Rattle.demands_history_rules.specs.Calls.{Call, byte, servoSample, tick, AllHanded, refusals, leaves, leftBy, doneBy}
 use Rattle.demands_history_rules.proofs.Singly.{run-singly}
 use Rattle.demands_history_rules.proofs.Calls.{call-kept}
-use Rattle.demands_rules.specs.Motion.{Moves, AtRest, Begins, moving, bound, put, Starts, At, StartedBy, Missed, short, NoneReady, IsStart, fed}
+use Rattle.demands_rules.specs.Motion.{Moves, AtRest, Begins, moving, bound, put, Starts, At, StartedBy, short, fed}
 use Rattle.demands_rules.proofs.Calls.{from-setup, any-calls, done-passed}
 use Rattle.demands_rules.proofs.Motion.{resting-rests, frame-starts}
 use Rattle.demands_rules.proofs.EveryCall.{every-call, never}
@@ -84,7 +87,7 @@ abbrev here : Frame
 here = undamaged 7 (16 ∷ 100 ∷ 0 ∷ 0 ∷ 0 ∷ [])
 
 -- no speed and no PWM value
-still : (m : Servo) → m .profile .speed ≡ pos 0 → m .drive .pulse ≡ pos 0 → Moves m → ⊥
+still : (m : Servo) → m .run .profile .speed ≡ pos 0 → m .run .drive .pulse ≡ pos 0 → Moves m → ⊥
 still m e q (inl n) = n e
 still m e q (inr n) = n q
 
@@ -97,20 +100,20 @@ awake-fits =
     (kept .tick _ (kept .sampling _ _ (omega arith, ((omega arith, omega arith), omega arith)) (kept .power)))
 
 rests : AtRest awake
-unfolding execute request asked own ticked distance difference signed
+unfolding Any.execute Any.request asked own ticked ran distance difference signed
 rests = resting-rests awake (record { speed = refl; pulse = refl; aim = λ e. refl; goal = λ e. refl })
 
 -- each of the three begins motion
 pub by-start : Begins (execute pulse true awake) (execute go true (execute pulse true awake))
-unfolding execute request asked own ticked loadRequest carriedIn inRange loaded loadOf ratesOf wayOf startable complete start idled signedBy ones
+unfolding Any.execute Any.request asked own ticked ran loadRequest carriedIn inRange loaded loadOf wayOf startable complete start idled signedBy ones
 by-start = moving (still (execute pulse true awake) refl refl) (inr (some-number 99 _ refl))
 
 pub by-load : Begins awake (execute speed true awake)
-unfolding execute request asked own ticked loadRequest carriedIn inRange loaded loadOf ratesOf wayOf startable complete start beginning toSpeed signedBy ones
+unfolding Any.execute Any.request asked own ticked loadRequest carriedIn inRange loaded loadOf ratesOf wayOf startable complete start toSpeed signedBy ones
 by-load = bound (rests .1) (inl (refl, some-number 99 _ refl))
 
 pub by-stop-here : Begins awake (execute here true awake)
-unfolding execute request asked own ticked stopRequest haltOf stopped holding difference signed ones
+unfolding Any.execute Any.request asked own ticked ran stopRequest haltOf stopped holding difference signed ones
 by-stop-here =
     let e : following (execute here true awake) ≡ pos 100 = refl in
     put (some-number 99 _ e) (some-number 99 _ e)
@@ -119,36 +122,39 @@ pub starts : Starts speed true awake
 starts = frame-starts speed true awake awake-fits by-load
 
 -- the speed laws of both modes speak of ticks that there are
-pub climbs : (execute speed true awake .drive .mode ≡ Velocity) × (ticked (execute speed true awake) .drive .mode ≡ Velocity) × Moves (ticked (execute speed true awake))
-unfolding execute request asked own ticked loadRequest carriedIn inRange loaded loadOf ratesOf wayOf startable complete start beginning toSpeed signedBy ones servoed advanced byVelocity stepped moved toward difference signed filtered
+pub climbs : (execute speed true awake .run .drive .mode ≡ Velocity) × (ticked (execute speed true awake) .run .drive .mode ≡ Velocity) × Moves (ticked (execute speed true awake))
+unfolding Any.execute Any.request asked own ticked ran loadRequest carriedIn inRange loaded loadOf ratesOf wayOf startable complete start beginningAt toSpeed signedBy ones servoed advanced byVelocity stepped moved toward difference signed filtered
 climbs = (refl, refl, inl (some-number 99 _ refl))
 
-pub travels : (execute go true (execute move true awake) .drive .mode ≡ Trapezoid) × (ticked (execute go true (execute move true awake)) .drive .mode ≡ Trapezoid)
-unfolding execute request asked own ticked loadRequest carriedIn inRange loaded loadOf ratesOf wayOf startable complete movable same start beginning toPlace distance difference signed ones servoed advanced byTrapezoid trapezoid stepped moved filtered terms stop pick greatest nextSpeed
+pub travels : (execute go true (execute move true awake) .run .drive .mode ≡ Trapezoid) × (ticked (execute go true (execute move true awake)) .run .drive .mode ≡ Trapezoid)
+unfolding Any.execute Any.request asked own ticked ran loadRequest carriedIn inRange loaded loadOf ratesOf wayOf startable complete movable same start beginningAt toPlace distance difference signed ones servoed advanced byTrapezoid trapezoid stepped moved filtered terms stop pick greatest nextSpeed
 travels = (refl, refl)
 
 -- ---- a record of one servo
+
+abbrev types : List ℕ
+types = typeNumber ∷ []
 
 abbrev zeros : List ℕ
 zeros = replicate recordSize 0
 
 abbrev lent : List ℕ
-lent = setupRecord zeros (0 ∷ [])
+lent = setupRecord zeros types
 
 abbrev room : List ℕ
-room = replicate 608 0
+room = replicate roomSize 0
 
-pub set-up : Passes (setupTable zeros (0 ∷ []))
+pub set-up : Passes (setupTable zeros types)
 set-up = refl
 
 pub valid : ValidRecord lent
-valid = from-setup zeros (0 ∷ []) set-up .0
+valid = from-setup zeros types set-up .0
 
-held : netIn slots lent ≡ setUp (0 ∷ [])
-held = from-setup zeros (0 ∷ []) set-up .1
+held : netIn slots lent ≡ setUp types
+held = from-setup zeros types set-up .1
 
-enough : 608 ≤ length room
-enough = omega (arith, length-replicate {A = ℕ} 608 0)
+enough : roomSize ≤ length room
+enough = omega (arith, length-replicate {A = ℕ} roomSize 0)
 
 at-power-up : At lent 0 started
 at-power-up = ap (λ (n : Net Module). getElem? (n .modules) 0) held
@@ -224,8 +230,8 @@ all-done =
     ∙ ap (λ (l : List (Event AnySample)). Events.ticked ∷ l)
     (fed-done room orders (leaves sampledLent tick) enough ticked-valid (small (values orders) refl) ∙ sym (append-nil _)))
 
-goes : getElem? (run kind happens (setUp (0 ∷ [])) .net .modules) 0 ≡ some (inl gone)
-unfolding taken byteStep execute request asked own ticked
+goes : getElem? (run kind happens (setUp types) .net .modules) 0 ≡ some (servo, gone)
+unfolding taken byteStep Any.execute Any.request asked own ticked
 goes = refl
 
 pub ends-moving : At (leftBy calls lent) 0 gone
@@ -238,11 +244,11 @@ ends-moving =
     ∙ goes
 
 gone-moves : Moves gone
-unfolding execute request asked own ticked loadRequest carriedIn inRange loaded loadOf ratesOf wayOf startable complete start idled signedBy ones
+unfolding Any.execute Any.request asked own ticked loadRequest carriedIn inRange loaded loadOf wayOf startable complete start idled signedBy ones
 gone-moves = inr (some-number 99 _ refl)
 
 started-rests : AtRest started
-started-rests = every-call .setup zeros (0 ∷ []) 0 started set-up at-power-up
+started-rests = every-call .setup zeros types 0 started set-up at-power-up
 
 pub was-started : StartedBy calls lent 0
 was-started = never lent calls 0 started gone valid are-handed at-power-up ends-moving started-rests (λ r. r .0 gone-moves)

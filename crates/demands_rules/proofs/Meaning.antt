@@ -1,9 +1,7 @@
 -- Demand 2: what was proved of the line, the motion and the filter, at the servos of a network. Assumes nothing.
 use mathlib.Core.Path.{_≡_, refl, sym, ap, subst, _∙_}
-use mathlib.Core.Logic.{_⊎_, inl, inr}
-use mathlib.Core.List.{List}
 use mathlib.Core.Bool.{Bool, true, false}
-use Prim.Native.Nat.{ℕ, zero, suc, _<_, _≤_}
+use Prim.Native.Nat.{ℕ, zero, suc, _≤_}
 use native.Mathlib.Omega.{arith}
 use borrow.Author.Tests.{eqb-true, eqb-false, leb-true, leb-false}
 use lib.Dec.{eqb, leb}
@@ -19,22 +17,22 @@ use Rattle.servo_motion.specs.Promises.{Asked, Running, Toward}
 use Rattle.servo_motion.proofs.Speeds.{next}
 use Rattle.servo_motion.proofs.Runs.{runs}
 use Rattle.servo_motion.proofs.Velocity.{velocity}
-use Rattle.servo_filter.specs.Filter.{held}
 use Rattle.servo_filter.proofs.Held.{held-most}
 use Rattle.servo_filter.proofs.Sizes.{largest, reached}
 use Rattle.servo_rules.specs.declared.Mode.{Mode}
 use Rattle.servo_rules.specs.declared.Mode.the-variants.{Off, Pwm, Hold, Velocity, Trapezoid}
+use Rattle.servo_rules.specs.declared.Run.{Run}
 use Rattle.servo_rules.specs.declared.Servo.{Servo}
-use Rattle.servo_rules.specs.Servo.{servoOff, idled, off}
-use Rattle.servo_rules.specs.Tick.{latch, unpowered, advancedBy, advanced, tripped, pulsed, ticked}
+use Rattle.servo_rules.specs.State.{servoOff, idled, off}
+use Rattle.servo_rules.specs.Tick.{unpowered, advancedBy, advanced, tripped, pulsed, ticked}
 use Rattle.servo_rules.specs.StopPromises.{Released}
 use Rattle.servo_rules.specs.TickPromises.{Ticking, followed}
 use Rattle.servo_rules.proofs.Keeping.{distinct}
-use Rattle.servo_rules.proofs.Ends.{ends}
+use Rattle.servo_rules.proofs.Ends.{tick-ends}
 use Rattle.servo_rules.proofs.Ticking.{ticks}
 use Rattle.servo_slot_rules.specs.Promises.{Fits}
 use Rattle.servo_slot_rules.proofs.Good.{InMode, good}
-use Rattle.host_status.proofs.Sent.{sent}
+use Rattle.host_rules.proofs.Sent.{sent}
 use Rattle.api_rules.proofs.Status.{status-read}
 use Rattle.types_rules.specs.Types.{kind}
 use Rattle.demands_history_rules.proofs.Events.{whole-event}
@@ -57,47 +55,47 @@ size-of-speed a top (negsuc d) v = unsigned (nextSpeed a top (suc d) (natAbs v))
 
 module _ (m : Servo) (t : Fits m) where
   abbrev p : Profile
-  p = m .profile
+  p = m .run .profile
 
   -- the profile's own step, by the mode
-  toward-goal : m .drive .mode ≡ Velocity → Toward (p .acceleration) (p .aim) (p .speed) (advanced (latch m) .speed)
+  toward-goal : m .run .drive .mode ≡ Velocity → Toward (p .acceleration) (p .aim) (p .speed) (advanced (m .run) .speed)
   unfolding advanced byVelocity stepped
   toward-goal e =
       subst (λ (k : Mode). Toward (p .acceleration) (p .aim) (p .speed) (advancedBy k p .speed)) (sym e)
       (velocity (p .acceleration) (p .aim) (p .speed))
 
-  greatest-speed : m .drive .mode ≡ Trapezoid
-      → Asked (p .acceleration) (p .top) (natAbs (left p)) (natAbs (p .speed)) (natAbs (advanced (latch m) .speed)) × Running (advanced (latch m))
+  greatest-speed : m .run .drive .mode ≡ Trapezoid
+      → Asked (p .acceleration) (p .top) (natAbs (left p)) (natAbs (p .speed)) (natAbs (advanced (m .run) .speed)) × Running (advanced (m .run))
   unfolding advanced byTrapezoid stepped
   greatest-speed e =
       let s = good m t .sane in
-      let r : Running p = subst (λ (k : Mode). InMode k (m .latched .power) p (m .memory) (m .drive)) e (s .mode) .2 in
+      let r : Running p = subst (λ (k : Mode). InMode k (m .samples .latched .power) (m .run)) e (s .mode) .2 in
       let a = next (p .acceleration) (p .top) (natAbs (left p)) (natAbs (p .speed)) (r .stops) in
       let w = sym (size-of-speed (p .acceleration) (p .top) (left p) (p .speed)) in
       subst (λ (k : Mode). Asked (p .acceleration) (p .top) (natAbs (left p)) (natAbs (p .speed)) (natAbs (advancedBy k p .speed)) × Running (advancedBy k p))
       (sym e)
       (subst (Asked (p .acceleration) (p .top) (natAbs (left p)) (natAbs (p .speed))) w a, runs p (s .profile) r)
 
-  abbrev After : Servo → Type 0
+  abbrev After : Run → Type 0
   After k =
-      (m .drive .mode ≡ Velocity → k .drive .mode ≡ Velocity → Toward (p .acceleration) (p .aim) (p .speed) (k .profile .speed))
-      × (m .drive .mode ≡ Trapezoid → k .drive .mode ≡ Trapezoid
+      (m .run .drive .mode ≡ Velocity → k .drive .mode ≡ Velocity → Toward (p .acceleration) (p .aim) (p .speed) (k .profile .speed))
+      × (m .run .drive .mode ≡ Trapezoid → k .drive .mode ≡ Trapezoid
       → Asked (p .acceleration) (p .top) (natAbs (left p)) (natAbs (p .speed)) (natAbs (k .profile .speed)) × Running (k .profile))
-      × ((m .drive .mode ≡ Off → ⊥) → k .drive .mode ≡ Off → Released k)
+      × ((m .run .drive .mode ≡ Off → ⊥) → k .drive .mode ≡ Off → Released k)
 
   -- an end in off
-  after-off : (k : Servo) → Released k → After k
+  after-off : (k : Run) → Released k → After k
   after-off k r = (
     λ e q. absurd (distinct Off Velocity refl (sym (r .mode) ∙ q)),
     λ e q. absurd (distinct Off Trapezoid refl (sym (r .mode) ∙ q)),
     λ n q. r,
   )
 
-  speeds : Speeds m p (ticked m .profile)
+  speeds : Speeds m p (ticked m .run .profile)
   unfolding unpowered pulsed tripped idled off
   speeds =
-      let a : After (ticked m) = ends After m (record {
-        low = λ q. after-off (unpowered (latch m)) (record { mode = refl; speed = refl; output = refl; pulse = refl; memory = refl });
+      let a : After (ticked m .run) = tick-ends After m (record {
+        low = λ q. after-off (unpowered (m .run)) (record { mode = refl; speed = refl; output = refl; pulse = refl; memory = refl });
         off = λ q. (
           λ e z. absurd (distinct Off Velocity refl (sym q ∙ e)),
           λ e z. absurd (distinct Off Trapezoid refl (sym q ∙ e)),
@@ -109,55 +107,55 @@ module _ (m : Servo) (t : Fits m) where
           λ n z. absurd (n z),
         );
         output = λ s y u. (λ e z. toward-goal e, λ e z. greatest-speed e, λ n z. absurd (n z));
-        trip = λ q. after-off (tripped (advanced (latch m)) (latch m)) (record { mode = refl; speed = refl; output = refl; pulse = refl; memory = refl });
+        trip = λ q. after-off (tripped (advanced (m .run)) (m .run)) (record { mode = refl; speed = refl; output = refl; pulse = refl; memory = refl });
       }) in
       record { velocity = a .0; trapezoid = a .1; off = a .2 }
 
   -- ---- outputs
 
   Most : ℤ → Type 0
-  Most z = natAbs z ≤ m .tuning .gains .ol
+  Most z = natAbs z ≤ m .settings .tuning .gains .ol
 
   none-most : (z : ℤ) → z ≡ pos 0 → Most z
   unfolding Most
   none-most z e = omega (arith, ap natAbs e)
 
-  served : Ticking m → (m .waiting .power ≡ 1) → servoOff (m .drive .mode) ≡ false → Most (ticked m .drive .output)
+  served : Ticking m → (m .samples .waiting .power ≡ 1) → servoOff (m .run .drive .mode) ≡ false → Most (ticked m .run .drive .output)
   unfolding Most
-  served k w s = at (leb (natAbs (followed m)) (m .tuning .gains .el)) refl
+  served k w s = at (leb (natAbs (followed m)) (m .settings .tuning .gains .el)) refl
     where
-      lit : m .waiting .power ≡ 0 → ⊥
+      lit : m .samples .waiting .power ≡ 0 → ⊥
       lit z = omega arith
 
-      at : (b : Bool) → leb (natAbs (followed m)) (m .tuning .gains .el) ≡ b → natAbs (ticked m .drive .output) ≤ m .tuning .gains .ol
+      at : (b : Bool) → leb (natAbs (followed m)) (m .settings .tuning .gains .el) ≡ b → natAbs (ticked m .run .drive .output) ≤ m .settings .tuning .gains .ol
       at true e =
           let q = k .runs lit s (leb-true _ _ e) .4 w in
-          subst (λ (z : ℤ). natAbs z ≤ m .tuning .gains .ol) (sym q) (held-most (m .tuning .gains .ol) _)
+          subst (λ (z : ℤ). natAbs z ≤ m .settings .tuning .gains .ol) (sym q) (held-most (m .settings .tuning .gains .ol) _)
       at false e = none-most _ (k .trip lit s (leb-false _ _ e) .0 .output)
 
-  output-most : natAbs (ticked m .drive .output) ≤ m .tuning .gains .ol
+  output-most : natAbs (ticked m .run .drive .output) ≤ m .settings .tuning .gains .ol
   unfolding Most
-  output-most = by (eqb (m .waiting .power) 1) refl
+  output-most = by (eqb (m .samples .waiting .power) 1) refl
     where
       k : Ticking m
       k = ticks m
 
-      silent : m .drive .mode ≡ Off → m .drive .output ≡ pos 0
-      silent e = subst (λ (k : Mode). InMode k (m .latched .power) p (m .memory) (m .drive)) e (good m t .sane .mode) .1
+      silent : m .run .drive .mode ≡ Off → m .run .drive .output ≡ pos 0
+      silent e = subst (λ (k : Mode). InMode k (m .samples .latched .power) (m .run)) e (good m t .sane .mode) .1
 
-      lit : m .waiting .power ≡ 1 → m .waiting .power ≡ 0 → ⊥
+      lit : m .samples .waiting .power ≡ 1 → m .samples .waiting .power ≡ 0 → ⊥
       lit w z = omega arith
 
-      mode : m .waiting .power ≡ 1 → (j : Mode) → m .drive .mode ≡ j → natAbs (ticked m .drive .output) ≤ m .tuning .gains .ol
-      mode w Off e = none-most _ (ap (λ (n : Servo). n .drive .output) (k .off (lit w) e) ∙ silent e)
+      mode : m .samples .waiting .power ≡ 1 → (j : Mode) → m .run .drive .mode ≡ j → natAbs (ticked m .run .drive .output) ≤ m .settings .tuning .gains .ol
+      mode w Off e = none-most _ (ap (λ (n : Servo). n .run .drive .output) (k .off (lit w) e) ∙ silent e)
       mode w Pwm e =
-          subst (λ (z : ℤ). natAbs z ≤ m .tuning .gains .ol) (sym (k .pulse (lit w) e .4 w)) (held-most (m .tuning .gains .ol) (m .drive .pulse))
+          subst (λ (z : ℤ). natAbs z ≤ m .settings .tuning .gains .ol) (sym (k .pulse (lit w) e .4 w)) (held-most (m .settings .tuning .gains .ol) (m .run .drive .pulse))
       mode w Hold e = served k w (ap servoOff e)
       mode w Velocity e = served k w (ap servoOff e)
       mode w Trapezoid e = served k w (ap servoOff e)
 
-      by : (b : Bool) → eqb (m .waiting .power) 1 ≡ b → natAbs (ticked m .drive .output) ≤ m .tuning .gains .ol
-      by true w = mode (eqb-true _ _ w) (m .drive .mode) refl
+      by : (b : Bool) → eqb (m .samples .waiting .power) 1 ≡ b → natAbs (ticked m .run .drive .output) ≤ m .settings .tuning .gains .ol
+      by true w = mode (eqb-true _ _ w) (m .run .drive .mode) refl
       by false w = none-most _ (k .unpowered (eqb-false _ _ w) silent)
 
 pub meaning : Meaning

@@ -1,7 +1,6 @@
 -- Demand 1 at one servo: what begins motion is one of the three starts. Assumes nothing.
 use mathlib.Core.Path.{_≡_, refl, sym, ap, ap₂, subst, _∙_}
 use mathlib.Core.Logic.{_⊎_, inl, inr}
-use mathlib.Core.List.{List, [], _∷_}
 use mathlib.Core.Bool.{Bool, true, false, true≢false, false≢true}
 use Prim.Native.Nat.{ℕ}
 use native.Mathlib.Omega.{arith}
@@ -17,34 +16,38 @@ use Rattle.servo_motion.specs.Profile.{Ranged, left, trapezoid, stepped, byTrap
 use Rattle.servo_motion.specs.Promises.{CanStop, Running}
 use Rattle.servo_motion.proofs.Speeds.{stillStops}
 use Rattle.servo_motion.proofs.Runs.{taken}
-use Rattle.servo_parse.specs.declared.Halt.{Halt}
-use Rattle.servo_parse.specs.declared.Halt.the-variants.{Keep, Release, Abrupt, Smooth, Here}
-use Rattle.servo_parse.specs.declared.Order.{Order}
-use Rattle.servo_parse.specs.declared.Order.the-variants.{Set, Reset, ResetPosition, LoadTrajectory, Start, SetGain, Stop, ClearBits}
-use Rattle.servo_parse.specs.declared.Request.{Request}
-use Rattle.servo_parse.specs.declared.Request.the-variants.{Malformed, Wants}
-use Rattle.servo_parse.specs.Orders.{request}
+use Rattle.module_rules.specs.declared.Station.{Station}
+use Rattle.module_rules.specs.Rules.{Request, malformed, set, reset, wants}
+use Rattle.servo_rules.specs.declared.Halt.{Halt}
+use Rattle.servo_rules.specs.declared.Halt.the-variants.{Keep, Release, Abrupt, Smooth, Here}
+use Rattle.servo_rules.specs.declared.Order.{Order}
+use Rattle.servo_rules.specs.declared.Order.the-variants.{ResetPosition, LoadTrajectory, Start, SetGain, Stop, ClearBits}
 use Rattle.servo_rules.specs.declared.Sample.{Sample}
 use Rattle.servo_rules.specs.declared.Mode.{Mode}
 use Rattle.servo_rules.specs.declared.Mode.the-variants.{Off, Pwm, Hold, Velocity, Trapezoid}
+use Rattle.servo_rules.specs.declared.Run.{Run}
 use Rattle.servo_rules.specs.declared.Servo.{Servo}
-use Rattle.servo_rules.specs.Servo.{servoOff, withProfile, sampled, idled, off}
+use Rattle.servo_rules.specs.State.{position, servoOff, withStation, withProfile, sampled, idled, off}
 use Rattle.servo_rules.specs.Loads.{loaded, startsNow, start, toSpeed}
-use Rattle.servo_rules.specs.Orders.{resetPosition, shifted, holding, smooth, halted, stopped, can, perform, withCause, settled, execute}
-use Rattle.servo_rules.specs.Tick.{latch, unpowered, advancedBy, advanced, tripped, pulsed, ticked}
+use Rattle.servo_rules.specs.Perform.{resetPosition, shifted, holding, smooth, haltedBy, stopped, can, perform}
+use Rattle.servo_rules.specs.Tick.{unpowered, advancedBy, advanced, tripped, pulsed, ticked}
+use Rattle.servo_rules.specs.Answers as Answers
+use Rattle.servo_rules.specs.Answers.{request, withCause, execute}
 use Rattle.servo_rules.specs.LoadPromises.{Starting}
 use Rattle.servo_rules.specs.StopPromises.{Counted}
 use Rattle.servo_rules.specs.RestPromises.{Resting, following}
-use Rattle.servo_rules.proofs.Cause.{cause}
 use Rattle.servo_rules.proofs.Keeping.{by-test, either, number, distinct}
+use Rattle.servo_rules.proofs.Framed.{leaves}
 use Rattle.servo_rules.proofs.Starting.{starts, start-now}
 use Rattle.servo_rules.proofs.Stopping.{stops-now}
 use Rattle.servo_rules.proofs.Shifting.{resets-position}
-use Rattle.servo_rules.proofs.Ends.{ends}
+use Rattle.servo_rules.proofs.Ends.{tick-ends}
 use Rattle.servo_rules.proofs.AtRest.{stays-resting}
 use Rattle.servo_rules.proofs.Placing.{only-here}
 use Rattle.servo_slot_rules.specs.Promises.{Fits}
 use Rattle.servo_slot_rules.proofs.Good.{InMode, good}
+use Rattle.types_rules.specs.Table.{servo}
+use Rattle.types_rules.proofs.Promised.{every-type}
 use Rattle.demands_rules.specs.Motion.{Moves, Bound, AtRest, Begins, moving, bound, put, Asks, Starts, byStart, byLoad, byStopHere, StartsAreExecuted}
 use Rattle.demands_rules.proofs.Asking.{Evident, evident}
 
@@ -52,7 +55,7 @@ use Rattle.demands_rules.proofs.Asking.{Evident, evident}
 counted : (m : Servo) → Fits m → Counted m
 counted m t =
     let g = good m t in
-    record { profile = g .sane .profile; raw = omega (arith, g .latched .0); last = omega (arith, g .counts .1) }
+    record { profile = g .sane .profile; raw = omega (arith, g .samples .1 .0); last = omega (arith, g .counts .1) }
 
 -- a number is 0 or not
 zero? : (z : ℤ) → (z ≡ pos 0) ⊎ (z ≡ pos 0 → ⊥)
@@ -68,6 +71,15 @@ stable z h = at (zero? z)
     at : (z ≡ pos 0) ⊎ (z ≡ pos 0 → ⊥) → z ≡ pos 0
     at (inl e) = e
     at (inr n) = absurd (h n)
+
+-- moving and on the way to it, of what runs
+abbrev Goes : Run → Type 0
+Goes r = (r .profile .speed ≡ pos 0 → ⊥) ⊎ (r .drive .pulse ≡ pos 0 → ⊥)
+
+abbrev Aims : Run → Type 0
+Aims r =
+    ((r .drive .mode ≡ Velocity) × (r .profile .aim ≡ pos 0 → ⊥))
+    ⊎ ((r .drive .mode ≡ Trapezoid) × (left (r .profile) ≡ pos 0 → ⊥))
 
 -- ---- at rest is neither moving nor on the way to it
 
@@ -91,14 +103,14 @@ rests-resting m (n, b) = record {
 }
 
 -- in any mode but the two no goal is gone to
-mode-unbound : (k : Mode) → eqb (number k) 3 ≡ false → eqb (number k) 4 ≡ false → (m : Servo) → m .drive .mode ≡ k → Bound m → ⊥
-mode-unbound k x y m e (inl b) = distinct k Velocity x (sym e ∙ b .0)
-mode-unbound k x y m e (inr b) = distinct k Trapezoid y (sym e ∙ b .0)
+mode-unbound : (k : Mode) → eqb (number k) 3 ≡ false → eqb (number k) 4 ≡ false → (r : Run) → r .drive .mode ≡ k → Aims r → ⊥
+mode-unbound k x y r e (inl b) = distinct k Velocity x (sym e ∙ b .0)
+mode-unbound k x y r e (inr b) = distinct k Trapezoid y (sym e ∙ b .0)
 
 bound? : (m : Servo) → Bound m ⊎ (Bound m → ⊥)
-bound? m = at (m .drive .mode) refl
+bound? m = at (m .run .drive .mode) refl
   where
-    fast : m .drive .mode ≡ Velocity → (m .profile .aim ≡ pos 0) ⊎ (m .profile .aim ≡ pos 0 → ⊥) → Bound m ⊎ (Bound m → ⊥)
+    fast : m .run .drive .mode ≡ Velocity → (m .run .profile .aim ≡ pos 0) ⊎ (m .run .profile .aim ≡ pos 0 → ⊥) → Bound m ⊎ (Bound m → ⊥)
     fast e (inr n) = inl (inl (e, n))
     fast e (inl z) = inr no
       where
@@ -106,7 +118,7 @@ bound? m = at (m .drive .mode) refl
         no (inl b) = b .1 z
         no (inr b) = distinct Velocity Trapezoid refl (sym e ∙ b .0)
 
-    far : m .drive .mode ≡ Trapezoid → (left (m .profile) ≡ pos 0) ⊎ (left (m .profile) ≡ pos 0 → ⊥) → Bound m ⊎ (Bound m → ⊥)
+    far : m .run .drive .mode ≡ Trapezoid → (left (m .run .profile) ≡ pos 0) ⊎ (left (m .run .profile) ≡ pos 0 → ⊥) → Bound m ⊎ (Bound m → ⊥)
     far e (inr n) = inl (inr (e, n))
     far e (inl z) = inr no
       where
@@ -114,12 +126,12 @@ bound? m = at (m .drive .mode) refl
         no (inl b) = distinct Trapezoid Velocity refl (sym e ∙ b .0)
         no (inr b) = b .1 z
 
-    at : (k : Mode) → m .drive .mode ≡ k → Bound m ⊎ (Bound m → ⊥)
-    at Off e = inr (mode-unbound Off refl refl m e)
-    at Pwm e = inr (mode-unbound Pwm refl refl m e)
-    at Hold e = inr (mode-unbound Hold refl refl m e)
-    at Velocity e = fast e (zero? (m .profile .aim))
-    at Trapezoid e = far e (zero? (left (m .profile)))
+    at : (k : Mode) → m .run .drive .mode ≡ k → Bound m ⊎ (Bound m → ⊥)
+    at Off e = inr (mode-unbound Off refl refl (m .run) e)
+    at Pwm e = inr (mode-unbound Pwm refl refl (m .run) e)
+    at Hold e = inr (mode-unbound Hold refl refl (m .run) e)
+    at Velocity e = fast e (zero? (m .run .profile .aim))
+    at Trapezoid e = far e (zero? (left (m .run .profile)))
 
 -- ---- which frames are one of the three
 
@@ -135,8 +147,6 @@ isHere Smooth = false
 isHere Here = true
 
 abbrev stopsHere : Order → Bool
-stopsHere (Set s) = false
-stopsHere Reset = false
 stopsHere ResetPosition = false
 stopsHere (LoadTrajectory c) = false
 stopsHere Start = false
@@ -147,25 +157,27 @@ stopsHere ClearBits = false
 no-here : (c : Order) → stopsHere c ≡ false → (a : Bool) (x : ℕ) → c ≡ Stop a Here x → ⊥
 no-here c n a x e = false≢true (sym n ∙ ap stopsHere e)
 
-abbrev orderIn : Request → Order
-orderIn Malformed = Start
-orderIn (Wants c) = c
+abbrev orderIn : Request Order → Order
+orderIn malformed = Start
+orderIn (set s) = Start
+orderIn reset = Start
+orderIn (wants c) = c
 
-abbrev isWanted : Request → Bool
-isWanted Malformed = false
-isWanted (Wants c) = true
+abbrev isWanted : Request Order → Bool
+isWanted malformed = false
+isWanted (set s) = false
+isWanted reset = false
+isWanted (wants c) = true
 
 module _ (f : Frame) (alone : Bool) (m : Servo) where
   abbrev Unstarted : Type 0
-  Unstarted = (c : Order) → f .damaged ≡ false → request f alone ≡ Wants c → can c m ≡ true → Quiet c
+  Unstarted = (c : Order) → f .damaged ≡ false → request f alone ≡ wants c → can c m ≡ true → Quiet c
 
-  asks : {code count : ℕ} {c : Order} → f .damaged ≡ false → f .code ≡ code → length (f .content) ≡ count → request f alone ≡ Wants c
+  asks : {code count : ℕ} {c : Order} → f .damaged ≡ false → f .code ≡ code → length (f .content) ≡ count → request f alone ≡ wants c
       → Asks f alone code count c
   asks d k n q = record { undamaged = d; named = k; whole = n; order = q }
 
-  by-order : (c : Order) → f .damaged ≡ false → request f alone ≡ Wants c → can c m ≡ true → Starts f alone m ⊎ Quiet c
-  by-order (Set s) d q t = inr (λ s. s, no-here (Set s) refl)
-  by-order Reset d q t = inr (λ s. s, no-here Reset refl)
+  by-order : (c : Order) → f .damaged ≡ false → request f alone ≡ wants c → can c m ≡ true → Starts f alone m ⊎ Quiet c
   by-order ResetPosition d q t = inr (λ s. s, no-here ResetPosition refl)
   by-order (LoadTrajectory c) d q t = at (startsNow c) refl
     where
@@ -190,72 +202,75 @@ module _ (f : Frame) (alone : Bool) (m : Servo) where
   starts? : Starts f alone m ⊎ Unstarted
   starts? = at (f .damaged) refl (request f alone) refl
     where
-      known : (c : Order) → request f alone ≡ Wants c → Starts f alone m ⊎ Quiet c → Starts f alone m ⊎ Unstarted
+      known : (c : Order) → request f alone ≡ wants c → Starts f alone m ⊎ Quiet c → Starts f alone m ⊎ Unstarted
       known c e (inl s) = inl s
       known c e (inr y) = inr (λ b d q t. subst Quiet (ap orderIn (sym e ∙ q)) y)
 
-      able : (c : Order) → f .damaged ≡ false → request f alone ≡ Wants c → (t : Bool) → can c m ≡ t → Starts f alone m ⊎ Unstarted
+      able : (c : Order) → f .damaged ≡ false → request f alone ≡ wants c → (t : Bool) → can c m ≡ t → Starts f alone m ⊎ Unstarted
       able c d e true t = known c e (by-order c d e t)
       able c d e false t = inr (λ b g q u. absurd (false≢true (sym t ∙ ap (λ (c : Order). can c m) (ap orderIn (sym e ∙ q)) ∙ u)))
 
-      at : (d : Bool) → f .damaged ≡ d → (q : Request) → request f alone ≡ q → Starts f alone m ⊎ Unstarted
+      none : (q : Request Order) → request f alone ≡ q → isWanted q ≡ false → Starts f alone m ⊎ Unstarted
+      none q e n = inr (λ c g r t. absurd (false≢true (sym n ∙ ap isWanted (sym e ∙ r))))
+
+      at : (d : Bool) → f .damaged ≡ d → (q : Request Order) → request f alone ≡ q → Starts f alone m ⊎ Unstarted
       at true d q e = inr (λ c g r t. absurd (true≢false (sym d ∙ g)))
-      at false d Malformed e = inr (λ c g r t. absurd (false≢true (ap isWanted (sym e ∙ r))))
-      at false d (Wants c) e = able c d e (can c m) refl
+      at false d malformed e = none malformed e refl
+      at false d (set s) e = none (set s) e refl
+      at false d reset e = none reset e refl
+      at false d (wants c) e = able c d e (can c m) refl
 
 -- ---- what no other order begins
 
 -- with no speed and no PWM value nothing moves
-gone : (m n : Servo) → n .profile .speed ≡ pos 0 → n .drive .pulse ≡ pos 0 → Moves n → Moves m
-gone m n e q (inl z) = absurd (z e)
-gone m n e q (inr z) = absurd (z q)
+gone : (r n : Run) → n .profile .speed ≡ pos 0 → n .drive .pulse ≡ pos 0 → Goes n → Goes r
+gone r n e q (inl z) = absurd (z e)
+gone r n e q (inr z) = absurd (z q)
 
-slow-moves : (m n : Servo) → n .profile .speed ≡ m .profile .speed → n .drive .pulse ≡ pos 0 → Moves n → Moves m
-slow-moves m n e q (inl z) = inl (λ s. z (e ∙ s))
-slow-moves m n e q (inr z) = absurd (z q)
+slow-moves : (r n : Run) → n .profile .speed ≡ r .profile .speed → n .drive .pulse ≡ pos 0 → Goes n → Goes r
+slow-moves r n e q (inl z) = inl (λ s. z (e ∙ s))
+slow-moves r n e q (inr z) = absurd (z q)
 
-halted-moves : (h : Halt) (x : ℕ) (m : Servo) → Moves (halted h x m) → Moves m
+-- what a smooth stop makes of what runs with the servo on
+abbrev slowed : Run → Run
+slowed r = toSpeed (r .profile .setpoint) (pos 0) (r .profile .acceleration) r
+
+halted-moves : (h : Halt) (here x : ℕ) (r : Run) → Goes (haltedBy h here x r) → Goes r
 unfolding holding off idled smooth toSpeed
-halted-moves Keep x m = λ z. z
-halted-moves Release x m = gone m (off m) refl refl
-halted-moves Abrupt x m = gone m (halted Abrupt x m) refl refl
-halted-moves Smooth x m =
-    let slow : Servo = toSpeed (m .profile .setpoint) (pos 0) (m .profile .acceleration) m in
-    either (λ (n : Servo). Moves n → Moves m) (servoOff (m .drive .mode)) (off m) slow (gone m (off m) refl refl) (slow-moves m slow refl refl)
-halted-moves Here x m = gone m (halted Here x m) refl refl
+halted-moves Keep here x r = λ z. z
+halted-moves Release here x r = gone r (off r) refl refl
+halted-moves Abrupt here x r = gone r (holding here r) refl refl
+halted-moves Smooth here x r =
+    either (λ (n : Run). Goes n → Goes r) (servoOff (r .drive .mode)) (off r) (slowed r) (gone r (off r) refl refl) (slow-moves r (slowed r) refl refl)
+halted-moves Here here x r = gone r (holding x r) refl refl
 
-halted-bound : (h : Halt) (x : ℕ) (m : Servo) → Bound (halted h x m) → Bound m
+halted-bound : (h : Halt) (here x : ℕ) (r : Run) → Aims (haltedBy h here x r) → Aims r
 unfolding holding off idled smooth toSpeed
-halted-bound Keep x m = λ b. b
-halted-bound Release x m = λ b. absurd (mode-unbound Off refl refl (off m) refl b)
-halted-bound Abrupt x m = λ b. absurd (mode-unbound Hold refl refl (halted Abrupt x m) refl b)
-halted-bound Smooth x m =
-    let slow : Servo = toSpeed (m .profile .setpoint) (pos 0) (m .profile .acceleration) m in
-    either (λ (n : Servo). Bound n → Bound m) (servoOff (m .drive .mode)) (off m) slow
-    (λ b. absurd (mode-unbound Off refl refl (off m) refl b))
+halted-bound Keep here x r = λ b. b
+halted-bound Release here x r = λ b. absurd (mode-unbound Off refl refl (off r) refl b)
+halted-bound Abrupt here x r = λ b. absurd (mode-unbound Hold refl refl (holding here r) refl b)
+halted-bound Smooth here x r =
+    either (λ (n : Run). Aims n → Aims r) (servoOff (r .drive .mode)) (off r) (slowed r)
+    (λ b. absurd (mode-unbound Off refl refl (off r) refl b))
     no
   where
-    no : Bound (toSpeed (m .profile .setpoint) (pos 0) (m .profile .acceleration) m) → Bound m
+    no : Aims (slowed r) → Aims r
     no (inl b) = absurd (b .1 refl)
     no (inr b) = absurd (distinct Velocity Trapezoid refl (b .0))
-halted-bound Here x m = λ b. absurd (mode-unbound Hold refl refl (halted Here x m) refl b)
+halted-bound Here here x r = λ b. absurd (mode-unbound Hold refl refl (holding x r) refl b)
 
 order-moves : (c : Order) (m : Servo) → (Starting c → ⊥) → Moves (perform c m) → Moves m
 unfolding resetPosition shifted loaded stopped
-order-moves (Set s) m n = λ z. z
-order-moves Reset m n = gone m (perform Reset m) refl refl
 order-moves ResetPosition m n = λ z. z
 order-moves (LoadTrajectory c) m n =
     by-test (λ (k : Servo). Moves k → Moves m) (startsNow c) (start (loaded c m)) (loaded c m) (λ t. absurd (n t)) (λ t z. z)
 order-moves Start m n = absurd (n tt)
 order-moves (SetGain t) m n = λ z. z
-order-moves (Stop a h x) m n = halted-moves h x m
+order-moves (Stop a h x) m n = halted-moves h (position m) x (m .run)
 order-moves ClearBits m n = λ z. z
 
 order-bound : (c : Order) (m : Servo) → Counted m → (Starting c → ⊥) → Bound (perform c m) → Bound m
 unfolding resetPosition shifted loaded stopped
-order-bound (Set s) m k n = λ b. b
-order-bound Reset m k n = λ b. absurd (mode-unbound Off refl refl (perform Reset m) refl b)
 order-bound ResetPosition m k n = back
   where
     back : Bound (resetPosition m) → Bound m
@@ -265,38 +280,35 @@ order-bound (LoadTrajectory c) m k n =
     by-test (λ (k : Servo). Bound k → Bound m) (startsNow c) (start (loaded c m)) (loaded c m) (λ t. absurd (n t)) (λ t b. b)
 order-bound Start m k n = absurd (n tt)
 order-bound (SetGain t) m k n = λ b. b
-order-bound (Stop a h x) m k n = halted-bound h x m
+order-bound (Stop a h x) m k n = halted-bound h (position m) x (m .run)
 order-bound ClearBits m k n = λ b. b
 
--- what holds of a servo and of no order's end holds of no frame's, unless it starts
-settled-back : (P : Servo → Type 0) (q : Request) (m : Servo)
-    → ((c : ℕ) → P (withCause c m) → P m)
-    → ((c : Order) → q ≡ Wants c → can c m ≡ true → P (withCause 0 (perform c m)) → P m)
-    → P (settled q m) → P m
-settled-back P Malformed m w o = w 2
-settled-back P (Wants c) m w o =
-    by-test (λ (k : Servo). P k → P m) (can c m) (withCause 0 (perform c m)) (withCause 3 m) (λ t. o c refl t) (λ t. w 3)
-
+-- what neither another station nor Hard Reset nor an order that does not start brings about no frame brings about, unless it starts
 frame-back : (P : Servo → Type 0) (f : Frame) (alone : Bool) (m : Servo)
-    → ((c : ℕ) → P (withCause c m) → P m)
+    → ((s : Station) → P (withStation s m) → P m)
+    → (P (withCause 0 (Answers.servo .renewed m)) → P m)
     → ((c : Order) → (Starting c → ⊥) → P (withCause 0 (perform c m)) → P m)
     → Unstarted f alone m
     → P (execute f alone m) → P m
-unfolding execute
-frame-back P f alone m w o u =
-    by-test (λ (k : Servo). P k → P m) (f .damaged) (withCause 1 m) (settled (request f alone) m)
-    (λ d. w 1)
-    (λ d. settled-back P (request f alone) m w (λ c q t. o c (u c d q t .0)))
+frame-back P f alone m w r o u =
+    leaves (λ (k : Servo). P k → P m) f alone m (record { kept = w; renewed = λ d q. r; performed = λ c d q t. o c (u c d q t .0) })
+
+frame-moves : (f : Frame) (alone : Bool) (m : Servo) → Unstarted f alone m → Moves (execute f alone m) → Moves m
+frame-moves f alone m u z =
+    frame-back Moves f alone m (λ s z. z) (gone (m .run) (Answers.servo .renewed m .run) refl refl) (λ c s. order-moves c m s) u z
 
 frame-bound : (f : Frame) (alone : Bool) (m : Servo) → Fits m → Unstarted f alone m → Bound (execute f alone m) → Bound m
-frame-bound f alone m t u b = frame-back Bound f alone m (λ c z. z) (λ c s. order-bound c m (counted m t) s) u b
+frame-bound f alone m t u b =
+    frame-back Bound f alone m (λ s z. z)
+    (λ z. absurd (mode-unbound Off refl refl (Answers.servo .renewed m .run) refl z))
+    (λ c s. order-bound c m (counted m t) s) u b
 
 -- a frame that begins motion is one of the three
 pub frame-starts : (f : Frame) (alone : Bool) (m : Servo) → Fits m → Begins m (execute f alone m) → Starts f alone m
 frame-starts f alone m t b = at (starts? f alone m)
   where
     none : Unstarted f alone m → Begins m (execute f alone m) → ⊥
-    none u (moving n z) = n (frame-back Moves f alone m (λ c z. z) (λ c s. order-moves c m s) u z)
+    none u (moving n z) = n (frame-moves f alone m u z)
     none u (bound n z) = n (frame-bound f alone m t u z)
     none u (put a z) = by (only-here f alone m (counted m t) (λ h x d q k. u (Stop h Here x) d q k .1 h x refl))
       where
@@ -310,12 +322,12 @@ frame-starts f alone m t b = at (starts? f alone m)
 
 pub starts-are-executed : StartsAreExecuted
 starts-are-executed f alone m (byStart a s) =
-    ap (λ (k : Servo). k .station .cause) (cause f alone m .executed Start (a .undamaged) (a .order) (starts m .1 s))
+    ap (λ (k : Servo). k .station .cause) (every-type servo .cause f alone m .executed Start (a .undamaged) (a .order) (starts m .1 s))
 starts-are-executed f alone m (byLoad c a e s) =
     ap (λ (k : Servo). k .station .cause)
-    (cause f alone m .executed (LoadTrajectory c) (a .undamaged) (a .order) (start-now c m .now e ∙ starts (loaded c m) .1 s))
+    (every-type servo .cause f alone m .executed (LoadTrajectory c) (a .undamaged) (a .order) (start-now c m .now e ∙ starts (loaded c m) .1 s))
 starts-are-executed f alone m (byStopHere h x a r) =
-    ap (λ (k : Servo). k .station .cause) (cause f alone m .executed (Stop h Here x) (a .undamaged) (a .order) (stops-now h x m .here .1 r))
+    ap (λ (k : Servo). k .station .cause) (every-type servo .cause f alone m .executed (Stop h Here x) (a .undamaged) (a .order) (stops-now h x m .here .1 r))
 
 -- ---- ticks
 
@@ -330,22 +342,22 @@ at-goal p r s e =
     taken p r s ∙ ap₂ _-ℤ_ e v
 
 module _ (m : Servo) (t : Fits m) where
-  advanced-bound : Bound (withProfile (advanced (latch m)) m) → Bound m
+  advanced-bound : Aims (withProfile (advanced (m .run)) (m .run)) → Bound m
   unfolding advanced byVelocity stepped
-  advanced-bound (inl b) = inl (b .0, λ e. b .1 (ap (λ (k : Mode). advancedBy k (m .profile) .aim) (b .0) ∙ e))
+  advanced-bound (inl b) = inl (b .0, λ e. b .1 (ap (λ (k : Mode). advancedBy k (m .run .profile) .aim) (b .0) ∙ e))
   advanced-bound (inr b) =
       let s = good m t .sane in
-      let i = subst (λ (k : Mode). InMode k (m .latched .power) (m .profile) (m .memory) (m .drive)) (b .0) (s .mode) in
-      inr (b .0, λ e. b .1 (ap (λ (k : Mode). left (advancedBy k (m .profile))) (b .0) ∙ at-goal (m .profile) (s .profile) (i .2) e))
+      let i = subst (λ (k : Mode). InMode k (m .samples .latched .power) (m .run)) (b .0) (s .mode) in
+      inr (b .0, λ e. b .1 (ap (λ (k : Mode). left (advancedBy k (m .run .profile))) (b .0) ∙ at-goal (m .run .profile) (s .profile) (i .2) e))
 
   pub ticked-bound : Bound (ticked m) → Bound m
   unfolding unpowered pulsed tripped idled off
-  ticked-bound = ends (λ (n : Servo). Bound n → Bound m) m (record {
-    low = λ q b. absurd (mode-unbound Off refl refl (unpowered (latch m)) refl b);
+  ticked-bound = tick-ends (λ (n : Run). Aims n → Bound m) m (record {
+    low = λ q b. absurd (mode-unbound Off refl refl (unpowered (m .run)) refl b);
     off = λ q b. b;
     pwm = λ q b. b;
     output = λ s y u b. advanced-bound b;
-    trip = λ q b. absurd (mode-unbound Off refl refl (tripped (advanced (latch m)) (latch m)) refl b);
+    trip = λ q b. absurd (mode-unbound Off refl refl (tripped (advanced (m .run)) (m .run)) refl b);
   })
 
   pub ticked-rests : Resting m → Resting (ticked m)

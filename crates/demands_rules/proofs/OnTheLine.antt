@@ -1,6 +1,6 @@
 -- The mill's question on the line, byte by byte, through the exported call. Assumes nothing.
-use mathlib.Core.Path.{_≡_, refl, sym, ap, ap₂, subst⁻¹, _∙_}
-use mathlib.Core.Logic.{inl, inr}
+use mathlib.Core.Path.{_≡_, refl, sym, ap, ap₂, _∙_}
+use mathlib.Core.Logic.{inr}
 use mathlib.Core.List.{List, [], _∷_, _++_, map, map-append, append-nil}
 use mathlib.Core.Bool.{Bool, true, false, cond, _&&_, true≢false}
 use mathlib.Core.Option.{Option, some, Option·map}
@@ -11,14 +11,16 @@ use lib.ListN.{length, getElem?}
 use lib.Dec.{eqb, ltb}
 use Rattle.line_receiver.specs.Receive.{idle}
 use Rattle.line_receiver.specs.Frames.{Byte, Frame, values, AreBytes}
-use Rattle.module_station.specs.declared.Address.{Address}
-use Rattle.module_station.specs.Touch.{individually}
-use Rattle.chain_rules.specs.Chain.{Net, addresses, touched, executed}
+use Rattle.module_rules.specs.declared.Address.{Address}
+use Rattle.module_rules.specs.Touch.{individually}
+use Rattle.module_rules.specs.Kind.{executed}
+use Rattle.chain_rules.specs.Chain.{Net, addresses, touched}
 use Rattle.chain_rules.proofs.Touching.{touched-before}
 use Rattle.servo_rules.specs.declared.Servo.{Servo}
-use Rattle.servo_rules.specs.Orders.{withCause, execute}
+use Rattle.servo_rules.specs.Answers.{execute}
+use Rattle.types_rules.specs.Table.{servo}
 use Rattle.types_rules.specs.Types.{Module, AnySample, kind, slots}
-use Rattle.net_rules.specs.Record.{netIn, valid}
+use Rattle.net_rules.specs.Record.{roomSize, netIn, valid}
 use Rattle.net_rules.specs.Calls.{byteOf}
 use Rattle.api_rules.specs.Promises.{ValidRecord, Passes}
 use Rattle.demands_history_rules.specs.Events.{Event, sent, Outcome, taking, run, Reads, singly}
@@ -26,7 +28,7 @@ use Rattle.demands_history_rules.specs.Calls.{Call, byte, AllHanded, refusals, 
 use Rattle.demands_history_rules.proofs.Events.{whole-event, event-idle}
 use Rattle.demands_history_rules.proofs.Singly.{run-singly}
 use Rattle.demands_history_rules.proofs.Calls.{call-kept}
-use Rattle.demands_rules.specs.Motion.{Missed, NoneReady, IsStart, fed, QuestionOnTheLine}
+use Rattle.demands_rules.specs.Motion.{fed, QuestionOnTheLine}
 use Rattle.demands_rules.proofs.Calls.{done-passed, any-calls}
 use Rattle.demands_rules.proofs.Order.{keeps-address, kept-handed}
 use Rattle.demands_rules.proofs.Question.{question}
@@ -46,12 +48,12 @@ small (x ∷ xs) e = at (ltb x 256) refl e (small xs)
     at true q e ih = (ltb-true _ _ q, ih e)
     at false q e ih = absurd (true≢false (sym e))
 
-byte-goes : (net room : List ℕ) (b : Byte) → valid slots net ≡ true → 608 ≤ length room → Passes (refusals net (byte (cond (b .mark) 1 0) (b .value) room))
+byte-goes : (net room : List ℕ) (b : Byte) → valid slots net ≡ true → roomSize ≤ length room → Passes (refusals net (byte (cond (b .mark) 1 0) (b .value) room))
 byte-goes net room b v r = at (b .mark)
   where
     at : (t : Bool) → Passes (refusals net (byte (cond t 1 0) (b .value) room))
-    at true = rw (v, le-ltb (length room) 608 r) refl
-    at false = rw (v, le-ltb (length room) 608 r) refl
+    at true = rw (v, le-ltb (length room) roomSize r) refl
+    at false = rw (v, le-ltb (length room) roomSize r) refl
 
 pub fed-handed : (room : List ℕ) (bs : List Byte) → AreBytes (values bs) → AllHanded (fed room bs)
 fed-handed room [] h = tt
@@ -63,7 +65,7 @@ handed-over v true = refl
 handed-over v false = refl
 
 -- they are done, one by one
-pub fed-done : (room : List ℕ) (bs : List Byte) (net : List ℕ) → 608 ≤ length room → ValidRecord net → AreBytes (values bs)
+pub fed-done : (room : List ℕ) (bs : List Byte) (net : List ℕ) → roomSize ≤ length room → ValidRecord net → AreBytes (values bs)
     → doneBy (fed room bs) net ≡ map (λ (b : Byte). sent (b ∷ [])) bs
 fed-done room [] net r v h = refl
 fed-done room (b ∷ bs) net r v h =
@@ -73,7 +75,7 @@ fed-done room (b ∷ bs) net r v h =
     (fed-done room bs (leaves net c) r (call-kept net c (h .0) v) (h .1))
 
 -- two frames, one after the other
-pub fed-two : (room : List ℕ) (bs ds : List Byte) (net : List ℕ) → 608 ≤ length room → ValidRecord net → AreBytes (values (bs ++ ds))
+pub fed-two : (room : List ℕ) (bs ds : List Byte) (net : List ℕ) → roomSize ≤ length room → ValidRecord net → AreBytes (values (bs ++ ds))
     → doneBy (fed room (bs ++ ds)) net ≡ singly (sent bs ∷ sent ds ∷ [])
 fed-two room bs ds net r v h =
     let each : Byte → Event AnySample = λ b. sent (b ∷ []) in
@@ -81,7 +83,7 @@ fed-two room bs ds net r v h =
     ∙ map-append each bs ds
     ∙ ap (λ (l : List (Event AnySample)). map each bs ++ l) (sym (append-nil (map each ds)))
 
-pub fed-both : (room : List ℕ) (bs ds : List Byte) (net : List ℕ) → 608 ≤ length room → ValidRecord net → AreBytes (values (bs ++ ds))
+pub fed-both : (room : List ℕ) (bs ds : List Byte) (net : List ℕ) → roomSize ≤ length room → ValidRecord net → AreBytes (values (bs ++ ds))
     → netIn slots (leftBy (fed room (bs ++ ds)) net) ≡ run kind (sent bs ∷ sent ds ∷ []) (netIn slots net) .net
 fed-both room bs ds net r v h =
     any-calls net (fed room (bs ++ ds)) v (fed-handed room (bs ++ ds) h) .network
@@ -91,14 +93,14 @@ fed-both room bs ds net r v h =
 -- ---- two frames at one place
 
 -- a servo that a frame may have reached is still a servo
-reached-is : (t : Bool) (x y : Servo) → _≡_ {A = Module} (cond t (inl x) (inl y)) (inl (cond t x y))
+reached-is : (t : Bool) (x y : Servo) → _≡_ {A = Module} (cond t (servo, x) (servo, y)) (servo, cond t x y)
 reached-is true x y = refl
 reached-is false x y = refl
 
 -- what the bytes of a frame make of the servo at a place
-place-after : (n : Net Module) (i : ℕ) (m : Servo) (bs : List Byte) (f : Frame) → n .receiver ≡ idle → Reads bs f → getElem? (n .modules) i ≡ some (inl m)
+place-after : (n : Net Module) (i : ℕ) (m : Servo) (bs : List Byte) (f : Frame) → n .receiver ≡ idle → Reads bs f → getElem? (n .modules) i ≡ some (servo, m)
     → getElem? (taking kind bs n .net .modules) i
-    ≡ some (inl (cond (touched true (f .address) (addresses kind (n .modules)) i) (execute f (individually (f .address) (m .station .address)) m) m))
+    ≡ some (servo, cond (touched true (f .address) (addresses kind (n .modules)) i) (execute f (individually (f .address) (m .station .address)) m) m)
 place-after n i m bs f z q e =
     let t : Bool = touched true (f .address) (addresses kind (n .modules)) i in
     ap (λ (o : Outcome Module). getElem? (o .net .modules) i) (whole-event kind n z bs f q)
@@ -126,5 +128,5 @@ question-on-the-line net room i m loadBytes startBytes load start v r h z here u
     ap (λ (ws : List Address). touched true (start .address) ws i) (load-addresses n loadBytes load z readsLoad c) ∙ touches in
     ap (λ (n : Net Module). getElem? (n .modules) i) (fed-both room loadBytes startBytes net r v h)
     ∙ place-after n′ i k startBytes start z′ readsStart (place-after n i m loadBytes load z readsLoad here)
-    ∙ ap (λ (t : Bool). some (inl (cond t (execute start apart k) k))) touches′
-    ∙ ap (λ (m : Servo). some (inl m)) (question m load start reached alone apart missed unready isStart)
+    ∙ ap (λ (t : Bool). some (servo, cond t (execute start apart k) k)) touches′
+    ∙ ap (λ (m : Servo). some (servo, m)) (question m load start reached alone apart missed unready isStart)

@@ -3,23 +3,21 @@ use mathlib.Core.Path.{_≡_, refl, sym, ap, ap₂, _∙_}
 use mathlib.Core.List.{List, [], _∷_, map}
 use mathlib.Core.Bool.{Bool, true, false, cond, _&&_}
 use mathlib.Core.Option.{Option, some, none, Option·map}
-use mathlib.Core.Logic.{_⊎_, inl, inr}
+use mathlib.Core.Logic.{inl, inr}
 use Prim.Native.Nat.{ℕ, zero, suc, _<_}
 use native.Mathlib.Omega.{arith}
 use lib.ListN.{length, getElem?}
 use Rattle.line_receiver.specs.declared.Receiver.{Receiver}
 use Rattle.line_receiver.specs.Receive.{idle}
 use Rattle.line_receiver.specs.Frames.{Frame}
-use Rattle.module_station.specs.declared.Address.{Address}
-use Rattle.module_station.specs.Touch.{named}
-use Rattle.chain_rules.specs.Chain.{Kind, Net, repliesOf, addresses, executed, handed}
-use Rattle.chain_rules.specs.Either.{either}
-use Rattle.net_rules.specs.Walk.{changed}
-use Rattle.inout_rules.specs.Module as Inout
-use Rattle.inout_rules.proofs.Address as InoutAddress
-use Rattle.servo_rules.specs.Answers as Servo
-use Rattle.servo_rules.proofs.Address as ServoAddress
+use Rattle.module_rules.specs.declared.Address.{Address}
+use Rattle.module_rules.specs.Touch.{named}
+use Rattle.module_rules.specs.Kind.{Kind, executed}
+use Rattle.chain_rules.specs.Chain.{Net, repliesOf, addresses, handed, changed}
+use Rattle.module_rules.specs.declared.Station.{Station}
 use Rattle.types_rules.specs.Types.{Module, AnySample, kind, slots}
+use Rattle.types_rules.proofs.Promised.{every-type}
+use Rattle.types_rules.proofs.Kept.{given-address}
 use Rattle.net_rules.specs.Record.{netIn}
 use Rattle.demands_history_rules.specs.Events.{Event, sent, sampled, ticked, Outcome, event, run, Harmless, Ordinary, singly, metBy, metInTurn, alone, aloneReplies}
 use Rattle.demands_history_rules.specs.Calls.{Call, doneBy}
@@ -116,43 +114,17 @@ module _ {M S : Type 0} (K : Kind M S) (keeps : KeepsAddress K) where
 pub of-any-kind : OfAnyKind
 of-any-kind M S K = (each-alone K, λ keeps. (order-does-not-matter K keeps, order-of-all K keeps))
 
--- a chain of two types that keep their addresses keeps them
-keeps-both : {A B S T : Type 0} (K : Kind A S) (L : Kind B T) → KeepsAddress K → KeepsAddress L → KeepsAddress (either K L)
-keeps-both {A} {B} {S} {T} K L k l = record { execute = x; sample = y; tick = z }
-  where
-    E : Kind (A ⊎ B) (S ⊎ T)
-    E = either K L
-
-    x : (f : Frame) (t : Bool) (m : A ⊎ B) → Harmless f → E .address (E .execute f t m) ≡ E .address m
-    x f t (inl a) p = k .execute f t a p
-    x f t (inr b) p = l .execute f t b p
-
-    y : (s : S ⊎ T) (m : A ⊎ B) → E .address (E .sample s m) ≡ E .address m
-    y (inl s) (inl a) = k .sample s a
-    y (inl s) (inr b) = refl
-    y (inr t) (inl a) = refl
-    y (inr t) (inr b) = l .sample t b
-
-    z : (m : A ⊎ B) → E .address (E .tick m) ≡ E .address m
-    z (inl a) = k .tick a
-    z (inr b) = l .tick b
-
-servo-keeps : KeepsAddress Servo.servo
-servo-keeps = record { execute = x; sample = ServoAddress.address-kept .sampling; tick = ServoAddress.address-kept .tick }
-  where
-    x : (f : Frame) (t : Bool) (m : _) → Harmless f → Servo.servo .address (Servo.servo .execute f t m) ≡ Servo.servo .address m
-    x f t m (inl d) = ServoAddress.address-kept .damaged f t m d
-    x f t m (inr p) = ServoAddress.address-kept .frame f t m (p .0) (p .1)
-
-inout-keeps : KeepsAddress Inout.inout
-inout-keeps = record { execute = x; sample = InoutAddress.address-kept .sampling; tick = InoutAddress.address-kept .tick }
-  where
-    x : (f : Frame) (t : Bool) (m : _) → Harmless f → Inout.inout .address (Inout.inout .execute f t m) ≡ Inout.inout .address m
-    x f t m (inl d) = InoutAddress.address-kept .damaged f t m d
-    x f t m (inr p) = InoutAddress.address-kept .frame f t m (p .0) (p .1)
-
+-- a module of every type keeps its address, and so does a chain of all of them
 pub keeps-address : KeepsAddress kind
-keeps-address = keeps-both Servo.servo Inout.inout servo-keeps inout-keeps
+keeps-address = record {
+  execute = stays;
+  sample = λ x m. ap (λ (s : Station). s .address) (given-address (x .0) (m .0) (x .1) (m .1));
+  tick = λ m. every-type (m .0) .address .tick (m .1);
+}
+  where
+    stays : (f : Frame) (t : Bool) (m : Module) → Harmless f → kind .address (kind .execute f t m) ≡ kind .address m
+    stays f t m (inl d) = every-type (m .0) .address .damaged f t (m .1) d
+    stays f t m (inr p) = every-type (m .0) .address .frame f t (m .1) (p .0) (p .1)
 
 pub product : Product
 product = (keeps-address, each-alone kind, order-does-not-matter kind keeps-address, order-of-all kind keeps-address)

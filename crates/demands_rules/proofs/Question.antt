@@ -4,24 +4,25 @@ use mathlib.Core.Bool.{Bool, true, false, cond, _&&_, and-false, true≢false}
 use mathlib.Core.Logic.{inl, inr}
 use Prim.Native.Nat.{ℕ}
 use Rattle.line_receiver.specs.Frames.{Frame}
-use Rattle.inout_rules.proofs.Cause as InoutCause
-use Rattle.servo_parse.specs.declared.Halt.the-variants.{Keep, Here}
-use Rattle.servo_parse.specs.declared.Order.the-variants.{LoadTrajectory, Start, Stop}
+use Rattle.servo_rules.specs.declared.Halt.the-variants.{Keep, Here}
+use Rattle.servo_rules.specs.declared.Order.the-variants.{LoadTrajectory, Start, Stop}
 use Rattle.servo_rules.specs.declared.Way.{Way}
 use Rattle.servo_rules.specs.declared.Way.the-variants.{Pulse, Speed, Move}
 use Rattle.servo_rules.specs.declared.Servo.{Servo}
-use Rattle.servo_rules.specs.Servo.{ready}
-use Rattle.servo_rules.specs.Loads.{beginning, movable, completeBy, complete, startable, loaded}
-use Rattle.servo_rules.specs.Orders.{can, perform, withCause, execute}
-use Rattle.servo_rules.proofs.Cause.{cause}
+use Rattle.servo_rules.specs.State.{ready}
+use Rattle.servo_rules.specs.Loads.{movable, completeBy, complete, startable, loaded}
+use Rattle.servo_rules.specs.Perform.{can, perform}
+use Rattle.servo_rules.specs.Answers.{withCause, execute}
 use Rattle.servo_rules.proofs.Starting.{starts, complete-is, start-now, twice as twice-from}
 use Rattle.servo_rules.proofs.Stopping.{stops, stops-now}
+use Rattle.types_rules.specs.Table.{servo}
+use Rattle.types_rules.proofs.Promised.{every-type}
 use Rattle.demands_rules.specs.Motion.{byStart, byLoad, byStopHere, Missed, elsewhere, damaged, short, NoneReady, IsStart, OnlyTheCause, Question, Twice}
 use Rattle.demands_rules.proofs.Asking.{start-asks, short-asks}
 
 -- a cause makes no load complete
 caused-complete : (c : ℕ) (w : Way) (m : Servo) → completeBy w (withCause c m) ≡ completeBy w m
-unfolding movable beginning
+unfolding movable
 caused-complete c Pulse m = refl
 caused-complete c Speed m = refl
 caused-complete c Move m = refl
@@ -30,26 +31,26 @@ unready : (c : ℕ) (m : Servo) → NoneReady m → can Start (withCause c m) �
 unfolding startable
 unready c m (inl e) = ap (λ (t : Bool). t && complete (withCause c m) && ready m) e
 unready c m (inr e) =
-    let n : complete (withCause c m) ≡ false = complete-is (withCause c m) ∙ caused-complete c (m .load .way) m ∙ sym (complete-is m) ∙ e in
-    ap (λ (t : Bool). m .load .waits && t && ready m) n ∙ ap (λ (t : Bool). t && ready m) (and-false (m .load .waits))
+    let n : complete (withCause c m) ≡ false = complete-is (withCause c m) ∙ caused-complete c (m .settings .load .way) m ∙ sym (complete-is m) ∙ e in
+    ap (λ (t : Bool). m .settings .load .waits && t && ready m) n ∙ ap (λ (t : Bool). t && ready m) (and-false (m .settings .load .waits))
 
 -- an undamaged Start with no complete load waiting
 pub start-refused : (c : ℕ) (m : Servo) (f : Frame) (apart : Bool) → NoneReady m → IsStart f → execute f apart (withCause c m) ≡ withCause 3 m
-start-refused c m f apart n s = cause f apart (withCause c m) .notNow Start (s .0) (start-asks f apart (s .1) (s .2)) (unready c m n)
+start-refused c m f apart n s = every-type servo .cause f apart (withCause c m) .notNow Start (s .0) (start-asks f apart (s .1) (s .2)) (unready c m n)
 
 -- what a load that was missed leaves: its own cause, or none
 missed-is : (load : Frame) (alone reached : Bool) (m : Servo) → Missed reached load → (c : ℕ) × (cond reached (execute load alone m) m ≡ withCause c m)
 missed-is load alone false m x = (m .station .cause, refl)
 missed-is load alone true m (elsewhere e) = absurd (true≢false e)
-missed-is load alone true m (damaged d) = (1, cause load alone m .damaged d)
+missed-is load alone true m (damaged d) = (1, every-type servo .cause load alone m .damaged d)
 missed-is load alone true m (short c n) = at (load .damaged) refl
   where
     at : (d : Bool) → load .damaged ≡ d → (k : ℕ) × (execute load alone m ≡ withCause k m)
-    at true d = (1, cause load alone m .damaged d)
-    at false d = (2, cause load alone m .malformed d (short-asks load alone c n))
+    at true d = (1, every-type servo .cause load alone m .damaged d)
+    at false d = (2, every-type servo .cause load alone m .malformed d (short-asks load alone c n))
 
 pub only-the-cause : OnlyTheCause
-only-the-cause = (InoutCause.cause, cause)
+only-the-cause t = every-type t .cause
 
 pub question : Question
 question m load start reached alone apart x n s =
@@ -63,9 +64,9 @@ twice m f g alone apart (byLoad c a e s) t =
     twice-from (LoadTrajectory c) m e .second f g alone apart (a .undamaged) (a .order) (start-now c m .now e ∙ starts (loaded c m) .1 s) (t .0) (start-asks g apart (t .1) (t .2))
 twice m f g alone apart (byStopHere a x h r) t =
     let k : Servo = execute f alone m in
-    let e : k ≡ withCause 0 (perform (Stop a Here x) m) = cause f alone m .executed (Stop a Here x) (h .undamaged) (h .order) (stops-now a x m .here .1 r) in
+    let e : k ≡ withCause 0 (perform (Stop a Here x) m) = every-type servo .cause f alone m .executed (Stop a Here x) (h .undamaged) (h .order) (stops-now a x m .here .1 r) in
     start-refused (k .station .cause) k g apart
-    (inl (ap (λ (k : Servo). k .load .waits) e ∙ stops a x m .waits Here (λ z. not-keep z)))
+    (inl (ap (λ (k : Servo). k .settings .load .waits) e ∙ stops a x m .waits Here (λ z. not-keep z)))
     t
   where
     not-keep : Here ≡ Keep → ⊥

@@ -15,17 +15,17 @@ use Rattle.servo_motion.specs.Profile.{left, byTrapezoid, byVelocity, speeds}
 use Rattle.servo_motion.specs.Promises.{Asked, Running, Toward}
 use Rattle.servo_filter.specs.Filter.{output}
 use Rattle.servo_filter.specs.Promises as Filter
-use Rattle.servo_parse.specs.Loads.{needed}
+use Rattle.servo_rules.specs.Carried.{needed}
 use Rattle.servo_rules.specs.declared.Mode.the-variants.{Off, Velocity, Trapezoid}
 use Rattle.servo_rules.specs.declared.Servo.{Servo}
-use Rattle.servo_rules.specs.Servo.{started}
-use Rattle.servo_rules.specs.Orders.{execute}
+use Rattle.servo_rules.specs.State.{started}
+use Rattle.servo_rules.specs.Answers.{execute}
 use Rattle.servo_rules.specs.Tick.{ticked}
 use Rattle.servo_rules.specs.StopPromises.{Released}
 use Rattle.servo_slot_rules.specs.Promises.{Fits}
 use Rattle.types_rules.specs.Types.{Module, kind}
 use Rattle.net_rules.specs.Calls.{setUp}
-use Rattle.host_status.specs.Writing.{writtenOf, roomAfter}
+use Rattle.host_rules.specs.Writing.{writtenOf, roomAfter}
 use Rattle.api_rules.specs.Promises.{StatusRead}
 use Rattle.demands_history_rules.specs.Events.{Outcome, taking}
 
@@ -49,25 +49,25 @@ ReadBack =
 -- A tick and the profile: from p to q, by the mode before and after it.
 pub record Speeds (m : Servo) (p q : Profile) : Type 0 where
   -- velocity mode goes toward the commanded speed by at most the acceleration, and never past it
-  pub velocity : m .drive .mode ≡ Velocity → ticked m .drive .mode ≡ Velocity → Toward (p .acceleration) (p .aim) (p .speed) (q .speed)
+  pub velocity : m .run .drive .mode ≡ Velocity → ticked m .run .drive .mode ≡ Velocity → Toward (p .acceleration) (p .aim) (p .speed) (q .speed)
   -- a trapezoid's speed is the greatest that the text allows, so never above the commanded one, and it can still stop within what is left
-  pub trapezoid : m .drive .mode ≡ Trapezoid → ticked m .drive .mode ≡ Trapezoid
+  pub trapezoid : m .run .drive .mode ≡ Trapezoid → ticked m .run .drive .mode ≡ Trapezoid
       → Asked (p .acceleration) (p .top) (natAbs (left p)) (natAbs (p .speed)) (natAbs (q .speed)) × Running q
   -- where a tick ends in off, by low power or too large an error, speed and output are 0
-  pub off : (m .drive .mode ≡ Off → ⊥) → ticked m .drive .mode ≡ Off → Released (ticked m)
+  pub off : (m .run .drive .mode ≡ Off → ⊥) → ticked m .run .drive .mode ≡ Off → Released (ticked m .run)
 
--- The whole of demand 2 beside the exact contracts of the calls (crates doljurven and host).
+-- The whole of demand 2 beside the exact contracts of the calls (crate doljurven).
 pub record Meaning : Type 0 where
   pub readBack : ReadBack
   -- nothing but a written frame is undamaged, a marked byte or another last byte damages it where it is, sixteen nulls end in idle
   pub onlyWritten : Line.Only
   pub marked : Line.Marked
   pub nulls : Line.Nulls
-  -- the status reader takes apart what a module of either type replies
+  -- the status reader takes apart what a module of any type replies
   pub statusRead : StatusRead
-  pub speeds : (m : Servo) → Fits m → Speeds m (m .profile) (ticked m .profile)
+  pub speeds : (m : Servo) → Fits m → Speeds m (m .run .profile) (ticked m .run .profile)
   -- the motor's output is within OL, and u within 2,684,141,572, which it reaches
-  pub output : (m : Servo) → Fits m → natAbs (ticked m .drive .output) ≤ m .tuning .gains .ol
+  pub output : (m : Servo) → Fits m → natAbs (ticked m .run .drive .output) ≤ m .settings .tuning .gains .ol
   pub largest : Filter.Largest
   pub reached : Filter.Reached
   -- least significant byte first, for any number of bytes, there and back

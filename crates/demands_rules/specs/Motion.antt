@@ -1,6 +1,6 @@
 -- Demand 1: any calls do no harm; only a complete load or a complete Stop Here starts motion. Each promise is proved under its name in proofs/.
 use mathlib.Core.Path.{_≡_}
-use mathlib.Core.Logic.{_⊎_, inl}
+use mathlib.Core.Logic.{_⊎_}
 use Prim.Native.Nat.{ℕ, _≤_}
 use mathlib.Core.List.{List, [], _∷_, _++_, map}
 use mathlib.Core.Bool.{Bool, true, false, cond}
@@ -11,26 +11,25 @@ use lib.Dec.{eqb}
 use Rattle.line_receiver.specs.declared.Answer.the-variants.{Ended}
 use Rattle.line_receiver.specs.Receive.{idle, taken}
 use Rattle.line_receiver.specs.Frames.{Byte, Frame, frameIn, values, AreBytes}
-use Rattle.module_station.specs.Touch.{individually}
+use Rattle.module_rules.specs.Touch.{individually}
+use Rattle.module_rules.specs.Rules.{wants}
+use Rattle.module_rules.specs.Promises.{Cause}
 use Rattle.chain_rules.specs.Chain.{Net, flat, addresses, touched}
-use Rattle.inout_rules.specs.Promises as Inouts
 use Rattle.servo_motion.specs.Profile.{left}
-use Rattle.servo_parse.specs.declared.Carried.{Carried}
-use Rattle.servo_parse.specs.declared.Halt.the-variants.{Here}
-use Rattle.servo_parse.specs.declared.Order.{Order}
-use Rattle.servo_parse.specs.declared.Order.the-variants.{LoadTrajectory, Start, Stop}
-use Rattle.servo_parse.specs.declared.Request.the-variants.{Wants}
-use Rattle.servo_parse.specs.Loads.{needed}
-use Rattle.servo_parse.specs.Orders.{request}
+use Rattle.servo_rules.specs.declared.Carried.{Carried}
+use Rattle.servo_rules.specs.declared.Halt.the-variants.{Here}
+use Rattle.servo_rules.specs.declared.Order.{Order}
+use Rattle.servo_rules.specs.declared.Order.the-variants.{LoadTrajectory, Start, Stop}
 use Rattle.servo_rules.specs.declared.Mode.the-variants.{Velocity, Trapezoid}
 use Rattle.servo_rules.specs.declared.Servo.{Servo}
+use Rattle.servo_rules.specs.Carried.{needed}
 use Rattle.servo_rules.specs.Loads.{complete, loaded, startsNow}
-use Rattle.servo_rules.specs.Orders.{withCause, execute}
-use Rattle.servo_rules.specs.Promises as Servos
+use Rattle.servo_rules.specs.Answers.{request, withCause, execute}
 use Rattle.servo_rules.specs.LoadPromises.{Ready, Startable}
 use Rattle.servo_rules.specs.RestPromises.{following}
+use Rattle.types_rules.specs.Table.{ModuleType, servo, rulesOf}
 use Rattle.types_rules.specs.Types.{Module, kind, slots}
-use Rattle.net_rules.specs.Record.{netIn}
+use Rattle.net_rules.specs.Record.{netIn, roomSize}
 use Rattle.net_rules.specs.Calls.{byteOf, setUp}
 use Rattle.api_rules.specs.Table.{setupTable, byteTable}
 use Rattle.api_rules.specs.Calls.{setupRecord}
@@ -61,19 +60,19 @@ RefusedIsNoStep =
     → (leftBy (before ++ c ∷ later) net ≡ leftBy (before ++ later) net)
     × (writtenBy (before ++ c ∷ later) net ≡ writtenBy (before ++ later) net)
 
--- A module of either type that can't carry out a frame keeps everything but its cause: 1, 2 or 3, tested in this order.
+-- A module of any type that can't carry out a frame keeps everything but its cause: 1, 2 or 3, tested in this order.
 abbrev pub OnlyTheCause : Type 0
-OnlyTheCause = Inouts.Cause × Servos.Cause
+OnlyTheCause = (t : ModuleType) → Cause (rulesOf t)
 
 -- Motion: a speed or a PWM value other than 0.
 abbrev pub Moves : Servo → Type 0
-Moves m = (m .profile .speed ≡ pos 0 → ⊥) ⊎ (m .drive .pulse ≡ pos 0 → ⊥)
+Moves m = (m .run .profile .speed ≡ pos 0 → ⊥) ⊎ (m .run .drive .pulse ≡ pos 0 → ⊥)
 
 -- On the way to motion: velocity mode with a goal speed other than 0, or a trapezoid with a distance left other than 0.
 abbrev pub Bound : Servo → Type 0
 Bound m =
-    ((m .drive .mode ≡ Velocity) × (m .profile .aim ≡ pos 0 → ⊥))
-    ⊎ ((m .drive .mode ≡ Trapezoid) × (left (m .profile) ≡ pos 0 → ⊥))
+    ((m .run .drive .mode ≡ Velocity) × (m .run .profile .aim ≡ pos 0 → ⊥))
+    ⊎ ((m .run .drive .mode ≡ Trapezoid) × (left (m .run .profile) ≡ pos 0 → ⊥))
 
 abbrev pub AtRest : Servo → Type 0
 AtRest m = (Moves m → ⊥) × (Bound m → ⊥)
@@ -92,7 +91,7 @@ pub record Asks (f : Frame) (alone : Bool) (code count : ℕ) (c : Order) : Type
   pub undamaged : f .damaged ≡ false
   pub named : f .code ≡ code
   pub whole : length (f .content) ≡ count
-  pub order : request f alone ≡ Wants c
+  pub order : request f alone ≡ wants c
 
 -- The three ways to start, all with power 1 and a clear error bit: a Start where a complete load waits; a Load with start now, of as many
 -- bytes as its control byte asks for, that is complete; a Stop Here of five bytes.
@@ -107,7 +106,7 @@ StartsAreExecuted = (f : Frame) (alone : Bool) (m : Servo) → Starts f alone m 
 
 -- the servo m is at place i of the network that a record holds
 abbrev pub At : List ℕ → ℕ → Servo → Type 0
-At net i m = getElem? (netIn slots net .modules) i ≡ some (inl m)
+At net i m = getElem? (netIn slots net .modules) i ≡ some (servo, m)
 
 -- a byte ended an undamaged frame that touched place i, and at the servo there it was one of the three
 pub record LineStarts (n : Net Module) (b : Byte) (i : ℕ) (m : Servo) : Type 0 where
@@ -158,7 +157,7 @@ pub data Missed (reached : Bool) (load : Frame) : Type 0 where
 
 -- no complete load waits: none at all, or one that is incomplete
 abbrev pub NoneReady : Servo → Type 0
-NoneReady m = (m .load .waits ≡ false) ⊎ (complete m ≡ false)
+NoneReady m = (m .settings .load .waits ≡ false) ⊎ (complete m ≡ false)
 
 -- an undamaged Start: code 5, no data
 abbrev pub IsStart : Frame → Type 0
@@ -186,7 +185,7 @@ fed room = map (λ (b : Byte). byte (cond (b .mark) 1 0) (b .value) room)
 abbrev pub QuestionOnTheLine : Type 0
 QuestionOnTheLine =
     (net room : List ℕ) (i : ℕ) (m : Servo) (loadBytes startBytes : List Byte) (load start : Frame)
-    → ValidRecord net → 608 ≤ length room → AreBytes (values (loadBytes ++ startBytes))
+    → ValidRecord net → roomSize ≤ length room → AreBytes (values (loadBytes ++ startBytes))
     → netIn slots net .receiver ≡ idle → At net i m → NoneReady m
     → Reads loadBytes load → load .code ≡ 4
     → Missed (touched true (load .address) (addresses kind (netIn slots net .modules)) i) load

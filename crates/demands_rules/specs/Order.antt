@@ -7,7 +7,8 @@ use mathlib.Core.Option.{some}
 use lib.ListN.{length, getElem?}
 use Rattle.line_receiver.specs.Receive.{idle}
 use Rattle.line_receiver.specs.Frames.{Frame}
-use Rattle.chain_rules.specs.Chain.{Kind, Net, repliesOf, addresses}
+use Rattle.module_rules.specs.Kind.{Kind}
+use Rattle.chain_rules.specs.Chain.{Net, repliesOf, addresses}
 use Rattle.types_rules.specs.Types.{Module, AnySample, kind, slots}
 use Rattle.net_rules.specs.Record.{netIn}
 use Rattle.net_rules.specs.Calls.{outputsAt}
@@ -57,7 +58,7 @@ pub record KeepsAddress {M S : Type 0} (K : Kind M S) : Type 0 where
 abbrev pub OfAnyKind : Type 1
 OfAnyKind = (M S : Type 0) (K : Kind M S) → EachAlone K × (KeepsAddress K → OrderDoesNotMatter K × OrderOfAll K)
 
--- The same for this product's servos and I/O modules in one chain, with nothing left to assume.
+-- The same for this product's modules, of all types in one chain, with nothing left to assume.
 abbrev pub Product : Type 0
 Product = KeepsAddress kind × EachAlone kind × OrderDoesNotMatter kind × OrderOfAll kind
 

@@ -2,11 +2,11 @@
 ghost use mathlib.Core.Path.{_≡_};
 ghost use lib.ListN.{length};
 ghost use Rattle.base_layout.specs.Bytes.{pasted};
-ghost use Rattle.host_status.specs.Writing.{writtenOf, roomAfter};
-ghost use Rattle.host_status.specs.Reading.{statusOf};
+ghost use Rattle.host_rules.specs.Writing.{writtenOf, roomAfter};
+ghost use Rattle.host_rules.specs.Reading.{statusOf};
 ghost use Rattle.api_rules.specs.Table.{first, setupTable, servoSampleTable, ioSampleTable, tickTable, outputsTable};
 ghost use Rattle.api_rules.specs.Calls.{setupRecord, byteNumber, byteRecord, byteRoom, byteWritten, servoSampleOf, ioSampleOf, sampleRecord, tickRecord, outputsBytes, numbersBytes, readingBytes};
-use host_status::Reading;
+use host_rules::Reading;
 use types_rules::Measured;
 
 // A network of the given types at power-up: 0, or 16, 11, 12.
@@ -53,7 +53,7 @@ pub extern "C" fn nmc_servo_sample(net: &mut [u8], place: u32, raw: u32, power: 
     ensures { λ r. ⌜ r ≡ first (servoSampleTable (now (net .entry)) place power) ⌝ }
     ensures { λ _. ⌜ now (net .exit) ≡ sampleRecord (servoSampleTable (now (net .entry)) place power) (now (net .entry)) place (servoSampleOf raw power ad) ⌝ }
 {
-    let number = api_refusals::sample_refusal(net, place, 0, 2 < power);
+    let number = api_refusals::sample_refusal(net, place, servo_rules::TYPE, 2 < power);
     if number != 0 {
         return number;
     }
@@ -80,7 +80,7 @@ pub extern "C" fn nmc_io_sample(
     ensures { λ r. ⌜ r ≡ first (ioSampleTable (now (net .entry)) place inputs) ⌝ }
     ensures { λ _. ⌜ now (net .exit) ≡ sampleRecord (ioSampleTable (now (net .entry)) place inputs) (now (net .entry)) place (ioSampleOf inputs ad1 ad2 ad3 counter) ⌝ }
 {
-    let number = api_refusals::sample_refusal(net, place, 2, 4095 < inputs);
+    let number = api_refusals::sample_refusal(net, place, inout_rules::TYPE, 4095 < inputs);
     if number != 0 {
         return number;
     }

@@ -4,8 +4,8 @@ ghost use Prim.Native.Nat.{_+_, _≤_, _<_};
 ghost use lib.ListN.{length};
 ghost use Rattle.base_layout.specs.Bytes.{pasted};
 ghost use Rattle.line_receiver.specs.Frames.{written};
-ghost use Rattle.host_status.specs.Writing.{writtenOf, roomAfter};
-use host_status::Written;
+ghost use Rattle.host_rules.specs.Writing.{writtenOf, roomAfter};
+use host_rules::Written;
 
 // Puts a frame at the room's start.
 fn put_frame(address: u8, code: u8, ds: &[u8], room: &mut [u8])

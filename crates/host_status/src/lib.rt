@@ -2,25 +2,9 @@
 ghost use mathlib.Core.Path.{_≡_};
 ghost use Prim.Native.Nat.{ℕ, _+_, _≤_, _<_};
 ghost use lib.ListN.{length, getD};
-ghost use Rattle.host_status.specs.Reading.{oneSize, neededFor, summed, readingOf, sizesOf, refusal, statusOf};
-
-// What a reply says: its status byte and the number of each item, 0 where the item was not chosen.
-pub struct Reading {
-    pub status: u8,
-    pub numbers: [u32; 8],
-}
-
-// The status reader's number, and what it read.
-pub struct Answered {
-    pub number: u32,
-    pub reading: Reading,
-}
-
-// The writer's number, and how many bytes it wrote.
-pub struct Written {
-    pub number: u32,
-    pub len: usize,
-}
+ghost use Rattle.host_rules.specs.Reading.{oneSize, neededFor, summed, readingOf, refusal, statusOf};
+use host_rules::Answered;
+use host_rules::Reading;
 
 // How many bytes an item has in a reply: its size if its bit, the lowest, is set.
 fn one_size(bits: u8, size: u8) -> usize
@@ -79,16 +63,6 @@ fn read(items: u8, sizes: [u8; 8], reply: &[u8]) -> Reading
     }
 }
 
-// How many bytes each item of a type has.
-fn sizes_of(kind: u8) -> [u8; 8]
-    ensures { λ r. ⌜ r ≡ sizesOf kind ⌝ }
-{
-    if kind == 0 {
-        return module_station::servo_sizes();
-    }
-    module_station::inout_sizes()
-}
-
 // Refused, the reading is all 0.
 fn refused(number: u32) -> Answered
     ensures { λ r. ⌜ r ≡ refusal number ⌝ }
@@ -106,10 +80,10 @@ fn refused(number: u32) -> Answered
 pub fn take_status(kind: u32, items: u8, reply: &[u8]) -> Answered
     ensures { λ r. ⌜ r ≡ statusOf kind items (now (reply .entry)) ⌝ }
 {
-    if !((kind == 0) | (kind == 2)) {
+    if !types_table::is_known(kind) {
         return refused(12);
     }
-    let sizes = sizes_of(kind as u8);
+    let sizes = types_table::sizes_of(kind);
     if reply.len() != needed(items, sizes) {
         return refused(18);
     }

@@ -1,7 +1,7 @@
 -- Each of the twelve bits comes from where its direction says. Assumes nothing.
-use mathlib.Core.Path.{_≡_, sym, ap, _∙_}
+use mathlib.Core.Path.{_≡_, ap, _∙_}
 use mathlib.Core.Bool.{Bool, true, false, cond}
-use Prim.Native.Nat.{ℕ, zero, suc, _+_, _*_, _/_, _%_, _^_, _<_}
+use Prim.Native.Nat.{ℕ, zero, suc, _+_, _*_, _/_, _%_, _<_}
 use native.Mathlib.Nat.{pow-succ'}
 use native.Mathlib.Omega.{arith}
 use lib.Dec.{eqb}
@@ -54,4 +54,4 @@ inputs-keep m k h = (
 )
 
 pub read-value : ReadValue
-read-value m k h = picked k (m .pins .direction) (m .latched .inputs) (m .pins .register) h
+read-value m k h = picked k (m .pins .direction) (m .samples .latched .inputs) (m .pins .register) h

@@ -1,5 +1,5 @@
--- What a frame's cause is, and that with any cause but 0 all else is as it was. Assumes nothing.
-use mathlib.Core.Path.{_≡_, refl, ap, ap₂}
+-- Which causes an I/O module can have, and how its status byte tells them. Assumes nothing.
+use mathlib.Core.Path.{_≡_, refl, ap}
 use mathlib.Core.Bool.{Bool, true, false, cond}
 use Prim.Native.Nat.{ℕ, zero, suc, _%_, _≤_}
 use native.Mathlib.Nat.{pow-succ', div-eq-of-lt}
@@ -7,42 +7,24 @@ use native.Mathlib.Omega.{arith}
 use borrow.Author.Tests.{eqb-true, eqb-false}
 use lib.Dec.{eqb}
 use lib.Pow.{pow-pos}
-use Rattle.module_station.specs.Report.{replyOf, report}
 use Rattle.base_integers.specs.Bits.{bit}
+use Rattle.module_rules.specs.Rules as Any
+use Rattle.module_rules.proofs.Replies as Every
 use Rattle.inout_rules.specs.declared.Io.{Io}
-use Rattle.inout_rules.specs.declared.Request.{Request}
-use Rattle.inout_rules.specs.declared.Request.the-variants.{Malformed, Wants}
-use Rattle.inout_rules.specs.Commands.{request}
-use Rattle.inout_rules.specs.Module.{withCause, settled, execute, reply}
-use Rattle.inout_rules.specs.Promises.{Cause, CauseIs, Status, CauseBit, StatusFirst}
+use Rattle.inout_rules.specs.declared.Command.{Command}
+use Rattle.inout_rules.specs.Answers.{inout, request, withCause}
+use Rattle.inout_rules.specs.Promises.{CauseIs, Status, CauseBit, StatusFirst}
 
 -- a frame that is damaged or not, and what it asks
-after : Bool → Request → Io → Io
-after d r m = cond d (withCause 1 m) (settled r m)
-
-none-else : (d : Bool) (r : Request) (m : Io) → (after d r m .station .cause ≡ 0 → ⊥) → after d r m ≡ withCause (after d r m .station .cause) m
-unfolding after
-none-else true r m n = refl
-none-else false Malformed m n = refl
-none-else false (Wants c) m n = absurd (n refl)
-
-small : (d : Bool) (r : Request) (m : Io) → after d r m .station .cause ≤ 2
-unfolding after
-small true r m = omega arith
-small false Malformed m = omega arith
-small false (Wants c) m = omega arith
-
-pub cause : Cause
-unfolding after execute
-cause f alone m = record {
-  damaged = λ d. ap (λ (d : Bool). after d (request f alone) m) d;
-  malformed = λ d q. ap₂ (λ (d : Bool) (r : Request). after d r m) d q;
-  executed = λ c d q. ap₂ (λ (d : Bool) (r : Request). after d r m) d q;
-  kept = none-else (f .damaged) (request f alone) m;
-}
+small : (d : Bool) (q : Any.Request Command) (m : Io) → cond d (withCause 1 m) (Any.settled inout q m) .station .cause ≤ 2
+small true q m = omega arith
+small false Any.malformed m = omega arith
+small false (Any.set s) m = omega arith
+small false Any.reset m = omega arith
+small false (Any.wants c) m = omega arith
 
 pub cause-is : CauseIs
-unfolding after execute
+unfolding Any.execute
 cause-is f alone m = small (f .damaged) (request f alone) m
 
 -- 0 has no bits, and 2 has only bit 1
@@ -62,5 +44,4 @@ cause-bit c = go (eqb c 0) refl
     go false e = record { set = λ n. refl; clear = λ z. absurd (eqb-false c 0 e z); others = one-bit }
 
 pub status-first : StatusFirst
-unfolding reply replyOf report
-status-first f m e = rw e (cause-bit (m .station .cause))
+status-first f m e = rw (Every.status-first inout f m e) (cause-bit (m .station .cause))

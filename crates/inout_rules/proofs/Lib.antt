@@ -1,10 +1,6 @@
+pub mod Asks
 pub mod Blend
-pub mod Putting
 pub mod Bits
+pub mod Apart
 pub mod Cause
 pub mod Shown
-pub mod Asks
-pub mod Within
-pub mod Reply
-pub mod Address
-pub mod Listed

@@ -1,19 +1,11 @@
 -- What a command stores, a sample tells or a reset forgets shows in the record and its replies. Assumes nothing.
-use mathlib.Core.Path.{_≡_, refl, ap, _∙_}
-use mathlib.Core.Bool.{Bool}
-use borrow.Author.Tests.{eq-eqb}
-use lib.ListN.{length}
-use Rattle.line_receiver.specs.Frames.{Frame}
-use Rattle.module_station.specs.Commands.{asked}
-use Rattle.module_station.specs.Report.{replyOf}
+use mathlib.Core.Path.{refl, ap}
+use Rattle.module_rules.proofs.Replies as Every
 use Rattle.inout_rules.specs.declared.Sample.{Sample}
 use Rattle.inout_rules.specs.declared.Io.{Io}
-use Rattle.inout_rules.specs.declared.Command.the-variants.{Reset}
-use Rattle.inout_rules.specs.declared.Request.the-variants.{Wants}
-use Rattle.inout_rules.specs.Commands.{request}
-use Rattle.inout_rules.specs.Module.{fresh, execute, reply}
-use Rattle.inout_rules.specs.Promises.{Stores, Samples, Captures, Driven, Shown, Resets}
-use Rattle.inout_rules.proofs.Cause.{cause}
+use Rattle.inout_rules.specs.Answers.{inout}
+use Rattle.inout_rules.specs.Promises.{Stores, Sampling, Captures, Driven, Shown, Resets}
+use Rattle.inout_rules.proofs.Apart.{apart}
 
 stores : (m : Io) → Stores m
 stores m = record {
@@ -33,8 +25,8 @@ stores m = record {
   nothing = refl;
 }
 
-samples : (x : Sample) (m : Io) → Samples x m
-samples x m = record {
+sampling : (x : Sample) (m : Io) → Sampling x m
+sampling x m = record {
   unseen = refl;
   undriven = refl;
   latched = refl;
@@ -47,24 +39,12 @@ captures : (x : Sample) (m : Io) → Captures x m
 captures x m = record { inputs = refl; counter = refl; inputsStay = refl; counterStays = refl }
 
 pub shown : Shown
-shown x m = (stores m, (samples x m, captures x m))
+shown x m = (stores m, (sampling x m, captures x m))
 
 pub driven : Driven
 driven m = refl
 
--- code 15 with no data asks for a reset
-asks : (f : Frame) (alone : Bool) → f .code ≡ 15 → length (f .content) ≡ 0 → request f alone ≡ Wants Reset
-unfolding request asked
-asks f alone c n = rw (c, n)
-
 pub resets : Resets
-unfolding reply replyOf
 resets f alone m d c n =
-    let e : execute f alone m ≡ fresh (m .waiting) (m .latched) = cause f alone m .executed Reset d (asks f alone c n) in
-    record {
-      whole = e;
-      station = ap (λ (m : Io). m .station) e;
-      waiting = ap (λ (m : Io). m .waiting) e;
-      latched = ap (λ (m : Io). m .latched) e;
-      silent = ap (reply f) e ∙ rw (eq-eqb _ _ c);
-    }
+    let r = Every.resets inout apart f alone m d c n in
+    record { whole = r .whole; samples = ap (λ (m : Io). m .samples) (r .whole); silent = r .silent }

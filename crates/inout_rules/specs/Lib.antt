@@ -1,5 +1,6 @@
 pub mod Pins
-pub mod Commands
-pub mod Module
-pub mod Slot
+pub mod Asks
+pub mod State
+pub mod Perform
+pub mod Answers
 pub mod Promises

@@ -1,38 +1,26 @@
--- What is promised of an I/O module. Each is proved under its name, with small letters, in proofs/.
+-- What is promised of an I/O module beyond what module_rules promises of every type. Each is proved under its name, with small letters, in
+-- proofs/.
 use mathlib.Core.Path.{_≡_}
 use Prim.Native.Nat.{ℕ, _+_, _*_, _%_, _^_, _<_, _≤_}
-use mathlib.Core.List.{List, [], _∷_, _++_}
-use mathlib.Core.Bool.{Bool, true, false, cond, _&&_}
+use mathlib.Core.List.{[], _∷_, _++_}
+use mathlib.Core.Bool.{Bool, false, cond, _&&_}
 use lib.ListN.{length, getD}
 use lib.Dec.{eqb}
 use Rattle.base_integers.specs.Bits.{bit}
-use Rattle.base_layout.specs.Bytes.{le, Bytes}
+use Rattle.base_layout.specs.Bytes.{le}
 use Rattle.line_receiver.specs.Frames.{Frame}
-use Rattle.module_station.specs.declared.Setting.the-variants.{Assign, Define, Rate, Nothing}
-use Rattle.module_station.specs.Touch.{powerUp}
-use Rattle.module_station.specs.Commands.{assigned}
-use Rattle.module_station.specs.Report.{report, causeBit, inoutSizes, Fit}
+use Rattle.module_rules.specs.declared.Setting.the-variants.{Assign, Define, Rate, Nothing}
+use Rattle.module_rules.specs.Commands.{assigned}
+use Rattle.module_rules.specs.Report.{causeBit}
+use Rattle.module_rules.specs.Rules.{set, settled}
 use Rattle.inout_rules.specs.declared.Sample.{Sample}
 use Rattle.inout_rules.specs.declared.Pins.{Pins}
 use Rattle.inout_rules.specs.declared.Io.{Io}
-use Rattle.inout_rules.specs.declared.Command.{Command}
-use Rattle.inout_rules.specs.declared.Command.the-variants.{Set, Direction, Pwm, SynchOutput, Output, SynchStore, Timer, SynchInput}
-use Rattle.inout_rules.specs.declared.Request.the-variants.{Malformed, Wants}
+use Rattle.inout_rules.specs.declared.Command.the-variants.{Direction, Pwm, SynchOutput, Output, SynchStore, Timer, SynchInput}
 use Rattle.inout_rules.specs.Pins.{bitsOf, blend}
-use Rattle.inout_rules.specs.Commands.{request}
-use Rattle.inout_rules.specs.Module.{withCause, fresh, started, readNow, pulsed, output, perform, execute, numbers, reply, sampled, ticked, outputsOf}
-use Rattle.inout_rules.specs.Slot.{sample, slot, decodeOf, okOf}
-
--- A frame is tested for damaged, cause 1, then for malformed, cause 2; any other is performed, cause 0. Where the cause after it is not 0,
--- all else in the record is as it was.
-pub record Causes (f : Frame) (alone : Bool) (m : Io) : Type 0 where
-  pub damaged : f .damaged ≡ true → execute f alone m ≡ withCause 1 m
-  pub malformed : f .damaged ≡ false → request f alone ≡ Malformed → execute f alone m ≡ withCause 2 m
-  pub executed : (c : Command) → f .damaged ≡ false → request f alone ≡ Wants c → execute f alone m ≡ withCause 0 (perform c m)
-  pub kept : (execute f alone m .station .cause ≡ 0 → ⊥) → execute f alone m ≡ withCause (execute f alone m .station .cause) m
-
-abbrev pub Cause : Type 0
-Cause = (f : Frame) (alone : Bool) (m : Io) → Causes f alone m
+use Rattle.inout_rules.specs.State.{fresh, readNow, sampled, ticked}
+use Rattle.inout_rules.specs.Perform.{pulsed, output, perform}
+use Rattle.inout_rules.specs.Answers.{numbers, outputsOf, inout, withCause, execute, reply}
 
 -- The cause after a frame is 0, 1 or 2: nothing of this type is 3, not now.
 abbrev pub CauseIs : Type 0
@@ -83,7 +71,7 @@ abbrev pub ReadValue : Type 0
 ReadValue =
     (m : Io) (k : ℕ)
     → k < 12
-    → (bit k (m .pins .direction) ≡ 1 → bit k (readNow m) ≡ bit k (m .latched .inputs))
+    → (bit k (m .pins .direction) ≡ 1 → bit k (readNow m) ≡ bit k (m .samples .latched .inputs))
     × (bit k (m .pins .direction) ≡ 0 → bit k (readNow m) ≡ bit k (m .pins .register))
 
 -- What a command stores is what the module holds, drives or uses from then on.
@@ -91,7 +79,7 @@ pub record Stores (m : Io) : Type 0 where
   -- Set Direction: the pins' direction, by which the twelve bits are read; the register is as it was
   pub direction : (d : ℕ) → perform (Direction d) m .pins .direction ≡ d
   pub register : (d : ℕ) → perform (Direction d) m .pins .register ≡ m .pins .register
-  pub readBy : (d : ℕ) → readNow (perform (Direction d) m) ≡ blend 12 d (m .latched .inputs) (m .pins .register)
+  pub readBy : (d : ℕ) → readNow (perform (Direction d) m) ≡ blend 12 d (m .samples .latched .inputs) (m .pins .register)
   -- Set PWM: what is driven; the stored PWMs are as they were
   pub pwm : (a b : ℕ) → (perform (Pwm a b) m .pins .pwm1 ≡ a) × (perform (Pwm a b) m .pins .pwm2 ≡ b)
   pub apart : (a b : ℕ) → perform (Pwm a b) m .synch ≡ m .synch
@@ -102,28 +90,28 @@ pub record Stores (m : Io) : Type 0 where
   pub again : perform SynchOutput m .synch ≡ m .synch
   -- Set Timer Mode, Set Address, Define Status, Set Baud
   pub timer : (t : ℕ) → perform (Timer t) m .timer ≡ t
-  pub address : (a b : ℕ) → perform (Set (Assign a b)) m .station .address ≡ assigned a b
-  pub items : (b : ℕ) → perform (Set (Define b)) m .station .items ≡ b
-  pub baud : (b : ℕ) → perform (Set (Rate b)) m .station .baud ≡ b
+  pub address : (a b : ℕ) → settled inout (set (Assign a b)) m .station .address ≡ assigned a b
+  pub items : (b : ℕ) → settled inout (set (Define b)) m .station .items ≡ b
+  pub baud : (b : ℕ) → settled inout (set (Rate b)) m .station .baud ≡ b
   -- Read Status, No Op
-  pub nothing : perform (Set Nothing) m ≡ m
+  pub nothing : settled inout (set Nothing) m ≡ withCause 0 m
 
 -- What the board is told to drive: the pins as the last command left them.
 abbrev pub Driven : Type 0
 Driven = (m : Io) → outputsOf m ≡ le 2 (m .pins .direction) ++ le 2 (m .pins .register) ++ (m .pins .pwm1 ∷ m .pins .pwm2 ∷ le 2 0)
 
 -- A sample is unseen until the next tick; then items 0 to 4 are its own, and a tick with no newer one shows it again.
-pub record Samples (x : Sample) (m : Io) : Type 0 where
+pub record Sampling (x : Sample) (m : Io) : Type 0 where
   pub unseen : numbers (sampled x m) ≡ numbers m
   pub undriven : outputsOf (sampled x m) ≡ outputsOf m
-  pub latched : ticked (sampled x m) .latched ≡ x
-  pub waited : ticked m .latched ≡ m .waiting
+  pub latched : ticked (sampled x m) .samples .latched ≡ x
+  pub waited : ticked m .samples .latched ≡ m .samples .waiting
   pub shown : numbers (ticked m)
-      ≡ blend 12 (m .pins .direction) (m .waiting .inputs) (m .pins .register)
-      ∷ m .waiting .ad1
-      ∷ m .waiting .ad2
-      ∷ m .waiting .ad3
-      ∷ m .waiting .counter
+      ≡ blend 12 (m .pins .direction) (m .samples .waiting .inputs) (m .pins .register)
+      ∷ m .samples .waiting .ad1
+      ∷ m .samples .waiting .ad2
+      ∷ m .samples .waiting .ad3
+      ∷ m .samples .waiting .counter
       ∷ 258
       ∷ m .captured .inputs
       ∷ m .captured .counter
@@ -133,77 +121,19 @@ pub record Samples (x : Sample) (m : Io) : Type 0 where
 -- After Synch Input items 6 and 7 are the read value and the counter of that time; a later sample and tick leave them.
 pub record Captures (x : Sample) (m : Io) : Type 0 where
   pub inputs : getD (numbers (perform SynchInput m)) 6 0 ≡ readNow m
-  pub counter : getD (numbers (perform SynchInput m)) 7 0 ≡ m .latched .counter
+  pub counter : getD (numbers (perform SynchInput m)) 7 0 ≡ m .samples .latched .counter
   pub inputsStay : getD (numbers (ticked (sampled x (perform SynchInput m)))) 6 0 ≡ readNow m
-  pub counterStays : getD (numbers (ticked (sampled x (perform SynchInput m)))) 7 0 ≡ m .latched .counter
+  pub counterStays : getD (numbers (ticked (sampled x (perform SynchInput m)))) 7 0 ≡ m .samples .latched .counter
 
 -- Stored things are shown.
 abbrev pub Shown : Type 0
-Shown = (x : Sample) (m : Io) → Stores m × (Samples x m × Captures x m)
+Shown = (x : Sample) (m : Io) → Stores m × (Sampling x m × Captures x m)
 
 -- Hard Reset, which has no data: the power-up record with both samples kept, and no reply.
 pub record AfterReset (f : Frame) (alone : Bool) (m : Io) : Type 0 where
-  pub whole : execute f alone m ≡ fresh (m .waiting) (m .latched)
-  pub station : execute f alone m .station ≡ powerUp
-  pub waiting : execute f alone m .waiting ≡ m .waiting
-  pub latched : execute f alone m .latched ≡ m .latched
+  pub whole : execute f alone m ≡ fresh (m .samples)
+  pub samples : execute f alone m .samples ≡ m .samples
   pub silent : reply f (execute f alone m) ≡ []
 
 abbrev pub Resets : Type 0
 Resets = (f : Frame) (alone : Bool) (m : Io) → f .damaged ≡ false → f .code ≡ 15 → length (f .content) ≡ 0 → AfterReset f alone m
-
--- The values that a slot can hold: every number within its bytes, twelve-bit ones below 4,096, a cause of at most 3.
-abbrev pub Fits : Io → Type 0
-Fits m = slot .codec .fits m
-
--- They are never left: by power-up, frames, samples or ticks.
-pub record Kept : Type 0 where
-  pub power : Fits started
-  pub frame : (f : Frame) (alone : Bool) (m : Io) → Bytes (f .content) → Fits m → Fits (execute f alone m)
-  pub sampling : (x : Sample) (m : Io) → sample .codec .fits x → Fits m → Fits (sampled x m)
-  pub tick : (m : Io) → Fits m → Fits (ticked m)
-
--- A reply is status byte, chosen items and sum, of the record as it is after the frame: Read Status, if executed, chooses for this reply only,
--- else the items are the defined ones; Hard Reset, if executed, draws none.
-pub record Replies (f : Frame) (m : Io) : Type 0 where
-  pub reset : f .code ≡ 15 → m .station .cause ≡ 0 → reply f m ≡ []
-  pub read : f .code ≡ 3 → m .station .cause ≡ 0 → reply f m ≡ report (causeBit (m .station .cause)) (getD (f .content) 0 0) inoutSizes (numbers m)
-  pub defined : (f .code ≡ 3 → ⊥) → (f .code ≡ 15 → ⊥) → reply f m ≡ report (causeBit (m .station .cause)) (m .station .items) inoutSizes (numbers m)
-  pub refused : (m .station .cause ≡ 0 → ⊥) → reply f m ≡ report (causeBit (m .station .cause)) (m .station .items) inoutSizes (numbers m)
-
-abbrev pub Replied : Type 0
-Replied = (f : Frame) (m : Io) → Replies f m
-
--- A reply has at most 19 bytes.
-abbrev pub Short : Type 0
-Short = (f : Frame) (m : Io) → length (reply f m) ≤ 19
-
--- Every item's number fits into its bytes, so that a reply spells it whole.
-abbrev pub NumbersFit : Type 0
-NumbersFit = (m : Io) → Fits m → Fit inoutSizes (numbers m)
-
--- Only Set Address, code 1, and Hard Reset, code 15, undamaged, change who a module is on the line.
-pub record AddressKept : Type 0 where
-  pub damaged : (f : Frame) (alone : Bool) (m : Io) → f .damaged ≡ true → execute f alone m .station .address ≡ m .station .address
-  pub frame : (f : Frame) (alone : Bool) (m : Io)
-      → (f .code ≡ 1 → ⊥)
-      → (f .code ≡ 15 → ⊥)
-      → execute f alone m .station .address ≡ m .station .address
-  pub sampling : (x : Sample) (m : Io) → sampled x m .station .address ≡ m .station .address
-  pub tick : (m : Io) → ticked m .station .address ≡ m .station .address
-
--- The list that a valid slot of this type satisfies, line by line.
-pub record Lines (s : List ℕ) : Type 0 where
-  pub typeByte : getD s 0 0 ≡ 2
-  pub leader : getD s 3 0 ≤ 1
-  pub low : getD s 4 0 ≤ 1
-  pub cause : getD s 5 0 ≤ 3
-  pub waitingInputs : decodeOf s .waiting .inputs < 4096
-  pub latchedInputs : decodeOf s .latched .inputs < 4096
-  pub direction : decodeOf s .pins .direction < 4096
-  pub register : decodeOf s .pins .register < 4096
-  pub synchBits : decodeOf s .synch .bits < 4096
-  pub capturedInputs : decodeOf s .captured .inputs < 4096
-
-abbrev pub Listed : Type 0
-Listed = (s : List ℕ) → Bytes s → 43 ≤ length s → okOf s ≡ true → Lines s

@@ -1,6 +1,14 @@
-// The I/O module, type 2 version 1: its parts by value. specs/ says what frames, samples and ticks make of it, and its bytes in a slot.
-use module_station::Setting;
-use module_station::Station;
+// The I/O module, type 2 version 1: what it consists of, and what a frame asks of it. Types, definitions and promises; no function.
+use module_rules::Setting;
+use module_rules::Station;
+
+pub const TYPE: u8 = 2;
+
+// How many bytes each item has.
+pub const SIZES: [u8; 8] = [2, 1, 1, 1, 4, 2, 2, 4];
+
+// The item of type and version: the type's number, and the version above it.
+pub const TYPE_AND_VERSION: u32 = 258;
 
 // What the board measures: twelve input bits, three A/D bytes, a counter.
 pub struct Sample {
@@ -9,6 +17,12 @@ pub struct Sample {
     pub ad2: u8,
     pub ad3: u8,
     pub counter: u32,
+}
+
+// The sample that waits for the next tick, and the one that the last tick latched.
+pub struct Samples {
+    pub waiting: Sample,
+    pub latched: Sample,
 }
 
 // A direction bit of 1 is an input.
@@ -33,17 +47,15 @@ pub struct Capture {
 
 pub struct Io {
     pub station: Station,
-    pub waiting: Sample,
-    pub latched: Sample,
+    pub samples: Samples,
     pub pins: Pins,
     pub synch: Synch,
     pub timer: u8,
     pub captured: Capture,
 }
 
+// The I/O module's own commands.
 pub enum Command {
-    Set(Setting),
-    Reset,
     Direction(u16),
     Pwm(u8, u8),
     SynchOutput,
@@ -53,7 +65,10 @@ pub enum Command {
     SynchInput,
 }
 
+// What a frame asks.
 pub enum Request {
     Malformed,
+    Set(Setting),
+    Reset,
     Wants(Command),
 }

@@ -4,16 +4,16 @@ ghost use Prim.Native.Nat.{_+_, _≤_};
 ghost use mathlib.Core.List.{_∷_, _++_};
 ghost use lib.ListN.{length};
 ghost use Rattle.base_layout.specs.Bytes.{pasted};
-ghost use Rattle.inout_rules.specs.Slot.{sample, pins, synch, capture, encodeOf, decodeOf, okOf};
+ghost use Rattle.inout_slot_rules.specs.Slot.{sample, pins, synch, capture, waitingAt, latchedAt, pinsAt, synchAt, timerAt, capturedAt, ioSize, encodeOf, decodeOf, okOf};
 use inout_rules::Capture;
 use inout_rules::Io;
 use inout_rules::Pins;
 use inout_rules::Sample;
+use inout_rules::Samples;
 use inout_rules::Synch;
-use module_station::Station;
 
 fn sample_in(s: &[u8], at: usize) -> Sample
-    requires { ⌜ at + 9 ≤ length (now s) ⌝ }
+    requires { ⌜ at + sample .codec .size ≤ length (now s) ⌝ }
     ensures { λ r. ⌜ r ≡ sample .codec .dec at (now (s .entry)) ⌝ }
 {
     let a = at + 2;
@@ -28,56 +28,72 @@ fn sample_in(s: &[u8], at: usize) -> Sample
     }
 }
 
+pub fn waiting_in(s: &[u8]) -> Sample
+    requires { ⌜ latchedAt ≤ length (now s) ⌝ }
+    ensures { λ r. ⌜ r ≡ decodeOf (now (s .entry)) .samples .waiting ⌝ }
+{
+    sample_in(s, inout_slot_rules::WAITING_AT)
+}
+
+pub fn samples_in(s: &[u8]) -> Samples
+    requires { ⌜ pinsAt ≤ length (now s) ⌝ }
+    ensures { λ r. ⌜ r ≡ decodeOf (now (s .entry)) .samples ⌝ }
+{
+    Samples {
+        waiting: waiting_in(s),
+        latched: sample_in(s, inout_slot_rules::LATCHED_AT),
+    }
+}
+
 fn pins_in(s: &[u8]) -> Pins
-    requires { ⌜ 32 ≤ length (now s) ⌝ }
-    ensures { λ r. ⌜ r ≡ pins .codec .dec 26 (now (s .entry)) ⌝ }
+    requires { ⌜ synchAt ≤ length (now s) ⌝ }
+    ensures { λ r. ⌜ r ≡ pins .codec .dec pinsAt (now (s .entry)) ⌝ }
 {
     Pins {
-        direction: base_layout::get2(s, 26),
-        register: base_layout::get2(s, 28),
-        pwm1: s[30],
-        pwm2: s[31],
+        direction: base_layout::get2(s, inout_slot_rules::DIRECTION_AT),
+        register: base_layout::get2(s, inout_slot_rules::REGISTER_AT),
+        pwm1: s[inout_slot_rules::PWM1_AT],
+        pwm2: s[inout_slot_rules::PWM2_AT],
     }
 }
 
 fn synch_in(s: &[u8]) -> Synch
-    requires { ⌜ 36 ≤ length (now s) ⌝ }
-    ensures { λ r. ⌜ r ≡ synch .codec .dec 32 (now (s .entry)) ⌝ }
+    requires { ⌜ timerAt ≤ length (now s) ⌝ }
+    ensures { λ r. ⌜ r ≡ synch .codec .dec synchAt (now (s .entry)) ⌝ }
 {
     Synch {
-        bits: base_layout::get2(s, 32),
-        pwm1: s[34],
-        pwm2: s[35],
+        bits: base_layout::get2(s, inout_slot_rules::BITS_AT),
+        pwm1: s[inout_slot_rules::STORED1_AT],
+        pwm2: s[inout_slot_rules::STORED2_AT],
     }
 }
 
 fn capture_in(s: &[u8]) -> Capture
-    requires { ⌜ 43 ≤ length (now s) ⌝ }
-    ensures { λ r. ⌜ r ≡ capture .codec .dec 37 (now (s .entry)) ⌝ }
+    requires { ⌜ ioSize ≤ length (now s) ⌝ }
+    ensures { λ r. ⌜ r ≡ capture .codec .dec capturedAt (now (s .entry)) ⌝ }
 {
     Capture {
-        inputs: base_layout::get2(s, 37),
-        counter: base_layout::get4(s, 39),
+        inputs: base_layout::get2(s, inout_slot_rules::INPUTS_AT),
+        counter: base_layout::get4(s, inout_slot_rules::COUNTER_AT),
     }
 }
 
 // The module in a slot.
 pub fn decode(s: &[u8]) -> Io
-    requires { ⌜ 43 ≤ length (now s) ⌝ }
+    requires { ⌜ ioSize ≤ length (now s) ⌝ }
     ensures { λ r. ⌜ r ≡ decodeOf (now (s .entry)) ⌝ }
 {
     Io {
-        station: Station::in_slot(s),
-        waiting: sample_in(s, 8),
-        latched: sample_in(s, 17),
+        station: module_station::station_in(s),
+        samples: samples_in(s),
         pins: pins_in(s),
         synch: synch_in(s),
-        timer: s[36],
+        timer: s[inout_slot_rules::TIMER_AT],
         captured: capture_in(s),
     }
 }
 
-fn sample_bytes(x: Sample) -> [u8; 9]
+fn sample_bytes(x: Sample) -> [u8; inout_slot_rules::SAMPLE_LEN]
     ensures { λ r. ⌜ r ≡ sample .codec .enc x ⌝ }
 {
     [
@@ -93,7 +109,7 @@ fn sample_bytes(x: Sample) -> [u8; 9]
     ]
 }
 
-fn outputs_bytes(p: Pins, y: Synch) -> [u8; 10]
+fn outputs_bytes(p: Pins, y: Synch) -> [u8; inout_slot_rules::OUTPUTS_LEN]
     ensures { λ r. ⌜ r ≡ pins .codec .enc p ++ synch .codec .enc y ⌝ }
 {
     [
@@ -110,7 +126,7 @@ fn outputs_bytes(p: Pins, y: Synch) -> [u8; 10]
     ]
 }
 
-fn capture_bytes(timer: u8, k: Capture) -> [u8; 7]
+fn tail_bytes(timer: u8, k: Capture) -> [u8; inout_slot_rules::TAIL_LEN]
     ensures { λ r. ⌜ r ≡ timer ∷ capture .codec .enc k ⌝ }
 {
     [
@@ -124,36 +140,52 @@ fn capture_bytes(timer: u8, k: Capture) -> [u8; 7]
     ]
 }
 
+// Puts the waiting sample alone.
+pub fn put_sample(s: &mut [u8], x: Sample)
+    requires { ⌜ ioSize ≤ length (now s) ⌝ }
+    ensures { λ _. ⌜ now (s .exit) ≡ pasted waitingAt (sample .codec .enc x) (now (s .entry)) ⌝ }
+{
+    let bytes = sample_bytes(x);
+    base_layout::put_all(s, inout_slot_rules::WAITING_AT, &bytes);
+}
+
+// Puts the latched sample alone.
+pub fn put_latched(s: &mut [u8], x: Sample)
+    requires { ⌜ ioSize ≤ length (now s) ⌝ }
+    ensures { λ _. ⌜ now (s .exit) ≡ pasted latchedAt (sample .codec .enc x) (now (s .entry)) ⌝ }
+{
+    let bytes = sample_bytes(x);
+    base_layout::put_all(s, inout_slot_rules::LATCHED_AT, &bytes);
+}
+
 // Puts a module into a slot, from the slot's start on.
 pub fn put(s: &mut [u8], m: Io)
-    requires { ⌜ 43 ≤ length (now s) ⌝ }
+    requires { ⌜ ioSize ≤ length (now s) ⌝ }
     ensures { λ _. ⌜ now (s .exit) ≡ pasted 0 (encodeOf m) (now (s .entry)) ⌝ }
 {
-    let head = module_station::head_bytes(2, m.station);
-    let waiting = sample_bytes(m.waiting);
-    let latched = sample_bytes(m.latched);
+    let head = module_station::head_bytes(inout_rules::TYPE, m.station);
     let outputs = outputs_bytes(m.pins, m.synch);
-    let captured = capture_bytes(m.timer, m.captured);
+    let tail = tail_bytes(m.timer, m.captured);
     base_layout::put_all(s, 0, &head);
-    base_layout::put_all(s, 8, &waiting);
-    base_layout::put_all(s, 17, &latched);
-    base_layout::put_all(s, 26, &outputs);
-    base_layout::put_all(s, 36, &captured);
+    put_sample(s, m.samples.waiting);
+    put_latched(s, m.samples.latched);
+    base_layout::put_all(s, inout_slot_rules::PINS_AT, &outputs);
+    base_layout::put_all(s, inout_slot_rules::TIMER_AT, &tail);
 }
 
 // Whether a slot holds a valid I/O module: its type byte, its station, and twelve-bit numbers below 4,096.
 pub fn is_ok(s: &[u8]) -> bool
-    requires { ⌜ 43 ≤ length (now s) ⌝ }
+    requires { ⌜ ioSize ≤ length (now s) ⌝ }
     ensures { λ r. ⌜ r ≡ okOf (now (s .entry)) ⌝ }
 {
-    (s[0] == 2)
-        & (s[3] <= 1)
-        & (s[4] <= 1)
-        & (s[5] <= 3)
-        & (s[9] <= 15)
-        & (s[18] <= 15)
-        & (s[27] <= 15)
-        & (s[29] <= 15)
-        & (s[33] <= 15)
-        & (s[38] <= 15)
+    (s[0] == inout_rules::TYPE)
+        & (s[module_rules::LEADER_AT] <= 1)
+        & (s[module_rules::LOW_AT] <= 1)
+        & (s[module_rules::CAUSE_AT] <= 3)
+        & (s[inout_slot_rules::WAITING_AT + 1] <= 15)
+        & (s[inout_slot_rules::LATCHED_AT + 1] <= 15)
+        & (s[inout_slot_rules::DIRECTION_AT + 1] <= 15)
+        & (s[inout_slot_rules::REGISTER_AT + 1] <= 15)
+        & (s[inout_slot_rules::BITS_AT + 1] <= 15)
+        & (s[inout_slot_rules::INPUTS_AT + 1] <= 15)
 }

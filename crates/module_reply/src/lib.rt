@@ -4,10 +4,10 @@ ghost use Prim.Native.Nat.{_+_, _≤_, _<_};
 ghost use lib.ListN.{length};
 ghost use Rattle.base_layout.specs.Bytes.{pasted};
 ghost use Rattle.line_receiver.specs.Receive.{total};
-ghost use Rattle.module_station.specs.Touch.{frameOf};
-ghost use Rattle.module_station.specs.Report.{item, chosen, report, itemsFor, replyOf};
-use module_station::Head;
-use module_station::Station;
+ghost use Rattle.module_rules.specs.Touch.{frameOf};
+ghost use Rattle.module_rules.specs.Report.{item, chosen, report, itemsFor, replyOf};
+use module_rules::Head;
+use module_rules::Station;
 
 // Puts an item of k bytes into the room from place at on, if it is chosen; how many bytes that took.
 fn put_item(room: &mut [u8], at: usize, t: bool, k: usize, x: u32) -> usize

@@ -1,155 +1,119 @@
-// What every module type has: its addresses, its last cause, the items that it reports and its baud byte.
+// A module's station, by value and in its slot: who a frame is for, and the commands of every type.
 ghost use mathlib.Core.Path.{_≡_};
 ghost use mathlib.Core.List.{_∷_};
-ghost use Prim.Native.Nat.{_+_, _≤_, _<_};
+ghost use Prim.Native.Nat.{_≤_};
 ghost use lib.ListN.{length};
-ghost use Rattle.module_station.specs.Touch.{powerUp, individually, named, speaks};
-ghost use Rattle.module_station.specs.Slot.{address, station};
-ghost use Rattle.module_station.specs.Commands.{counted, asked, assigned, applied, caused};
-ghost use Rattle.module_station.specs.Report.{item, causeBit, servoSizes, inoutSizes};
+ghost use Rattle.base_layout.specs.Bytes.{pasted};
+ghost use Rattle.module_rules.specs.Touch.{powerUp, individually, named, speaks};
+ghost use Rattle.module_rules.specs.Slot.{address, station};
+ghost use Rattle.module_rules.specs.Slots.{stationAt, ownAt};
+ghost use Rattle.module_rules.specs.Commands.{counted, asked, assigned, applied, caused};
+ghost use Rattle.module_rules.specs.Report.{causeBit};
+use module_rules::Address;
+use module_rules::Asked;
+use module_rules::Setting;
+use module_rules::Station;
 
-// Who a module is on the line; low is its ADDR_OUT.
-pub struct Address {
-    pub individual: u8,
-    pub group: u8,
-    pub leader: bool,
-    pub low: bool,
+// Who the module in a slot is.
+pub fn address_in(s: &[u8]) -> Address
+    requires { ⌜ ownAt ≤ length (now s) ⌝ }
+    ensures { λ r. ⌜ r ≡ address .codec .dec stationAt (now (s .entry)) ⌝ }
+{
+    Address {
+        individual: s[module_rules::INDIVIDUAL_AT],
+        group: s[module_rules::GROUP_AT],
+        leader: s[module_rules::LEADER_AT] == 1,
+        low: s[module_rules::LOW_AT] == 1,
+    }
 }
 
-pub struct Station {
-    pub address: Address,
-    pub cause: u8,
-    pub items: u8,
-    pub baud: u8,
+pub fn station_in(s: &[u8]) -> Station
+    requires { ⌜ ownAt ≤ length (now s) ⌝ }
+    ensures { λ r. ⌜ r ≡ station .codec .dec stationAt (now (s .entry)) ⌝ }
+{
+    Station {
+        address: address_in(s),
+        cause: s[module_rules::CAUSE_AT],
+        items: s[module_rules::ITEMS_AT],
+        baud: s[module_rules::BAUD_AT],
+    }
 }
 
-// What a frame says besides its data bytes.
-pub struct Head {
-    pub address: u8,
-    pub code: u8,
-    pub damaged: bool,
+pub fn is_individually(w: Address, a: u8) -> bool
+    ensures { λ r. ⌜ r ≡ individually a w ⌝ }
+{
+    w.individual == a
 }
 
-// What a command of both types sets: the two addresses, the items, the baud byte, or nothing.
-pub enum Setting {
-    Assign(u8, u8),
-    Define(u8),
-    Rate(u8),
-    Nothing,
+pub fn is_named(w: Address, a: u8) -> bool
+    ensures { λ r. ⌜ r ≡ named a w ⌝ }
+{
+    (w.individual == a) | (w.group == a)
 }
 
-// What a frame asks, as far as both types know it.
-pub enum Asked {
-    Other,
-    Malformed,
-    Wants(Setting),
-    Reset,
+pub fn is_speaking(w: Address, a: u8) -> bool
+    ensures { λ r. ⌜ r ≡ speaks a w ⌝ }
+{
+    (w.individual == a) | w.leader
 }
 
-impl Address {
-    // Who the module in a slot is; its type byte comes first.
-    pub fn in_slot(s: &[u8]) -> Self
-        requires { ⌜ 5 ≤ length (now s) ⌝ }
-        ensures { λ r. ⌜ r ≡ address .codec .dec 1 (now (s .entry)) ⌝ }
-    {
-        Address {
-            individual: s[1],
-            group: s[2],
-            leader: s[3] == 1,
-            low: s[4] == 1,
+pub fn power_up() -> Station
+    ensures { λ r. ⌜ r ≡ powerUp ⌝ }
+{
+    Station {
+        address: Address {
+            individual: 0,
+            group: 255,
+            leader: false,
+            low: false,
+        },
+        cause: 0,
+        items: 0,
+        baud: 0,
+    }
+}
+
+pub fn with_cause(mut s: Station, cause: u8) -> Station
+    ensures { λ r. ⌜ r ≡ caused cause s ⌝ }
+{
+    s.cause = cause;
+    s
+}
+
+// Set Address: the group byte without its upper bit is the group, and that bit clear makes a leader.
+fn assigned(individual: u8, b: u8) -> Address
+    ensures { λ r. ⌜ r ≡ assigned individual b ⌝ }
+{
+    Address {
+        individual,
+        group: 128 + b % 128,
+        leader: b < 128,
+        low: true,
+    }
+}
+
+pub fn with_setting(mut s: Station, setting: Setting) -> Station
+    ensures { λ r. ⌜ r ≡ applied setting s ⌝ }
+{
+    match setting {
+        Setting::Assign(individual, group) => {
+            s.address = assigned(individual, group);
+            s
         }
-    }
-
-    pub fn is_individually(self, a: u8) -> bool
-        ensures { λ r. ⌜ r ≡ individually a self ⌝ }
-    {
-        self.individual == a
-    }
-
-    pub fn is_named(self, a: u8) -> bool
-        ensures { λ r. ⌜ r ≡ named a self ⌝ }
-    {
-        (self.individual == a) | (self.group == a)
-    }
-
-    pub fn is_speaking(self, a: u8) -> bool
-        ensures { λ r. ⌜ r ≡ speaks a self ⌝ }
-    {
-        (self.individual == a) | self.leader
-    }
-
-    // Set Address: the group byte without its upper bit is the group, and that bit clear makes a leader.
-    fn assigned(individual: u8, b: u8) -> Self
-        ensures { λ r. ⌜ r ≡ assigned individual b ⌝ }
-    {
-        Address {
-            individual,
-            group: 128 + b % 128,
-            leader: b < 128,
-            low: true,
+        Setting::Define(items) => {
+            s.items = items;
+            s
         }
-    }
-}
-
-impl Station {
-    pub fn in_slot(s: &[u8]) -> Self
-        requires { ⌜ 8 ≤ length (now s) ⌝ }
-        ensures { λ r. ⌜ r ≡ station .codec .dec 1 (now (s .entry)) ⌝ }
-    {
-        Station {
-            address: Address::in_slot(s),
-            cause: s[5],
-            items: s[6],
-            baud: s[7],
+        Setting::Rate(baud) => {
+            s.baud = baud;
+            s
         }
-    }
-
-    pub fn power_up() -> Self
-        ensures { λ r. ⌜ r ≡ powerUp ⌝ }
-    {
-        Station {
-            address: Address {
-                individual: 0,
-                group: 255,
-                leader: false,
-                low: false,
-            },
-            cause: 0,
-            items: 0,
-            baud: 0,
-        }
-    }
-
-    pub fn with_cause(mut self, cause: u8) -> Self
-        ensures { λ r. ⌜ r ≡ caused cause self ⌝ }
-    {
-        self.cause = cause;
-        self
-    }
-
-    pub fn with(mut self, setting: Setting) -> Self
-        ensures { λ r. ⌜ r ≡ applied setting self ⌝ }
-    {
-        match setting {
-            Setting::Assign(individual, group) => {
-                self.address = Address::assigned(individual, group);
-                self
-            }
-            Setting::Define(items) => {
-                self.items = items;
-                self
-            }
-            Setting::Rate(baud) => {
-                self.baud = baud;
-                self
-            }
-            Setting::Nothing => self,
-        }
+        Setting::Nothing => s,
     }
 }
 
 // A slot begins with the type and the station.
-pub fn head_bytes(t: u8, s: Station) -> [u8; 8]
+pub fn head_bytes(t: u8, s: Station) -> [u8; module_rules::OWN_AT]
     ensures { λ r. ⌜ r ≡ t ∷ station .codec .enc s ⌝ }
 {
     [
@@ -162,6 +126,29 @@ pub fn head_bytes(t: u8, s: Station) -> [u8; 8]
         s.items,
         s.baud,
     ]
+}
+
+fn station_bytes(x: Station) -> [u8; module_rules::STATION_LEN]
+    ensures { λ r. ⌜ r ≡ station .codec .enc x ⌝ }
+{
+    [
+        x.address.individual,
+        x.address.group,
+        x.address.leader as u8,
+        x.address.low as u8,
+        x.cause,
+        x.items,
+        x.baud,
+    ]
+}
+
+// Puts a station into a slot whose type byte stands.
+pub fn put_station(s: &mut [u8], x: Station)
+    requires { ⌜ ownAt ≤ length (now s) ⌝ }
+    ensures { λ _. ⌜ now (s .exit) ≡ pasted stationAt (station .codec .enc x) (now (s .entry)) ⌝ }
+{
+    let bytes = station_bytes(x);
+    base_layout::put_all(s, module_rules::STATION_AT, &bytes);
 }
 
 // What is asked where the count is right.
@@ -211,17 +198,4 @@ pub fn cause_bit(cause: u8) -> u8
     ensures { λ r. ⌜ r ≡ causeBit cause ⌝ }
 {
     if cause == 0 { 0 } else { 2 }
-}
-
-// How many bytes each item of a servo, and of an I/O module, has.
-pub fn servo_sizes() -> [u8; 8]
-    ensures { λ r. ⌜ r ≡ servoSizes ⌝ }
-{
-    [4, 1, 2, 1, 4, 2, 2, 1]
-}
-
-pub fn inout_sizes() -> [u8; 8]
-    ensures { λ r. ⌜ r ≡ inoutSizes ⌝ }
-{
-    [2, 1, 1, 1, 4, 2, 2, 4]
 }

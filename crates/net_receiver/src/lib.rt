@@ -5,11 +5,11 @@ ghost use Prim.Native.Nat.{_+_, _≤_, _<_};
 ghost use lib.ListN.{length};
 ghost use Rattle.base_layout.specs.Bytes.{readAt};
 ghost use Rattle.types_rules.specs.Types.{slots};
-ghost use Rattle.net_rules.specs.Record.{receiverIn, receiverBytes, okReceiver, blank, netIn, valid};
+ghost use Rattle.net_rules.specs.Record.{receiverIn, receiverBytes, okReceiver, blank, netIn, valid, receiverSize};
 use line_receiver::Receiver;
 
 pub fn receiver_in(s: &[u8]) -> Receiver
-    requires { ⌜ 19 ≤ length (now s) ⌝ }
+    requires { ⌜ receiverSize ≤ length (now s) ⌝ }
     ensures { λ r. ⌜ r ≡ receiverIn (now (s .entry)) ⌝ }
 {
     Receiver {
@@ -30,14 +30,14 @@ pub fn receiver_in(s: &[u8]) -> Receiver
             s[13],
             s[14],
         ],
-        address: s[15],
-        command: s[16],
-        fill: s[17],
-        marked: s[18] == 1,
+        address: s[net_rules::ADDRESS_AT],
+        command: s[net_rules::COMMAND_AT],
+        fill: s[net_rules::FILL_AT],
+        marked: s[net_rules::MARKED_AT] == 1,
     }
 }
 
-pub fn receiver_bytes(r: Receiver) -> [u8; 19]
+pub fn receiver_bytes(r: Receiver) -> [u8; net_rules::RECEIVER_LEN]
     ensures { λ s. ⌜ s ≡ receiverBytes r ⌝ }
 {
     let b = r.bytes;
@@ -66,8 +66,8 @@ pub fn receiver_bytes(r: Receiver) -> [u8; 19]
 
 // Whether the receiver's bytes are all 0. In a row they compile to one test.
 fn is_blank(s: &[u8]) -> bool
-    requires { ⌜ 19 ≤ length (now s) ⌝ }
-    ensures { λ r. ⌜ r ≡ blank (readAt 19 0 (now (s .entry))) ⌝ }
+    requires { ⌜ receiverSize ≤ length (now s) ⌝ }
+    ensures { λ r. ⌜ r ≡ blank (readAt receiverSize 0 (now (s .entry))) ⌝ }
 {
     (s[0] == 0)
         & (s[1] == 0)
@@ -84,20 +84,20 @@ fn is_blank(s: &[u8]) -> bool
         & (s[12] == 0)
         & (s[13] == 0)
         & (s[14] == 0)
-        & (s[15] == 0)
-        & (s[16] == 0)
-        & (s[17] == 0)
-        & (s[18] == 0)
+        & (s[net_rules::ADDRESS_AT] == 0)
+        & (s[net_rules::COMMAND_AT] == 0)
+        & (s[net_rules::FILL_AT] == 0)
+        & (s[net_rules::MARKED_AT] == 0)
 }
 
 pub fn is_receiver_ok(s: &[u8]) -> bool
-    requires { ⌜ 19 ≤ length (now s) ⌝ }
+    requires { ⌜ receiverSize ≤ length (now s) ⌝ }
     ensures { λ r. ⌜ r ≡ okReceiver (now (s .entry)) ⌝ }
 {
-    if s[17] == 0 {
+    if s[net_rules::FILL_AT] == 0 {
         return is_blank(s);
     }
-    (s[17] <= 3 + s[16] / 16) & (s[18] <= 1)
+    (s[net_rules::FILL_AT] <= 3 + s[net_rules::COMMAND_AT] / 16) & (s[net_rules::MARKED_AT] <= 1)
 }
 
 // How many modules the chain has.
@@ -105,5 +105,5 @@ pub fn chain_len(net: &[u8]) -> u8
     requires { ⌜ valid slots (now net) ≡ true ⌝ }
     ensures { λ r. ⌜ r ≡ length (netIn slots (now (net .entry)) .modules) ⌝ }
 {
-    net[19]
+    net[net_rules::COUNT_AT]
 }

@@ -4,21 +4,22 @@ ghost use mathlib.Core.Bool.{true};
 ghost use mathlib.Core.List.{map};
 ghost use Prim.Native.Nat.{_+_, _*_, _≤_, _<_};
 ghost use lib.ListN.{length, replicate, drop};
-ghost use Rattle.chain_rules.specs.Slots.{slotSize};
-ghost use Rattle.types_rules.specs.Types.{slots, powered, measured, outputs};
-ghost use Rattle.net_rules.specs.Record.{recordSize, slotsAt, okSlots, netIn, putModules, stored, valid};
+ghost use Rattle.module_rules.specs.Slots.{slotSize};
+ghost use Rattle.types_rules.specs.Table.{measured};
+ghost use Rattle.types_rules.specs.Types.{slots, powered, outputs};
+ghost use Rattle.net_rules.specs.Record.{recordSize, slotsAt, okSlots, netIn, putModules, stored, valid, chainMost};
 ghost use Rattle.net_rules.specs.Calls.{allKnown, fresh, sampleStep, ofType, outputsAt};
 use types_rules::Measured;
 
-// Whether the n slots from place 20 on are valid.
+// Whether the first n slots are valid.
 fn is_each_ok(net: &[u8], n: usize) -> bool
     requires { ⌜ slotsAt + slotSize * n ≤ length (now net) ⌝ }
     ensures { λ r. ⌜ r ≡ okSlots slots n (drop slotsAt (now (net .entry))) ⌝ }
 {
-    let mut at: usize = 20;
+    let mut at: usize = net_rules::SLOTS_AT;
     let mut left = n;
     while 0 < left {
-        let end = at + 128;
+        let end = at + module_rules::SLOT_LEN;
         if !types_dispatch::is_ok(&net[at..end]) {
             return false;
         }
@@ -32,12 +33,12 @@ fn is_each_ok(net: &[u8], n: usize) -> bool
 pub fn is_valid(net: &[u8]) -> bool
     ensures { λ r. ⌜ r ≡ valid slots (now (net .entry)) ⌝ }
 {
-    if net.len() != 4116 {
+    if net.len() != net_rules::NET_LEN {
         return false;
     }
-    let n = net[19];
-    if (1 <= n) & (n <= 32) {
-        return net_receiver::is_receiver_ok(net) & is_each_ok(net, n as usize);
+    let n = net[net_rules::COUNT_AT] as usize;
+    if (1 <= n) & (n <= net_rules::CHAIN_MOST) {
+        return net_receiver::is_receiver_ok(net) & is_each_ok(net, n);
     }
     false
 }
@@ -49,7 +50,7 @@ pub fn is_of_type(net: &[u8], place: usize, t: u8) -> bool
 {
     let n = net_receiver::chain_len(net) as usize;
     if place < n {
-        return net[20 + 128 * place] == t;
+        return net[net_rules::SLOTS_AT + module_rules::SLOT_LEN * place] == t;
     }
     false
 }
@@ -59,8 +60,8 @@ pub fn put_sample(net: &mut [u8], place: usize, x: Measured)
     requires { ⌜ (valid slots (now net) ≡ true) × (place < length (netIn slots (now net) .modules)) ⌝ }
     ensures { λ _. ⌜ now (net .exit) ≡ stored slots (sampleStep place (measured x) (netIn slots (now (net .entry)))) (now (net .entry)) ⌝ }
 {
-    let at = 20 + 128 * place;
-    let end = at + 128;
+    let at = net_rules::SLOTS_AT + module_rules::SLOT_LEN * place;
+    let end = at + module_rules::SLOT_LEN;
     types_dispatch::put_sample(&mut net[at..end], x);
 }
 
@@ -69,8 +70,8 @@ pub fn outputs(net: &[u8], place: usize) -> [u8; 8]
     requires { ⌜ (valid slots (now net) ≡ true) × (place < length (netIn slots (now net) .modules)) ⌝ }
     ensures { λ r. ⌜ r ≡ outputsAt (netIn slots (now (net .entry))) place ⌝ }
 {
-    let at = 20 + 128 * place;
-    let end = at + 128;
+    let at = net_rules::SLOTS_AT + module_rules::SLOT_LEN * place;
+    let end = at + module_rules::SLOT_LEN;
     types_dispatch::outputs(&net[at..end])
 }
 
@@ -80,7 +81,7 @@ pub fn is_all_known(types: &[u8]) -> bool
 {
     let mut i = 0;
     while i < types.len() {
-        if !types_dispatch::is_known(types[i]) {
+        if !types_table::is_known(types[i] as u32) {
             return false;
         }
         i += 1;
@@ -98,15 +99,15 @@ fn clear(s: &mut [u8])
     }
 }
 
-// Modules of the given types at power-up, put into the slots from place 20 on.
+// Modules of the given types at power-up, put into the slots.
 fn power_up_each(net: &mut [u8], types: &[u8])
-    requires { ⌜ (slotsAt + slotSize * length (now types) ≤ length (now net)) × (allKnown (now types) ≡ true) ⌝ }
+    requires { ⌜ slotsAt + slotSize * length (now types) ≤ length (now net) ⌝ }
     ensures { λ _. ⌜ now (net .exit) ≡ putModules slots (map powered (now (types .entry))) slotsAt (now (net .entry)) ⌝ }
 {
-    let mut at: usize = 20;
+    let mut at: usize = net_rules::SLOTS_AT;
     let mut i = 0;
     while i < types.len() {
-        let end = at + 128;
+        let end = at + module_rules::SLOT_LEN;
         types_dispatch::power_up(&mut net[at..end], types[i]);
         at = end;
         i += 1;
@@ -115,12 +116,12 @@ fn power_up_each(net: &mut [u8], types: &[u8])
 
 // Setup: an idle receiver and a chain of the given types, whatever the record held before.
 pub fn set_up(net: &mut [u8], types: &[u8])
-    requires { ⌜ (length (now net) ≡ recordSize) × (length (now types) ≤ 32) × (allKnown (now types) ≡ true) ⌝ }
+    requires { ⌜ (length (now net) ≡ recordSize) × (length (now types) ≤ chainMost) ⌝ }
     ensures { λ _. ⌜ now (net .exit) ≡ fresh (now (types .entry)) ⌝ }
 {
     clear(net);
-    let mut head = [0u8; 20];
-    head[19] = types.len() as u8;
+    let mut head = [0u8; net_rules::SLOTS_AT];
+    head[net_rules::COUNT_AT] = types.len() as u8;
     base_layout::put_all(net, 0, &head);
     power_up_each(net, types);
 }

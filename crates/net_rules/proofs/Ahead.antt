@@ -10,8 +10,8 @@ use lib.Seq.{drop-drop}
 use Rattle.base_layout.specs.Bytes.{pasted}
 use Rattle.base_layout.proofs.Pasted.{drop-pasted}
 use Rattle.line_receiver.specs.Frames.{Frame}
-use Rattle.chain_rules.specs.Chain.{Kind, executed}
-use Rattle.chain_rules.specs.Slots.{Slots, slotSize, Lawful}
+use Rattle.module_rules.specs.Kind.{Kind, executed}
+use Rattle.module_rules.specs.Slots.{Slots, slotSize, Lawful}
 use Rattle.net_rules.specs.Record.{okSlots}
 use Rattle.net_rules.specs.Walk.{moduleAt, touchedAt, turned, changedAt}
 use Rattle.net_rules.proofs.Slots.{first-ok, rest-ok}

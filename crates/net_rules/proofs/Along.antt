@@ -10,11 +10,12 @@ use lib.ListN.{length, take, drop, getElem?, length-append, take-append-drop}
 use lib.Seq.{drop-at}
 use Rattle.base_layout.specs.Bytes.{pasted, Bytes}
 use Rattle.line_receiver.specs.Frames.{Frame}
-use Rattle.module_station.specs.Touch.{named}
-use Rattle.chain_rules.specs.Chain.{Kind, executed, replied, handed, said}
-use Rattle.chain_rules.specs.Slots.{Slots, slotSize, Lawful}
+use Rattle.module_rules.specs.Touch.{named}
+use Rattle.module_rules.specs.Kind.{Kind, executed, replied}
+use Rattle.chain_rules.specs.Chain.{handed, said, changed}
+use Rattle.module_rules.specs.Slots.{Slots, slotSize, Lawful}
 use Rattle.net_rules.specs.Record.{modulesIn, okSlots}
-use Rattle.net_rules.specs.Walk.{moduleAt, touchedAt, turned, wordsAt, lowAt, walked, speech, changedAt, ticked, changed}
+use Rattle.net_rules.specs.Walk.{moduleAt, touchedAt, turned, wordsAt, lowAt, walked, speech, changedAt, ticked}
 use Rattle.base_layout.proofs.Pasted.{pasted-first, length-within}
 use Rattle.base_layout.proofs.Laws.{bytes-drop}
 use Rattle.net_rules.proofs.Slots.{putSlots, first-long, rest-long, first-there, rest-ok, slots-there}

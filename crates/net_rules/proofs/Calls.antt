@@ -18,16 +18,16 @@ use Rattle.line_receiver.specs.declared.Answer.the-variants.{Ended, Nothing}
 use Rattle.line_receiver.specs.Receive.{idle, taken, numberOf}
 use Rattle.line_receiver.specs.Frames.{Byte, Frame, frameIn}
 use Rattle.chain_rules.specs.Chain.{Net, Step, join, flat, said, repliesFrom, byteStep}
-use Rattle.chain_rules.specs.Slots.{slotSize}
+use Rattle.module_rules.specs.Slots.{slotSize}
 use Rattle.chain_rules.proofs.Bytes.{step-on, step-end}
 use Rattle.chain_rules.proofs.Replies.{flat-join}
 use Rattle.types_rules.specs.Types.{kind, slots, powered, outputs, Module, AnySample}
 use Rattle.types_rules.proofs.Laws.{lawful, type-is}
 use Rattle.net_rules.specs.declared.Called.{Called}
 use Rattle.net_rules.specs.declared.Walked.{Walked}
-use Rattle.net_rules.specs.Record.{countAt, slotsAt, recordSize, receiverIn, receiverBytes, okSlots, netIn, stored, putModules, valid}
-use Rattle.net_rules.specs.Walk.{moduleAt, walked, speech, noted}
-use Rattle.net_rules.specs.Calls.{fresh, sampleStep, spokenTo, calledBy, walkOf, endedOf, isOf, ofType, outputsIn, outputsAt}
+use Rattle.net_rules.specs.Record.{countAt, slotsAt, recordSize, receiverIn, receiverBytes, okSlots, netIn, stored, putModules, valid, chainMost}
+use Rattle.net_rules.specs.Walk.{moduleAt, walked, speech, walkOf, endedOf}
+use Rattle.net_rules.specs.Calls.{noted, fresh, sampleStep, spokenTo, calledBy, isOf, ofType, outputsIn, outputsAt}
 use Rattle.net_rules.proofs.Valid.{valid-is}
 use Rattle.net_rules.proofs.Head.{length-receiver}
 use Rattle.net_rules.proofs.Exact.{waits, walked-is, speech-is, changed-is, module-at, length-modules}
@@ -37,10 +37,10 @@ use Rattle.net_rules.proofs.Ahead.{drop-after, place-ok}
 
 -- a place of the chain has its slot within the record, and the slot is valid
 pub record Placed (s : List ℕ) (place : ℕ) : Type 0 where
-  pub size : length s ≡ 4116
-  pub most : getD s countAt 0 ≤ 32
+  pub size : length s ≡ recordSize
+  pub most : getD s countAt 0 ≤ chainMost
   pub below : place < getD s countAt 0
-  pub good : slots .ok (take slotSize (drop (20 + 128 * place) s)) ≡ true
+  pub good : slots .ok (take slotSize (drop (slotsAt + slotSize * place) s)) ≡ true
 
 pub placed : (s : List ℕ) (place : ℕ) → valid slots s ≡ true → place < length (netIn slots s .modules) → Placed s place
 placed s place v h =
@@ -59,10 +59,10 @@ unfolding spokenTo
 spoken-end n y r d e = rw (e, spokenTo)
 
 called-by : (n : Net Module) (y : Byte) {t : Step Module} {ws : List (List ℕ)} → byteStep kind n y ≡ t → spokenTo kind n y ≡ ws
-    → calledBy n y ≡ record { number = t .number; written = length (flat (t .replies)); lengths = noted ws 0 (replicate 32 0) }
+    → calledBy n y ≡ record { number = t .number; written = length (flat (t .replies)); lengths = noted ws 0 (replicate chainMost 0) }
 unfolding calledBy
 called-by n y q w =
-    ap₂ (λ (t : Step Module) (ws : List (List ℕ)). record { number = t .number; written = length (flat (t .replies)); lengths = noted ws 0 (replicate 32 0) }) q w
+    ap₂ (λ (t : Step Module) (ws : List (List ℕ)). record { number = t .number; written = length (flat (t .replies)); lengths = noted ws 0 (replicate chainMost 0) }) q w
 
 -- what a frame that ended hands back, from the walk
 pub handed-on : (f : Frame) (n : ℕ) (s : List ℕ) {k : ℕ} {w : Walked} → k ≡ numberOf (Ended (f .damaged)) → w ≡ walkOf f n s
@@ -89,33 +89,33 @@ of-type-below n place t e = at (n .modules) place e
 
 module _ (s : List ℕ) (b : Bytes s) (v : valid slots s ≡ true) where
   -- the first byte of a slot is its module's type
-  pub type-at : (place t : ℕ) → place < length (netIn slots s .modules) → eqb (getD s (20 + 128 * place) 0) t ≡ ofType t (netIn slots s) place
+  pub type-at : (place t : ℕ) → place < length (netIn slots s .modules) → eqb (getD s (slotsAt + slotSize * place) 0) t ≡ ofType t (netIn slots s) place
   unfolding moduleAt
   type-at place t h =
       let p = placed s place v h in
-      let at : ℕ = 20 + 128 * place in
+      let at : ℕ = slotsAt + slotSize * place in
       let first : getD (take slotSize (drop at s)) 0 0 ≡ getD s at 0 = ap (λ (l : List ℕ). getD (take slotSize l) 0 0) (drop-cons s at 0 (omega (arith, p))) in
       ap (λ (n : ℕ). eqb n t) (sym first ∙ type-is (take slotSize (drop at s)) (p .good))
       ∙ sym (ap (isOf t) (module-at kind lawful s b v place (p .below)))
 
   -- what the board drives
   pub outputs-is : (place : ℕ) {r : List ℕ} → place < getD s countAt 0
-      → r ≡ outputs (slots .dec (take (20 + 128 * place + 128 - (20 + 128 * place)) (drop (20 + 128 * place) s)))
+      → r ≡ outputs (slots .dec (take (slotsAt + slotSize * place + slotSize - (slotsAt + slotSize * place)) (drop (slotsAt + slotSize * place) s)))
       → r ≡ outputsAt (netIn slots s) place
   unfolding moduleAt
   outputs-is place h e =
-      let n : 20 + 128 * place + 128 - (20 + 128 * place) ≡ slotSize = omega arith in
+      let n : slotsAt + slotSize * place + slotSize - (slotsAt + slotSize * place) ≡ slotSize = omega arith in
       e
-      ∙ ap (λ (k : ℕ). outputs (slots .dec (take k (drop (20 + 128 * place) s)))) n
+      ∙ ap (λ (k : ℕ). outputs (slots .dec (take k (drop (slotsAt + slotSize * place) s)))) n
       ∙ sym (ap outputsIn (module-at kind lawful s b v place h))
 
   -- a sample
-  pub sample-is : (place : ℕ) (x : AnySample) {y : List ℕ} → place < getD s countAt 0 → 20 + 128 * place + slotSize ≤ length s
-      → y ≡ pasted 0 (slots .enc (kind .sample x (slots .dec (take (20 + 128 * place + slotSize - (20 + 128 * place)) (drop (20 + 128 * place) s))))) (take (20 + 128 * place + slotSize - (20 + 128 * place)) (drop (20 + 128 * place) s))
-      → take (20 + 128 * place) s ++ (y ++ drop (20 + 128 * place + slotSize - (20 + 128 * place)) (drop (20 + 128 * place) s))
+  pub sample-is : (place : ℕ) (x : AnySample) {y : List ℕ} → place < getD s countAt 0 → slotsAt + slotSize * place + slotSize ≤ length s
+      → y ≡ pasted 0 (slots .enc (kind .sample x (slots .dec (take (slotsAt + slotSize * place + slotSize - (slotsAt + slotSize * place)) (drop (slotsAt + slotSize * place) s))))) (take (slotsAt + slotSize * place + slotSize - (slotsAt + slotSize * place)) (drop (slotsAt + slotSize * place) s))
+      → take (slotsAt + slotSize * place) s ++ (y ++ drop (slotsAt + slotSize * place + slotSize - (slotsAt + slotSize * place)) (drop (slotsAt + slotSize * place) s))
       ≡ stored slots (sampleStep place x (netIn slots s)) s
   sample-is place x h l e =
-      changed-turn (kind .sample x) (20 + 128 * place) s l e ∙ changed-is kind lawful s b v (kind .sample x) place h
+      changed-turn (kind .sample x) (slotsAt + slotSize * place) s l e ∙ changed-is kind lawful s b v (kind .sample x) place h
 
   module _ (room : List ℕ) (y : Byte) {r : Receiver} {got : Received} {bytes s′ : List ℕ}
       (er : r ≡ receiverIn s) (eg : got ≡ taken r (y .value) (y .mark)) (eb : bytes ≡ receiverBytes (got .next)) (es : s′ ≡ pasted 0 bytes s) where
@@ -136,7 +136,7 @@ module _ (s : List ℕ) (b : Bytes s) (v : valid slots s ≡ true) where
         ∙ getD-drop (length (receiverBytes (got .next))) s 0 0
         ∙ ap (λ (k : ℕ). getD s k 0) (add-zero (length (receiverBytes (got .next))) ∙ l)
 
-    pub sized : (length s′ ≡ 4116) × (getD s′ countAt 0 ≤ 32) × (okSlots slots (getD s′ countAt 0) (drop slotsAt s′) ≡ true)
+    pub sized : (length s′ ≡ recordSize) × (getD s′ countAt 0 ≤ chainMost) × (okSlots slots (getD s′ countAt 0) (drop slotsAt s′) ≡ true)
     sized =
         let w = valid-is slots s v in
         let l = length-receiver (got .next) in (
@@ -150,12 +150,12 @@ module _ (s : List ℕ) (b : Bytes s) (v : valid slots s ≡ true) where
 
     -- a byte that ends no frame
     pub nothing-is : got .answer ≡ Nothing
-        → (_≡_ {A = Called} (record { number = 0; written = 0; lengths = replicate 32 0 }) (calledBy (netIn slots s) y))
+        → (_≡_ {A = Called} (record { number = 0; written = 0; lengths = replicate chainMost 0 }) (calledBy (netIn slots s) y))
         × ((s′ ≡ stored slots (byteStep kind (netIn slots s) y .net) s) × (room ≡ pasted 0 (flat (byteStep kind (netIn slots s) y .replies)) room))
     nothing-is e =
         let t = answered Nothing e in
         let q = step-on kind (netIn slots s) y (got .next) t in (
-          ap (λ (l : List ℕ). record { number = 0; written = 0; lengths = l }) (sym (noted-none 0 (replicate 32 0)))
+          ap (λ (l : List ℕ). record { number = 0; written = 0; lengths = l }) (sym (noted-none 0 (replicate chainMost 0)))
               ∙ sym (called-by (netIn slots s) y q (spoken-on (netIn slots s) y (got .next) t)),
           (
             put-is ∙ waits lawful s b v (got .next) ∙ ap (λ (t : Step Module). stored slots (t .net) s) (sym q),
@@ -184,8 +184,8 @@ module _ (s : List ℕ) (b : Bytes s) (v : valid slots s ≡ true) where
         let fl : join (said kind f true (netIn slots s .modules)) ≡ flat (repliesFrom 0 (said kind f true (netIn slots s .modules))) =
         sym (flat-join 0 (said kind f true (netIn slots s .modules))) in (
           p .0
-              ∙ ap (λ (ws : List (List ℕ)). record { number = numberOf (Ended d); written = length (join ws); lengths = noted ws 0 (replicate 32 0) }) w
-              ∙ ap (λ (x : List ℕ). record { number = numberOf (Ended d); written = length x; lengths = noted (said kind f true (netIn slots s .modules)) 0 (replicate 32 0) }) fl
+              ∙ ap (λ (ws : List (List ℕ)). record { number = numberOf (Ended d); written = length (join ws); lengths = noted ws 0 (replicate chainMost 0) }) w
+              ∙ ap (λ (x : List ℕ). record { number = numberOf (Ended d); written = length x; lengths = noted (said kind f true (netIn slots s .modules)) 0 (replicate chainMost 0) }) fl
               ∙ sym (called-by (netIn slots s) y q (spoken-end (netIn slots s) y (got .next) d t)),
           (
             p .1 .0
@@ -201,7 +201,7 @@ module _ (s : List ℕ) (b : Bytes s) (v : valid slots s ≡ true) where
         )
 
 -- setup: a cleared record, its head, its modules
-pub set-up-is : (s types : List ℕ) {x y z : List ℕ} → length s ≡ 4116 → x ≡ replicate (length s) 0
+pub set-up-is : (s types : List ℕ) {x y z : List ℕ} → length s ≡ recordSize → x ≡ replicate (length s) 0
     → y ≡ pasted 0 (receiverBytes idle ++ length types ∷ []) x → z ≡ putModules slots (map powered types) slotsAt y → z ≡ fresh types
 unfolding fresh stored
 set-up-is s types l ex ey ez =

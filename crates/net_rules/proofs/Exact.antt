@@ -8,11 +8,12 @@ use lib.ListN.{length, getD, drop, getElem?, length-map}
 use Rattle.base_layout.specs.Bytes.{pasted, Bytes}
 use Rattle.line_receiver.specs.declared.Receiver.{Receiver}
 use Rattle.line_receiver.specs.Frames.{Frame}
-use Rattle.chain_rules.specs.Chain.{Kind, handed, said}
+use Rattle.module_rules.specs.Kind.{Kind}
+use Rattle.chain_rules.specs.Chain.{handed, said, changed}
 use Rattle.chain_rules.proofs.Along.{length-handed}
-use Rattle.chain_rules.specs.Slots.{Slots, slotSize, Lawful}
+use Rattle.module_rules.specs.Slots.{Slots, slotSize, Lawful}
 use Rattle.net_rules.specs.Record.{countAt, slotsAt, receiverIn, receiverBytes, netIn, stored, valid}
-use Rattle.net_rules.specs.Walk.{moduleAt, walked, speech, changedAt, ticked, changed}
+use Rattle.net_rules.specs.Walk.{moduleAt, walked, speech, changedAt, ticked}
 use Rattle.base_layout.proofs.Laws.{bytes-drop}
 use Rattle.net_rules.proofs.Slots as Slots
 use Rattle.net_rules.proofs.Valid.{valid-is}

@@ -14,10 +14,10 @@ use Rattle.base_layout.proofs.Codec.{head-there, head-back}
 use Rattle.line_receiver.specs.declared.Receiver.{Receiver}
 use Rattle.line_receiver.specs.Receive.{idle}
 use Rattle.line_receiver.specs.Promises.{Sound}
-use Rattle.net_rules.specs.Record.{receiver, receiverIn, receiverBytes, blank, okReceiver}
+use Rattle.net_rules.specs.Record.{receiver, receiverIn, receiverBytes, blank, okReceiver, receiverSize, fillAt, commandAt, markedAt}
 use Rattle.net_rules.proofs.Tests.{and-true}
 
-pub length-receiver : (r : Receiver) → length (receiverBytes r) ≡ 19
+pub length-receiver : (r : Receiver) → length (receiverBytes r) ≡ receiverSize
 unfolding receiverBytes
 length-receiver r = refl
 
@@ -28,38 +28,38 @@ blank-is (x ∷ l) e =
     let q = and-true (eqb x 0) (blank l) e in
     ap₂ (λ (a : ℕ) (b : List ℕ). a ∷ b) (eqb-true x 0 (q .0)) (blank-is l (q .1))
 
-blank-idle : (s : List ℕ) → blank (readAt 19 0 s) ≡ true → receiverIn s ≡ idle
+blank-idle : (s : List ℕ) → blank (readAt receiverSize 0 s) ≡ true → receiverIn s ≡ idle
 unfolding receiverIn
-blank-idle s e = ap receiverIn (blank-is (readAt 19 0 s) e)
+blank-idle s e = ap receiverIn (blank-is (readAt receiverSize 0 s) e)
 
 -- what a valid receiver's bytes say
 pub record Told (s : List ℕ) : Type 0 where
-  pub empty : getD s 17 0 ≡ 0 → receiverIn s ≡ idle
-  pub within : getD s 17 0 ≤ 3 + getD s 16 0 / 16
-  pub flag : getD s 18 0 ≤ 1
+  pub empty : getD s fillAt 0 ≡ 0 → receiverIn s ≡ idle
+  pub within : getD s fillAt 0 ≤ 3 + getD s commandAt 0 / 16
+  pub flag : getD s markedAt 0 ≤ 1
 
 pub told : (s : List ℕ) → okReceiver s ≡ true → Told s
 unfolding okReceiver
-told s v = go (eqb (getD s 17 0) 0) refl v
+told s v = go (eqb (getD s fillAt 0) 0) refl v
   where
-    go : (t : Bool) → eqb (getD s 17 0) 0 ≡ t
-        → cond t (blank (readAt 19 0 s)) (leb (getD s 17 0) (3 + getD s 16 0 / 16) && leb (getD s 18 0) 1) ≡ true → Told s
+    go : (t : Bool) → eqb (getD s fillAt 0) 0 ≡ t
+        → cond t (blank (readAt receiverSize 0 s)) (leb (getD s fillAt 0) (3 + getD s commandAt 0 / 16) && leb (getD s markedAt 0) 1) ≡ true → Told s
     go true e v =
-        let z = eqb-true (getD s 17 0) 0 e in
-        let q : getD s 18 0 ≡ 0 = ap (λ (l : List ℕ). getD l 18 0) (blank-is (readAt 19 0 s) v) in
+        let z = eqb-true (getD s fillAt 0) 0 e in
+        let q : getD s markedAt 0 ≡ 0 = ap (λ (l : List ℕ). getD l markedAt 0) (blank-is (readAt receiverSize 0 s) v) in
         record { empty = λ h. blank-idle s v; within = omega arith; flag = omega arith }
     go false e v =
-        let q = and-true (leb (getD s 17 0) (3 + getD s 16 0 / 16)) (leb (getD s 18 0) 1) v in
+        let q = and-true (leb (getD s fillAt 0) (3 + getD s commandAt 0 / 16)) (leb (getD s markedAt 0) 1) v in
         record {
-          empty = λ h. let z : true ≡ false = sym (eq-eqb (getD s 17 0) 0 h) ∙ e in cc;
+          empty = λ h. let z : true ≡ false = sym (eq-eqb (getD s fillAt 0) 0 h) ∙ e in cc;
           within = leb-true _ _ (q .0);
           flag = leb-true _ _ (q .1);
         }
 
 -- there
-pub receiver-there : (s : List ℕ) → 19 ≤ length s → Bytes s → okReceiver s ≡ true → receiverBytes (receiverIn s) ≡ take 19 s
+pub receiver-there : (s : List ℕ) → receiverSize ≤ length s → Bytes s → okReceiver s ≡ true → receiverBytes (receiverIn s) ≡ take receiverSize s
 unfolding receiverIn receiverBytes
-receiver-there s h b v = head-there (receiver .lawful) s h b (le-leb (getD s 18 0) 1 (told s v .flag))
+receiver-there s h b v = head-there (receiver .lawful) s h b (le-leb (getD s markedAt 0) 1 (told s v .flag))
 
 pub receiver-sound : (s : List ℕ) → Bytes s → okReceiver s ≡ true → Sound (receiverIn s)
 unfolding receiverIn
@@ -91,11 +91,11 @@ pub receiver-ok : (r : Receiver) (q : List ℕ) → Sound r → okReceiver (rece
 unfolding okReceiver receiverBytes
 receiver-ok r q h = go (eqb (r .fill) 0) refl
   where
-    inside : (r : Receiver) → r ≡ idle → blank (readAt 19 0 (receiverBytes r ++ q)) ≡ true
-    inside r e = ap (λ (r : Receiver). blank (readAt 19 0 (receiverBytes r ++ q))) e
+    inside : (r : Receiver) → r ≡ idle → blank (readAt receiverSize 0 (receiverBytes r ++ q)) ≡ true
+    inside r e = ap (λ (r : Receiver). blank (readAt receiverSize 0 (receiverBytes r ++ q))) e
 
     go : (t : Bool) → eqb (r .fill) 0 ≡ t
-        → cond t (blank (readAt 19 0 (receiverBytes r ++ q))) (leb (r .fill) (3 + r .command / 16) && leb (bit (r .marked)) 1) ≡ true
+        → cond t (blank (readAt receiverSize 0 (receiverBytes r ++ q))) (leb (r .fill) (3 + r .command / 16) && leb (bit (r .marked)) 1) ≡ true
     go true e = inside r (h .empty (eqb-true (r .fill) 0 e))
     go false e = rw (le-leb _ _ (h .within)) (le-leb _ _ (bit-small (r .marked)))
 

@@ -14,12 +14,12 @@ use Rattle.line_receiver.specs.Receive.{taken, count}
 use Rattle.line_receiver.specs.Frames.{Frame, frameIn}
 use Rattle.line_receiver.specs.Promises.{Sound}
 use Rattle.line_receiver.proofs.Kept.{kept}
-use Rattle.module_station.specs.Touch.{individually, named}
-use Rattle.chain_rules.specs.Chain.{Kind, Net, executed, handed, byteStep}
+use Rattle.module_rules.specs.Touch.{individually, named}
+use Rattle.module_rules.specs.Kind.{Kind, executed}
+use Rattle.chain_rules.specs.Chain.{Net, handed, byteStep, changed}
 use Rattle.chain_rules.proofs.Along.{length-handed}
 use Rattle.chain_rules.proofs.Bytes.{step-on, step-end}
-use Rattle.chain_rules.specs.Slots.{Preserves, Slots}
-use Rattle.net_rules.specs.Walk.{changed}
+use Rattle.module_rules.specs.Slots.{Preserves, Slots}
 use Rattle.net_rules.specs.Promises.{Each, SoundNet, KeptByByte, KeptBySample, KeptByTick}
 use Rattle.base_layout.proofs.Laws.{bytes-take}
 use Rattle.net_rules.proofs.Exact.{length-changed}

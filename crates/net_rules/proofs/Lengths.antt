@@ -10,9 +10,13 @@ use lib.Seq.{getD-set-same, getD-set-other}
 use Rattle.base_layout.specs.Bytes.{pasted}
 use Rattle.base_layout.proofs.Pasted.{length-pasted}
 use Rattle.line_receiver.specs.Frames.{Frame}
-use Rattle.chain_rules.specs.Chain.{Kind, join, executed, replied}
-use Rattle.chain_rules.specs.Slots.{Slots, slotSize, Lawful}
-use Rattle.net_rules.specs.Walk.{moduleAt, touchedAt, turned, wordsAt, lowAt, walked, speech, changedAt, ticked, noted}
+use Rattle.module_rules.specs.Kind.{Kind, executed, replied}
+use Rattle.chain_rules.specs.Chain.{join}
+use Rattle.module_rules.specs.Slots.{Slots, slotSize, Lawful}
+use Rattle.net_rules.specs.Walk.{moduleAt, touchedAt, turned, wordsAt, lowAt, walked, speech, changedAt, ticked}
+use Rattle.net_rules.specs.Calls.{noted}
+use Rattle.net_rules.specs.Record.{chainMost}
+use Rattle.module_rules.specs.Owes.{replySize}
 
 module _ {M S : Type 0} (K : Kind M S) {L : Slots M} (law : Lawful L) where
   pub changed-length : (g : M → M) (at : ℕ) (s : List ℕ) → at + slotSize ≤ length s → length (changedAt K L g at s) ≡ length s
@@ -50,16 +54,16 @@ module _ {M S : Type 0} (K : Kind M S) {L : Slots M} (law : Lawful L) where
       ticked-length k (at + slotSize) (changedAt K L (K .tick) at s) (omega arith) ∙ t
 
 module _ {M S : Type 0} (K : Kind M S) (L : Slots M) (f : Frame) where
-  pub words-short : ((m : M) → length (replied K f m) ≤ 19) → (enabled : Bool) (at : ℕ) (s : List ℕ) → length (wordsAt K L f enabled at s) ≤ 19
+  pub words-short : ((m : M) → length (replied K f m) ≤ replySize) → (enabled : Bool) (at : ℕ) (s : List ℕ) → length (wordsAt K L f enabled at s) ≤ replySize
   unfolding wordsAt
   words-short h enabled at s = go (touchedAt K L f enabled at s)
     where
-      go : (u : Bool) → length (cond u (replied K f (moduleAt K L at s)) []) ≤ 19
+      go : (u : Bool) → length (cond u (replied K f (moduleAt K L at s)) []) ≤ replySize
       go true = h (moduleAt K L at s)
       go false = omega arith
 
-  pub speech-short : ((m : M) → length (replied K f m) ≤ 19) → (k : ℕ) (enabled : Bool) (at : ℕ) (s : List ℕ)
-      → length (join (speech K L f enabled k at s)) ≤ 19 * k
+  pub speech-short : ((m : M) → length (replied K f m) ≤ replySize) → (k : ℕ) (enabled : Bool) (at : ℕ) (s : List ℕ)
+      → length (join (speech K L f enabled k at s)) ≤ replySize * k
   unfolding speech
   speech-short h zero enabled at s = omega arith
   speech-short h (suc k) enabled at s =
@@ -104,8 +108,8 @@ zeros zero i = refl
 zeros (suc n) zero = refl
 zeros (suc n) (suc i) = zeros n i
 
-pub noted-at : (ws : List (List ℕ)) (i : ℕ) → length ws ≤ 32 → getD (noted ws 0 (replicate 32 0)) i 0 ≡ length (getD ws i [])
+pub noted-at : (ws : List (List ℕ)) (i : ℕ) → length ws ≤ chainMost → getD (noted ws 0 (replicate chainMost 0)) i 0 ≡ length (getD ws i [])
 noted-at ws i h =
     let e : 0 + i ≡ i = omega arith in
-    ap (λ (n : ℕ). getD (noted ws 0 (replicate 32 0)) n 0) (sym e)
-    ∙ noted-from ws 0 (replicate 32 0) i (omega arith) (λ k g. zeros 32 k)
+    ap (λ (n : ℕ). getD (noted ws 0 (replicate chainMost 0)) n 0) (sym e)
+    ∙ noted-from ws 0 (replicate chainMost 0) i (omega arith) (λ k g. zeros chainMost k)

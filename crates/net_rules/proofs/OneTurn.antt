@@ -10,17 +10,16 @@ use lib.Seq.{drop-cons}
 use Rattle.base_layout.specs.Bytes.{pasted}
 use Rattle.base_layout.proofs.Pasted.{pasted-none, put-part}
 use Rattle.line_receiver.specs.Frames.{Frame}
-use Rattle.module_station.specs.declared.Address.{Address}
-use Rattle.module_station.specs.Touch.{named}
-use Rattle.module_station.specs.Slot.{address}
-use Rattle.chain_rules.specs.Chain.{executed, replied}
-use Rattle.chain_rules.specs.Slots.{slotSize}
+use Rattle.module_rules.specs.declared.Address.{Address}
+use Rattle.module_rules.specs.Touch.{named}
+use Rattle.module_rules.specs.Slot.{address}
+use Rattle.module_rules.specs.Kind.{executed, replied}
+use Rattle.module_rules.specs.Slots.{slotSize}
 use Rattle.types_rules.specs.Types.{kind, slots, powered, Module}
 use Rattle.types_rules.proofs.Laws.{lawful, address-is}
 use Rattle.net_rules.specs.declared.Turn.{Turn}
-use Rattle.net_rules.specs.Walk.{moduleAt, touchedAt, turned, wordsAt, lowAt, changedAt, ticked}
+use Rattle.net_rules.specs.Walk.{moduleAt, touchedAt, turned, wordsAt, lowAt, changedAt, ticked, turnOf}
 use Rattle.net_rules.specs.Record.{putModules}
-use Rattle.net_rules.specs.Calls.{turnOf}
 use Rattle.net_rules.proofs.Turns.{ticked-turn}
 
 -- a slot's bytes written where a slot was lent

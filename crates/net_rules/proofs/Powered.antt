@@ -8,27 +8,25 @@ use lib.ListN.{length, replicate, length-replicate}
 use Rattle.base_layout.specs.Bytes.{Bytes}
 use Rattle.line_receiver.specs.Receive.{idle}
 use Rattle.line_receiver.proofs.Kept.{fresh}
-use Rattle.chain_rules.specs.Slots.{Slots, Lawful}
+use Rattle.module_rules.specs.Slots.{Slots, Lawful}
 use Rattle.types_rules.specs.Types as Types
-use Rattle.types_rules.specs.Types.{slots, known}
+use Rattle.types_rules.specs.Types.{slots}
 use Rattle.types_rules.proofs.Kept.{powered-fits}
-use Rattle.net_rules.specs.Record.{recordSize, netIn, stored, valid}
-use Rattle.net_rules.specs.Calls.{allKnown}
+use Rattle.net_rules.specs.Record.{recordSize, netIn, stored, valid, chainMost}
 use Rattle.net_rules.specs.Promises.{Each, SoundNet}
 use Rattle.net_rules.proofs.Stored.{back}
-use Rattle.net_rules.proofs.Tests.{and-true}
 
 pub bytes-zeros : (n : ℕ) → Bytes (replicate n 0)
 bytes-zeros zero i = omega arith
 bytes-zeros (suc n) zero = omega arith
 bytes-zeros (suc n) (suc i) = bytes-zeros n i
 
--- modules of known types can be written
-pub powered-each : (types : List ℕ) → allKnown types ≡ true → Each (slots .fits) (map Types.powered types)
-powered-each [] e = tt
-powered-each (t ∷ ts) e = let p = and-true (known t) (allKnown ts) e in (powered-fits t (p .0), powered-each ts (p .1))
+-- modules at power-up can be written
+pub powered-each : (types : List ℕ) → Each (slots .fits) (map Types.powered types)
+powered-each [] = tt
+powered-each (t ∷ ts) = (powered-fits t, powered-each ts)
 
-module _ {M : Type 0} {L : Slots M} (law : Lawful L) (ms : List M) (some : 1 ≤ length ms) (most : length ms ≤ 32) (each : Each (L .fits) ms) where
+module _ {M : Type 0} {L : Slots M} (law : Lawful L) (ms : List M) (some : 1 ≤ length ms) (most : length ms ≤ chainMost) (each : Each (L .fits) ms) where
   pub powered-sound : SoundNet L (record { receiver = idle; modules = ms })
   powered-sound = record { receiver = fresh; some = some; most = most; each = each }
 

@@ -10,15 +10,17 @@ use Rattle.base_layout.specs.Bytes.{pasted}
 use Rattle.base_layout.proofs.Pasted.{pasted-none, pasted-twice}
 use Rattle.line_receiver.specs.Frames.{Frame}
 use Rattle.chain_rules.specs.Chain.{join}
-use Rattle.chain_rules.specs.Slots.{slotSize}
+use Rattle.module_rules.specs.Slots.{slotSize}
 use Rattle.types_rules.specs.Types.{kind, slots}
 use Rattle.types_rules.proofs.Laws.{said-short}
-use Rattle.net_rules.specs.Walk.{turned, wordsAt, lowAt, walked, speech, noted}
+use Rattle.net_rules.specs.Walk.{turned, wordsAt, lowAt, walked, speech}
+use Rattle.net_rules.specs.Calls.{noted}
 use Rattle.net_rules.proofs.Lengths.{words-short, speech-short}
 use Rattle.net_rules.proofs.Turns.{walked-none, walked-turn, speech-none, speech-turn, noted-none, noted-turn}
+use Rattle.module_rules.specs.Owes.{replySize}
 
 module _ (f : Frame) where
-  pub word-short : (enabled : Bool) (at : ℕ) (s : List ℕ) → length (wordsAt kind slots f enabled at s) ≤ 19
+  pub word-short : (enabled : Bool) (at : ℕ) (s : List ℕ) → length (wordsAt kind slots f enabled at s) ≤ replySize
   word-short enabled at s = words-short kind slots f (said-short f) enabled at s
 
   -- what is left to be done after a turn, with k modules to go before it
@@ -38,7 +40,7 @@ module _ (f : Frame) where
         (set lengths place (length (wordsAt kind slots f enabled at s)))
         ≡ noted (speech kind slots f enabled k at s) place lengths
 
-  pub round : (enabled : Bool) (k at place w : ℕ) (s room lengths : List ℕ) → 0 < k → w + 19 * k ≤ length room → Round enabled k at place w s room lengths
+  pub round : (enabled : Bool) (k at place w : ℕ) (s room lengths : List ℕ) → 0 < k → w + replySize * k ≤ length room → Round enabled k at place w s room lengths
   round enabled zero at place w s room lengths p h = absurd (omega arith)
   round enabled (suc k) at place w s room lengths p h =
       let one : suc k - 1 ≡ k = omega arith in
@@ -49,7 +51,7 @@ module _ (f : Frame) where
       let e : x ∷ ws ≡ speech kind slots f enabled (suc k) at s = speech-turn kind slots f enabled k at s in
       record {
         net = rw one (walked-turn kind slots f enabled k at s);
-        said = rw (one, ← e) (pasted-twice w x (join ws) room (omega (arith, mul-suc 19 k)));
+        said = rw (one, ← e) (pasted-twice w x (join ws) room (omega (arith, mul-suc replySize k)));
         total = rw (one, ← e) (omega (arith, length-append x (join ws)));
         each = rw (one, ← e) (noted-turn x ws place lengths);
       }

@@ -8,7 +8,7 @@ use native.Mathlib.Omega.{arith}
 use lib.ListN.{length, take, drop, length-append, length-drop, take-append-drop}
 use lib.Seq.{take-at, drop-at, length-take-le}
 use Rattle.base_layout.specs.Bytes.{pasted, Bytes}
-use Rattle.chain_rules.specs.Slots.{Slots, slotSize, Lawful}
+use Rattle.module_rules.specs.Slots.{Slots, slotSize, Lawful}
 use Rattle.net_rules.specs.Record.{modulesIn, okSlots, putModules}
 use Rattle.net_rules.specs.Promises.{Each}
 use Rattle.base_layout.proofs.Pasted.{pasted-first, length-within, bytes-pasted}

@@ -8,8 +8,8 @@ use lib.ListN.{length, getD, drop, length-append, length-drop, take-append-drop}
 use lib.Seq.{drop-cons, append-snoc, drop-at, getD-at}
 use Rattle.base_layout.specs.Bytes.{pasted, Bytes}
 use Rattle.line_receiver.specs.declared.Receiver.{Receiver}
-use Rattle.chain_rules.specs.Slots.{Slots, slotSize, Lawful}
-use Rattle.net_rules.specs.Record.{countAt, slotsAt, recordSize, receiverIn, receiverBytes, okReceiver, modulesIn, okSlots, netIn, putModules, stored, valid}
+use Rattle.module_rules.specs.Slots.{Slots, slotSize, Lawful}
+use Rattle.net_rules.specs.Record.{countAt, slotsAt, recordSize, receiverIn, receiverBytes, okReceiver, modulesIn, okSlots, netIn, putModules, stored, valid, chainMost}
 use Rattle.net_rules.specs.Promises.{SoundNet, Holds, There, Back}
 use Rattle.base_layout.proofs.Pasted.{pasted-start}
 use Rattle.base_layout.proofs.Laws.{bytes-drop, bytes-append, bytes-one}
@@ -63,7 +63,7 @@ bytes-front r c b h = bytes-append (receiverBytes r) (c ∷ []) b (bytes-one c h
 
 module _ {M : Type 0} {L : Slots M} (law : Lawful L) where
   -- a network written into a record
-  pub stored-is : (r : Receiver) (ms : List M) (s : List ℕ) → length s ≡ recordSize → length ms ≤ 32
+  pub stored-is : (r : Receiver) (ms : List M) (s : List ℕ) → length s ≡ recordSize → length ms ≤ chainMost
       → stored L (record { receiver = r; modules = ms }) s ≡ front r (length ms) ++ putSlots L ms (drop slotsAt s)
   unfolding stored front
   stored-is r ms s e h =

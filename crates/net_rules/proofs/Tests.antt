@@ -11,10 +11,10 @@ use lib.Dec.{eqb, leb}
 use borrow.Author.Tests.{eq-eqb}
 use Rattle.base_layout.specs.Bytes.{readAt}
 use Rattle.base_layout.specs.Every.{every, everyFrom}
-use Rattle.chain_rules.specs.Slots.{Slots, slotSize}
+use Rattle.module_rules.specs.Slots.{Slots, slotSize}
 use Rattle.types_rules.specs.Types.{known}
 use Rattle.net_rules.specs.Calls.{allKnown}
-use Rattle.net_rules.specs.Record.{blank, okReceiver, okSlots}
+use Rattle.net_rules.specs.Record.{blank, okReceiver, okSlots, receiverSize, fillAt, commandAt, markedAt}
 
 pub cond-true : (a b : Bool) → cond a b false ≡ true → (a ≡ true) × (b ≡ true)
 cond-true true b e = (refl, e)
@@ -50,10 +50,10 @@ blank-every [] = refl
 blank-every (b ∷ bs) = blank-from bs (eqb b 0)
 
 -- an idle receiver is tested for being blank
-pub idle-test : (s : List ℕ) {r : Bool} → getD s 17 0 ≡ 0 → r ≡ blank (readAt 19 0 s) → r ≡ okReceiver s
+pub idle-test : (s : List ℕ) {r : Bool} → getD s fillAt 0 ≡ 0 → r ≡ blank (readAt receiverSize 0 s) → r ≡ okReceiver s
 unfolding okReceiver
 idle-test s z e =
-    e ∙ sym (ap (λ (b : Bool). cond b (blank (readAt 19 0 s)) (leb (getD s 17 0) (3 + getD s 16 0 / 16) && leb (getD s 18 0) 1)) (eq-eqb (getD s 17 0) 0 z))
+    e ∙ sym (ap (λ (b : Bool). cond b (blank (readAt receiverSize 0 s)) (leb (getD s fillAt 0) (3 + getD s commandAt 0 / 16) && leb (getD s markedAt 0) 1)) (eq-eqb (getD s fillAt 0) 0 z))
 
 -- a turn of the loop that looks for an unknown type
 pub known-turn : (ts : List ℕ) (i : ℕ) → i < length ts → allKnown (drop i ts) ≡ (known (getD ts i 0) && allKnown (drop (i + 1) ts))

@@ -5,9 +5,10 @@ use mathlib.Core.Bool.{Bool}
 use Prim.Native.Nat.{ℕ, suc, _+_}
 use lib.ListN.{length, set}
 use Rattle.line_receiver.specs.Frames.{Frame}
-use Rattle.chain_rules.specs.Chain.{Kind}
-use Rattle.chain_rules.specs.Slots.{Slots, slotSize}
-use Rattle.net_rules.specs.Walk.{turned, wordsAt, lowAt, walked, speech, changedAt, ticked, noted}
+use Rattle.module_rules.specs.Kind.{Kind}
+use Rattle.module_rules.specs.Slots.{Slots, slotSize}
+use Rattle.net_rules.specs.Walk.{turned, wordsAt, lowAt, walked, speech, changedAt, ticked}
+use Rattle.net_rules.specs.Calls.{noted}
 
 module _ {M S : Type 0} (K : Kind M S) (L : Slots M) where
   pub walked-none : (f : Frame) (enabled : Bool) (at : ℕ) (s : List ℕ) → walked K L f enabled 0 at s ≡ s

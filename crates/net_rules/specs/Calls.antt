@@ -1,21 +1,19 @@
 -- What the calls on a network mean, before their refusals (document 01, "What the boards do", "Numbers given back").
-use Prim.Native.Nat.{ℕ}
+use Prim.Native.Nat.{ℕ, _+_}
 use mathlib.Core.List.{List, [], _∷_, map}
 use mathlib.Core.Bool.{Bool, true, false, _&&_}
 use mathlib.Core.Option.{Option, some, none}
-use lib.ListN.{length, replicate, getElem?}
+use lib.ListN.{length, replicate, set, getElem?}
 use lib.Dec.{eqb}
 use Rattle.line_receiver.specs.declared.Received.{Received}
 use Rattle.line_receiver.specs.declared.Answer.the-variants.{Ended, Nothing}
-use Rattle.line_receiver.specs.Receive.{idle, taken, numberOf}
-use Rattle.line_receiver.specs.Frames.{Byte, Frame, frameIn}
-use Rattle.chain_rules.specs.Chain.{Kind, Net, join, flat, said, byteStep}
+use Rattle.line_receiver.specs.Receive.{idle, taken}
+use Rattle.line_receiver.specs.Frames.{Byte, frameIn}
+use Rattle.module_rules.specs.Kind.{Kind}
+use Rattle.chain_rules.specs.Chain.{Net, flat, said, byteStep, changed}
 use Rattle.types_rules.specs.Types.{Module, AnySample, kind, slots, known, typeOf, powered, outputs}
 use Rattle.net_rules.specs.declared.Called.{Called}
-use Rattle.net_rules.specs.declared.Turn.{Turn}
-use Rattle.net_rules.specs.declared.Walked.{Walked}
-use Rattle.net_rules.specs.Record.{recordSize, slotsAt, stored}
-use Rattle.net_rules.specs.Walk.{changed, noted, lowAt, wordsAt, speech}
+use Rattle.net_rules.specs.Record.{recordSize, stored, chainMost}
 
 -- setup: an idle receiver and modules as they are at power-up
 abbrev pub setUp : List ℕ → Net Module
@@ -63,28 +61,15 @@ spokenTo K n b =
     let t : Received = taken (n .receiver) (b .value) (b .mark) in
     elim (t .answer) [ Nothing ↦ [] | Ended d ↦ said K (frameIn (n .receiver) d) true (n .modules) ]
 
+-- the lengths of what is said, put into a list from place i on
+unfoldable pub noted : List (List ℕ) → ℕ → List ℕ → List ℕ
+noted [] i l = l
+noted (w ∷ ws) i l = noted ws (i + 1) (set l i (length w))
+
 -- what the byte call hands back: its number, the length of all replies, and of each place's
 unfoldable pub calledBy : Net Module → Byte → Called
 calledBy n b = record {
   number = byteStep kind n b .number;
   written = length (flat (byteStep kind n b .replies));
-  lengths = noted (spokenTo kind n b) 0 (replicate 32 0);
-}
-
--- what a turn and a walk of the code hand back
-unfoldable pub turnOf : Frame → Bool → ℕ → List ℕ → Turn
-turnOf f enabled at s = record { low = lowAt kind slots at s; said = length (wordsAt kind slots f enabled at s) }
-
-unfoldable pub walkOf : Frame → ℕ → List ℕ → Walked
-walkOf f n s = record {
-  written = length (join (speech kind slots f true n slotsAt s));
-  lengths = noted (speech kind slots f true n slotsAt s) 0 (replicate 32 0);
-}
-
--- what the code hands back where a frame ended, by the frame
-unfoldable pub endedOf : Frame → ℕ → List ℕ → Called
-endedOf f n s = record {
-  number = numberOf (Ended (f .damaged));
-  written = length (join (speech kind slots f true n slotsAt s));
-  lengths = noted (speech kind slots f true n slotsAt s) 0 (replicate 32 0);
+  lengths = noted (spokenTo kind n b) 0 (replicate chainMost 0);
 }

@@ -7,10 +7,10 @@ use lib.ListN.{length}
 use Rattle.base_layout.specs.Bytes.{Bytes}
 use Rattle.line_receiver.specs.Frames.{Byte}
 use Rattle.line_receiver.specs.Promises.{Sound}
-use Rattle.chain_rules.specs.Chain.{Kind, Net, byteStep}
-use Rattle.chain_rules.specs.Slots.{Slots, Preserves}
-use Rattle.net_rules.specs.Record.{recordSize, netIn, stored, valid}
-use Rattle.net_rules.specs.Walk.{changed}
+use Rattle.module_rules.specs.Kind.{Kind}
+use Rattle.chain_rules.specs.Chain.{Net, byteStep, changed}
+use Rattle.module_rules.specs.Slots.{Slots, Preserves}
+use Rattle.net_rules.specs.Record.{recordSize, netIn, stored, valid, chainMost}
 
 -- every one of some things has P
 abbrev pub Each : {A : Type 0} → (A → Type 0) → List A → Type 0
@@ -21,7 +21,7 @@ Each P (x ∷ xs) = P x × Each P xs
 pub record SoundNet {M : Type 0} (L : Slots M) (n : Net M) : Type 0 where
   pub receiver : Sound (n .receiver)
   pub some : 1 ≤ length (n .modules)
-  pub most : length (n .modules) ≤ 32
+  pub most : length (n .modules) ≤ chainMost
   pub each : Each (L .fits) (n .modules)
 
 -- A valid record holds a sound network.

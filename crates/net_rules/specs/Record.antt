@@ -1,6 +1,6 @@
--- The lent record of 4,116 bytes: the receiver's 19, the number of modules, and 32 slots.
+-- The lent record: the receiver's bytes, the number of modules, and a slot for each of the most modules that a chain can have.
 use mathlib.Core.Path.{refl}
-use Prim.Native.Nat.{ℕ, zero, suc, _+_, _/_}
+use Prim.Native.Nat.{ℕ, zero, suc, _+_, _*_, _/_}
 use mathlib.Core.List.{List, [], _∷_, _++_}
 use mathlib.Core.Bool.{Bool, true, false, cond, _&&_}
 use lib.ListN.{length, getD, take, drop}
@@ -9,16 +9,8 @@ use Rattle.base_layout.specs.Bytes.{pasted, readAt}
 use Rattle.base_layout.proofs.Shape.{Shape, byte, raw, flag, _then_, shaped}
 use Rattle.line_receiver.specs.declared.Receiver.{Receiver}
 use Rattle.chain_rules.specs.Chain.{Net}
-use Rattle.chain_rules.specs.Slots.{Slots, slotSize}
-
-abbrev pub countAt : ℕ
-countAt = 19
-
-abbrev pub slotsAt : ℕ
-slotsAt = 20
-
-abbrev pub recordSize : ℕ
-recordSize = 4116
+use Rattle.module_rules.specs.Slots.{Slots, slotSize}
+use Rattle.module_rules.specs.Owes.{replySize}
 
 -- the receiver's bytes: fifteen data places, address, command, how many bytes of the frame are in, whether one was marked
 abbrev pub receiverParts : Receiver → List ℕ × (ℕ × (ℕ × (ℕ × Bool)))
@@ -29,6 +21,39 @@ receiverOf t = record { bytes = t .0; address = t .1 .0; command = t .1 .1 .0; f
 
 abbrev pub receiver : Shape Receiver
 receiver = shaped receiverOf receiverParts (λ t. refl) (λ r. refl) (raw 15 then byte then byte then byte then flag)
+
+-- where its address, command, fill and mark stand, and its size
+abbrev pub addressAt : ℕ
+addressAt = 15
+
+abbrev pub commandAt : ℕ
+commandAt = addressAt + 1
+
+abbrev pub fillAt : ℕ
+fillAt = commandAt + 1
+
+abbrev pub markedAt : ℕ
+markedAt = fillAt + 1
+
+abbrev pub receiverSize : ℕ
+receiverSize = receiver .codec .size
+
+-- 01 What the boards do: a chain has at most 32 modules; their number stands behind the receiver, and then come the slots
+abbrev pub chainMost : ℕ
+chainMost = 32
+
+abbrev pub countAt : ℕ
+countAt = receiverSize
+
+abbrev pub slotsAt : ℕ
+slotsAt = countAt + 1
+
+abbrev pub recordSize : ℕ
+recordSize = slotsAt + chainMost * slotSize
+
+-- 01 Numbers given back, 15: the room that a byte call needs, for a reply of every module
+abbrev pub roomSize : ℕ
+roomSize = chainMost * replySize
 
 unfoldable pub receiverIn : List ℕ → Receiver
 receiverIn s = receiver .codec .dec 0 s
@@ -44,7 +69,8 @@ blank (b ∷ bs) = eqb b 0 && blank bs
 -- an idle receiver holds nothing; in a frame there are never more bytes in than the command announces; the mark is 0 or 1
 unfoldable pub okReceiver : List ℕ → Bool
 okReceiver s =
-    cond (eqb (getD s 17 0) 0) (blank (readAt 19 0 s)) (leb (getD s 17 0) (3 + getD s 16 0 / 16) && leb (getD s 18 0) 1)
+    cond (eqb (getD s fillAt 0) 0) (blank (readAt receiverSize 0 s))
+    (leb (getD s fillAt 0) (3 + getD s commandAt 0 / 16) && leb (getD s markedAt 0) 1)
 
 module _ {M : Type 0} (L : Slots M) where
   -- the modules of k slots
@@ -72,5 +98,5 @@ module _ {M : Type 0} (L : Slots M) where
   unfoldable pub valid : List ℕ → Bool
   valid s =
       cond (eqb (length s) recordSize)
-      (cond (leb 1 (getD s countAt 0) && leb (getD s countAt 0) 32) (okReceiver s && okSlots (getD s countAt 0) (drop slotsAt s)) false)
+      (cond (leb 1 (getD s countAt 0) && leb (getD s countAt 0) chainMost) (okReceiver s && okSlots (getD s countAt 0) (drop slotsAt s)) false)
       false

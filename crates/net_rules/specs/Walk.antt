@@ -1,13 +1,23 @@
--- The walk along the slots of a record, in the order in which the code goes: one module after another, each from its own slot.
+-- A reader of the meaning may skip this file: the walk along the slots of a record in the order in which the code goes, one module after another, each
+-- from its own slot. That it is the chain's own definition is a theorem (proofs/Exact.antt).
 use Prim.Native.Nat.{ℕ, zero, suc, _+_}
 use mathlib.Core.List.{List, [], _∷_}
-use mathlib.Core.Bool.{Bool, cond, _&&_}
-use lib.ListN.{take, drop, set, length}
+use mathlib.Core.Bool.{Bool, true, cond, _&&_}
+use lib.ListN.{take, drop, length, replicate}
 use Rattle.base_layout.specs.Bytes.{pasted}
+use Rattle.line_receiver.specs.declared.Answer.the-variants.{Ended}
+use Rattle.line_receiver.specs.Receive.{numberOf}
 use Rattle.line_receiver.specs.Frames.{Frame}
-use Rattle.module_station.specs.Touch.{named}
-use Rattle.chain_rules.specs.Chain.{Kind, executed, replied}
-use Rattle.chain_rules.specs.Slots.{Slots, slotSize}
+use Rattle.module_rules.specs.Touch.{named}
+use Rattle.module_rules.specs.Kind.{Kind, executed, replied}
+use Rattle.module_rules.specs.Slots.{Slots, slotSize}
+use Rattle.chain_rules.specs.Chain.{join}
+use Rattle.types_rules.specs.Types.{kind, slots}
+use Rattle.net_rules.specs.declared.Called.{Called}
+use Rattle.net_rules.specs.declared.Turn.{Turn}
+use Rattle.net_rules.specs.declared.Walked.{Walked}
+use Rattle.net_rules.specs.Record.{chainMost, slotsAt}
+use Rattle.net_rules.specs.Calls.{noted}
 
 module _ {M S : Type 0} (K : Kind M S) (L : Slots M) where
   unfoldable pub moduleAt : ℕ → List ℕ → M
@@ -43,13 +53,20 @@ module _ {M S : Type 0} (K : Kind M S) (L : Slots M) where
   ticked zero at s = s
   ticked (suc k) at s = ticked k (at + slotSize) (changedAt (K .tick) at s)
 
--- the chain with g applied to the module at place i
-abbrev pub changed : {M : Type 0} → (M → M) → ℕ → List M → List M
-changed g i [] = []
-changed g zero (m ∷ ms) = g m ∷ ms
-changed g (suc i) (m ∷ ms) = m ∷ changed g i ms
+-- what a turn and a walk of the code hand back
+unfoldable pub turnOf : Frame → Bool → ℕ → List ℕ → Turn
+turnOf f enabled at s = record { low = lowAt kind slots at s; said = length (wordsAt kind slots f enabled at s) }
 
--- the lengths of what is said, put into a list from place i on
-unfoldable pub noted : List (List ℕ) → ℕ → List ℕ → List ℕ
-noted [] i l = l
-noted (w ∷ ws) i l = noted ws (i + 1) (set l i (length w))
+unfoldable pub walkOf : Frame → ℕ → List ℕ → Walked
+walkOf f n s = record {
+  written = length (join (speech kind slots f true n slotsAt s));
+  lengths = noted (speech kind slots f true n slotsAt s) 0 (replicate chainMost 0);
+}
+
+-- what the code hands back where a frame ended, by the frame
+unfoldable pub endedOf : Frame → ℕ → List ℕ → Called
+endedOf f n s = record {
+  number = numberOf (Ended (f .damaged));
+  written = length (join (speech kind slots f true n slotsAt s));
+  lengths = noted (speech kind slots f true n slotsAt s) 0 (replicate chainMost 0);
+}

@@ -1,10 +1,33 @@
 // The network: the lent record and what the calls make of it. Types, definitions and promises; no function.
 
+// Where the receiver's parts stand in the record, behind its fifteen data places.
+pub const ADDRESS_AT: usize = 15;
+
+pub const COMMAND_AT: usize = ADDRESS_AT + 1;
+
+pub const FILL_AT: usize = COMMAND_AT + 1;
+
+pub const MARKED_AT: usize = FILL_AT + 1;
+
+pub const RECEIVER_LEN: usize = MARKED_AT + 1;
+
+// The most modules of a chain; their number stands behind the receiver, and then come the slots.
+pub const CHAIN_MOST: usize = 32;
+
+pub const COUNT_AT: usize = RECEIVER_LEN;
+
+pub const SLOTS_AT: usize = COUNT_AT + 1;
+
+pub const NET_LEN: usize = SLOTS_AT + CHAIN_MOST * module_rules::SLOT_LEN;
+
+// The room that a byte call needs: for a reply of every module.
+pub const ROOM_LEN: usize = CHAIN_MOST * module_rules::REPLY_LEN;
+
 // What a byte call hands back: its number, the length of all replies, and of the reply of each place.
 pub struct Called {
     pub number: u32,
     pub written: usize,
-    pub lengths: [u8; 32],
+    pub lengths: [u8; CHAIN_MOST],
 }
 
 // A module's turn in the walk: whether its ADDR_OUT was low before the frame, and how many bytes it said.
@@ -15,5 +38,5 @@ pub struct Turn {
 
 pub struct Walked {
     pub written: usize,
-    pub lengths: [u8; 32],
+    pub lengths: [u8; CHAIN_MOST],
 }

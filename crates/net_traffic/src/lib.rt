@@ -8,14 +8,14 @@ ghost use Rattle.line_receiver.specs.Receive.{numberOf};
 ghost use Rattle.line_receiver.specs.Frames.{frameIn};
 ghost use Rattle.line_receiver.specs.declared.Answer;
 ghost use Rattle.chain_rules.specs.Chain.{join, flat, byteStep};
-ghost use Rattle.chain_rules.specs.Slots.{slotSize};
+ghost use Rattle.module_rules.specs.Slots.{slotSize};
 ghost use Rattle.types_rules.specs.Types.{kind, slots};
-ghost use Rattle.net_rules.specs.Record.{recordSize, slotsAt, countAt, okSlots, netIn, stored, valid};
-ghost use Rattle.net_rules.specs.Walk.{walked, speech, ticked};
-ghost use Rattle.net_rules.specs.Calls.{tickStep, calledBy, endedOf, byteOf};
+ghost use Rattle.net_rules.specs.Record.{recordSize, slotsAt, countAt, okSlots, netIn, stored, valid, chainMost, roomSize};
+ghost use Rattle.net_rules.specs.Walk.{walked, speech, ticked, endedOf};
+ghost use Rattle.net_rules.specs.Calls.{tickStep, calledBy, byteOf};
 use line_receiver::Answer;
 use line_receiver::Receiver;
-use module_station::Head;
+use module_rules::Head;
 use net_rules::Called;
 
 fn ended_number(damaged: bool) -> u32
@@ -26,13 +26,13 @@ fn ended_number(damaged: bool) -> u32
 
 // The frame that a receiver held when its last byte came, handed to the chain.
 fn hand_on(net: &mut [u8], r: Receiver, damaged: bool, room: &mut [u8]) -> Called
-    requires { ⌜ (length (now net) ≡ recordSize) × (getD (now net) countAt 0 ≤ 32) × (608 ≤ length (now room)) × (length (r .bytes) ≡ 15) ⌝ }
+    requires { ⌜ (length (now net) ≡ recordSize) × (getD (now net) countAt 0 ≤ chainMost) × (roomSize ≤ length (now room)) × (length (r .bytes) ≡ 15) ⌝ }
     requires { ⌜ okSlots slots (getD (now net) countAt 0) (drop slotsAt (now net)) ≡ true ⌝ }
     ensures { λ c. ⌜ c ≡ endedOf (frameIn r damaged) (getD (now (net .entry)) countAt 0) (now (net .entry)) ⌝ }
     ensures { λ _. ⌜ now (net .exit) ≡ walked kind slots (frameIn r damaged) true (getD (now (net .entry)) countAt 0) slotsAt (now (net .entry)) ⌝ }
     ensures { λ _. ⌜ now (room .exit) ≡ pasted 0 (join (speech kind slots (frameIn r damaged) true (getD (now (net .entry)) countAt 0) slotsAt (now (net .entry)))) (now (room .entry)) ⌝ }
 {
-    let n = net[19] as usize;
+    let n = net[net_rules::COUNT_AT] as usize;
     let bytes = r.bytes;
     let count = (r.command / 16) as usize;
     let f = Head {
@@ -51,7 +51,7 @@ fn hand_on(net: &mut [u8], r: Receiver, damaged: bool, room: &mut [u8]) -> Calle
 
 // A byte of the line.
 pub fn byte(net: &mut [u8], value: u8, mark: bool, room: &mut [u8]) -> Called
-    requires { ⌜ (valid slots (now net) ≡ true) × (608 ≤ length (now room)) ⌝ }
+    requires { ⌜ (valid slots (now net) ≡ true) × (roomSize ≤ length (now room)) ⌝ }
     ensures { λ c. ⌜ c ≡ calledBy (netIn slots (now (net .entry))) (byteOf value mark) ⌝ }
     ensures { λ _. ⌜ now (net .exit) ≡ stored slots (byteStep kind (netIn slots (now (net .entry))) (byteOf value mark) .net) (now (net .entry)) ⌝ }
     ensures { λ _. ⌜ now (room .exit) ≡ pasted 0 (flat (byteStep kind (netIn slots (now (net .entry))) (byteOf value mark) .replies)) (now (room .entry)) ⌝ }
@@ -66,21 +66,21 @@ pub fn byte(net: &mut [u8], value: u8, mark: bool, room: &mut [u8]) -> Called
         return Called {
             number: 0,
             written: 0,
-            lengths: [0u8; 32],
+            lengths: [0u8; net_rules::CHAIN_MOST],
         };
     };
     hand_on(net, r, damaged, room)
 }
 
-// A tick at the n modules from place 20 on.
+// A tick at the first n modules.
 fn tick_each(net: &mut [u8], n: usize)
     requires { ⌜ (slotsAt + slotSize * n ≤ length (now net)) × (okSlots slots n (drop slotsAt (now net)) ≡ true) ⌝ }
     ensures { λ _. ⌜ now (net .exit) ≡ ticked kind slots n slotsAt (now (net .entry)) ⌝ }
 {
-    let mut at: usize = 20;
+    let mut at: usize = net_rules::SLOTS_AT;
     let mut left = n;
     while 0 < left {
-        let end = at + 128;
+        let end = at + module_rules::SLOT_LEN;
         types_dispatch::tick(&mut net[at..end]);
         at = end;
         left -= 1;
@@ -92,6 +92,6 @@ pub fn tick(net: &mut [u8])
     requires { ⌜ valid slots (now net) ≡ true ⌝ }
     ensures { λ _. ⌜ now (net .exit) ≡ stored slots (tickStep (netIn slots (now (net .entry)))) (now (net .entry)) ⌝ }
 {
-    let n = net[19];
+    let n = net[net_rules::COUNT_AT];
     tick_each(net, n as usize);
 }

@@ -1,10 +1,12 @@
-// Replays a capture: the file that the first argument names, or standard input where there is none. What the replay prints goes to standard output
-// as it comes.
+// Replays a capture: the file that the argument names, or standard input where there is none. What the replay prints goes to standard output
+// as it comes; what fails is told on standard error.
 ghost use mathlib.Core.Path.{_≡_};
 ghost use Prim.Native.Nat.{_+_, _-_, _^_, _<_, _≤_};
 ghost use lib.ListN.{length, drop};
 ghost use lib.Seq.{paste};
 ghost use Rattle.replay_file.specs.Turns.{Held};
+ghost use Rattle.net_rules.specs.Record.{chainMost, recordSize};
+ghost use Rattle.replay_print.specs.Text.{textSize};
 use libc::STDOUT_FILENO;
 use replay_file::Place;
 
@@ -51,6 +53,15 @@ fn refill(fd: i32, at: Place, start: usize, end: usize, buf: &mut [u8]) -> State
     }
 }
 
+// Writes out what was printed. Where that fails, as on a full disk, it says so and answers false.
+fn put(printed: &[u8]) -> bool {
+    let is_written = io::write_all(STDOUT_FILENO, printed);
+    if !is_written {
+        os::fail(b"write");
+    }
+    is_written
+}
+
 // A turn of the replay, with what it prints written out.
 fn step(
     fd: i32,
@@ -61,7 +72,7 @@ fn step(
     out: &mut [u8],
 ) -> State
     requires { ⌜ Held (s .at) (now types) (now net) ⌝ }
-    requires { ⌜ (s .at .offset + 11 < 2 ^ 64) × (s .start ≤ s .end) × (s .end ≤ length (now buf)) × (1920 ≤ length (now out)) ⌝ }
+    requires { ⌜ (s .at .offset + 11 < 2 ^ 64) × (s .start ≤ s .end) × (s .end ≤ length (now buf)) × (textSize ≤ length (now out)) ⌝ }
     ensures { λ r. ⌜ Held (r .at) (now (types .exit)) (now (net .exit)) ⌝ }
     ensures { λ r. ⌜ (r .at .offset ≤ s .at .offset + 11) × (r .start ≤ r .end) × (r .end ≤ length (now (buf .entry))) ⌝ }
 {
@@ -70,7 +81,7 @@ fn step(
     let end = s.end;
     let t = replay_play::turn(at, types, net, &buf[start..end], s.last, out);
     let wrote = t.wrote;
-    let is_written = io::write_all(STDOUT_FILENO, &out[..wrote]);
+    let is_written = put(&out[..wrote]);
     let next = t.next;
     if t.wants {
         return refill(fd, next, start, end, buf);
@@ -86,7 +97,7 @@ fn step(
 
 // A proved loop has to end, and nothing says that a file does: the turns are counted down from a number that no run uses up.
 fn run(fd: i32, buf: &mut [u8], types: &mut [u8], net: &mut [u8], out: &mut [u8])
-    requires { ⌜ (length (now types) ≡ 32) × (length (now net) ≡ 4116) × (1920 ≤ length (now out)) ⌝ }
+    requires { ⌜ (length (now types) ≡ chainMost) × (length (now net) ≡ recordSize) × (textSize ≤ length (now out)) ⌝ }
 {
     let mut s = State {
         at: Place::start(),
@@ -107,17 +118,14 @@ fn run(fd: i32, buf: &mut [u8], types: &mut [u8], net: &mut [u8], out: &mut [u8]
 
 fn replay(fd: i32) {
     let mut buf = io::large_buffer();
-    let mut types = [0u8; 32];
-    let mut net = [0u8; 4116];
-    let mut out = [0u8; 1920];
+    let mut types = [0u8; net_rules::CHAIN_MOST];
+    let mut net = [0u8; net_rules::NET_LEN];
+    let mut out = [0u8; replay_print::TEXT_LEN];
     run(fd, &mut buf, &mut types, &mut net, &mut out);
 }
 
-fn main() {
-    if os::arg_count() < 2 {
-        replay(libc::STDIN_FILENO);
-        return;
-    }
+// Replays the file that the argument names.
+fn replay_named() {
     let mut path = io::buffer();
     let length = os::arg(1, &mut path);
     if os::errno() != 0 {
@@ -131,4 +139,15 @@ fn main() {
     }
     replay(fd);
     libc::close(fd);
+}
+
+fn main() {
+    let count = os::arg_count();
+    if count < 2 {
+        replay(libc::STDIN_FILENO);
+    } else if count == 2 {
+        replay_named();
+    } else {
+        io::write_all(libc::STDERR_FILENO, b"usage: replay [CAPTURE]\n");
+    }
 }

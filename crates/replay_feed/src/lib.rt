@@ -5,11 +5,13 @@ ghost use mathlib.Core.List.{[]};
 ghost use Prim.Native.Nat.{_+_, _^_, _≤_, _<_};
 ghost use lib.ListN.{length, getD};
 ghost use Rattle.base_layout.specs.Bytes.{pasted};
-ghost use Rattle.types_rules.specs.Types.{slots, measured};
+ghost use Rattle.types_rules.specs.Table.{measured};
+ghost use Rattle.types_rules.specs.Types.{slots};
 ghost use Rattle.net_rules.specs.Record.{netIn, stored, valid};
 ghost use Rattle.net_rules.specs.Calls.{tickStep};
 ghost use Rattle.replay_file.specs.Records.{bad, goes, running, bodyLength, lineByte, servoSampleIn, ioSampleIn, sampleRecord, servoSample, ioSample, netRecord};
 ghost use Rattle.replay_file.specs.Turns.{turned, netAfter, textAfter};
+ghost use Rattle.replay_print.specs.Text.{textSize};
 use replay_file::Place;
 use replay_file::Turned;
 use types_rules::Measured;
@@ -17,7 +19,7 @@ use types_rules::Measured;
 // A line byte, and the lines of the replies that it draws.
 pub fn take_byte(at: Place, body: &[u8], net: &mut [u8], out: &mut [u8]) -> Turned
     requires { ⌜ (valid slots (now net) ≡ true) × (length (now body) ≡ 2) ⌝ }
-    requires { ⌜ (at .offset + 11 < 2 ^ 64) × (1920 ≤ length (now out)) ⌝ }
+    requires { ⌜ (at .offset + 11 < 2 ^ 64) × (textSize ≤ length (now out)) ⌝ }
     ensures { λ r. ⌜ r ≡ turned 3 (lineByte (netIn slots (now (net .entry))) (getD (now (body .entry)) 0 0) (getD (now (body .entry)) 1 0)) at ⌝ }
     ensures { λ _. ⌜ now (net .exit) ≡ netAfter (lineByte (netIn slots (now (net .entry))) (getD (now (body .entry)) 0 0) (getD (now (body .entry)) 1 0)) (now (net .entry)) ⌝ }
     ensures { λ _. ⌜ now (out .exit) ≡ pasted 0 (textAfter (lineByte (netIn slots (now (net .entry))) (getD (now (body .entry)) 0 0) (getD (now (body .entry)) 1 0)) (at .offset)) (now (out .entry)) ⌝ }
@@ -27,7 +29,7 @@ pub fn take_byte(at: Place, body: &[u8], net: &mut [u8], out: &mut [u8]) -> Turn
     if 1 < mark {
         return at.bad(out);
     }
-    let mut room = [0u8; 608];
+    let mut room = [0u8; net_rules::ROOM_LEN];
     let called = net_traffic::byte(net, value, mark == 1, &mut room);
     let lengths = called.lengths;
     let wrote = replay_print::put_replies(lengths, &room, out);
@@ -70,7 +72,7 @@ fn take_sample(
     out: &mut [u8],
 ) -> Turned
     requires { ⌜ valid slots (now net) ≡ true ⌝ }
-    requires { ⌜ (at .offset + size < 2 ^ 64) × (1920 ≤ length (now out)) ⌝ }
+    requires { ⌜ (at .offset + size < 2 ^ 64) × (textSize ≤ length (now out)) ⌝ }
     ensures { λ r. ⌜ r ≡ turned size (sampleRecord t fine (measured x) place (netIn slots (now (net .entry)))) at ⌝ }
     ensures { λ _. ⌜ now (net .exit) ≡ netAfter (sampleRecord t fine (measured x) place (netIn slots (now (net .entry)))) (now (net .entry)) ⌝ }
     ensures { λ _. ⌜ now (out .exit) ≡ pasted 0 (textAfter (sampleRecord t fine (measured x) place (netIn slots (now (net .entry)))) (at .offset)) (now (out .entry)) ⌝ }
@@ -86,27 +88,45 @@ fn take_sample(
 // A sample for a servo.
 pub fn take_servo_sample(at: Place, body: &[u8], net: &mut [u8], out: &mut [u8]) -> Turned
     requires { ⌜ (valid slots (now net) ≡ true) × (length (now body) ≡ 7) ⌝ }
-    requires { ⌜ (at .offset + 11 < 2 ^ 64) × (1920 ≤ length (now out)) ⌝ }
+    requires { ⌜ (at .offset + 11 < 2 ^ 64) × (textSize ≤ length (now out)) ⌝ }
     ensures { λ r. ⌜ r ≡ turned 8 (servoSample (netIn slots (now (net .entry))) (now (body .entry))) at ⌝ }
     ensures { λ _. ⌜ now (net .exit) ≡ netAfter (servoSample (netIn slots (now (net .entry))) (now (body .entry))) (now (net .entry)) ⌝ }
     ensures { λ _. ⌜ now (out .exit) ≡ pasted 0 (textAfter (servoSample (netIn slots (now (net .entry))) (now (body .entry))) (at .offset)) (now (out .entry)) ⌝ }
 {
     let x = servo_sample_in(body);
     let fine = x.power < 3;
-    take_sample(at, 8, body[0], 0, fine, Measured::Servo(x), net, out)
+    take_sample(
+        at,
+        8,
+        body[0],
+        servo_rules::TYPE,
+        fine,
+        Measured::Servo(x),
+        net,
+        out,
+    )
 }
 
 // A sample for an I/O module.
 pub fn take_io_sample(at: Place, body: &[u8], net: &mut [u8], out: &mut [u8]) -> Turned
     requires { ⌜ (valid slots (now net) ≡ true) × (length (now body) ≡ 10) ⌝ }
-    requires { ⌜ (at .offset + 11 < 2 ^ 64) × (1920 ≤ length (now out)) ⌝ }
+    requires { ⌜ (at .offset + 11 < 2 ^ 64) × (textSize ≤ length (now out)) ⌝ }
     ensures { λ r. ⌜ r ≡ turned 11 (ioSample (netIn slots (now (net .entry))) (now (body .entry))) at ⌝ }
     ensures { λ _. ⌜ now (net .exit) ≡ netAfter (ioSample (netIn slots (now (net .entry))) (now (body .entry))) (now (net .entry)) ⌝ }
     ensures { λ _. ⌜ now (out .exit) ≡ pasted 0 (textAfter (ioSample (netIn slots (now (net .entry))) (now (body .entry))) (at .offset)) (now (out .entry)) ⌝ }
 {
     let x = io_sample_in(body);
     let fine = x.inputs < 4096;
-    take_sample(at, 11, body[0], 2, fine, Measured::Io(x), net, out)
+    take_sample(
+        at,
+        11,
+        body[0],
+        inout_rules::TYPE,
+        fine,
+        Measured::Io(x),
+        net,
+        out,
+    )
 }
 
 pub fn take_tick(at: Place, net: &mut [u8]) -> Turned
@@ -121,7 +141,7 @@ pub fn take_tick(at: Place, net: &mut [u8]) -> Turned
 // A record of any kind but a module, at a network that is set up.
 pub fn take_other(at: Place, kind: u8, body: &[u8], net: &mut [u8], out: &mut [u8]) -> Turned
     requires { ⌜ (valid slots (now net) ≡ true) × (length (now body) ≡ bodyLength kind) ⌝ }
-    requires { ⌜ (at .offset + 11 < 2 ^ 64) × (1920 ≤ length (now out)) ⌝ }
+    requires { ⌜ (at .offset + 11 < 2 ^ 64) × (textSize ≤ length (now out)) ⌝ }
     ensures { λ r. ⌜ r ≡ turned (1 + bodyLength kind) (netRecord kind (netIn slots (now (net .entry))) (now (body .entry))) at ⌝ }
     ensures { λ _. ⌜ now (net .exit) ≡ netAfter (netRecord kind (netIn slots (now (net .entry))) (now (body .entry))) (now (net .entry)) ⌝ }
     ensures { λ _. ⌜ now (out .exit) ≡ pasted 0 (textAfter (netRecord kind (netIn slots (now (net .entry))) (now (body .entry))) (at .offset)) (now (out .entry)) ⌝ }

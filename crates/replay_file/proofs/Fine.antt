@@ -2,7 +2,6 @@
 use mathlib.Core.Path.{_≡_, refl, sym, ap, _∙_}
 use mathlib.Core.List.{List, [], _∷_, _++_, map}
 use mathlib.Core.Bool.{Bool, true, false, cond, _&&_}
-use mathlib.Core.Logic.{inl, inr}
 use mathlib.Core.Option.{some, none}
 use Prim.Native.Nat.{ℕ, _^_, _<_, _≤_}
 use native.Mathlib.Omega.{arith}
@@ -14,10 +13,13 @@ use Rattle.base_layout.specs.Bytes.{pasted, Bytes, readAt}
 use Rattle.base_layout.proofs.Laws.{ofLe-lt, bytes-read}
 use Rattle.base_layout.proofs.Pasted.{length-pasted, read-pasted}
 use Rattle.chain_rules.specs.Chain.{Net, byteStep}
+use Rattle.inout_rules.specs.Answers as Inouts
+use Rattle.servo_rules.specs.Answers as Servos
+use Rattle.types_rules.specs.Table.{servo, inout}
 use Rattle.types_rules.specs.Types.{Module, AnySample, kind, slots, known, powered, Good}
 use Rattle.types_rules.proofs.Laws.{lawful}
 use Rattle.types_rules.proofs.Kept.{preserves}
-use Rattle.net_rules.specs.Record.{recordSize, netIn}
+use Rattle.net_rules.specs.Record.{recordSize, netIn, chainMost}
 use Rattle.net_rules.specs.Calls.{setUp, allKnown, fresh, tickStep, sampleStep, byteOf, ofType}
 use Rattle.net_rules.specs.Promises.{SoundNet}
 use Rattle.net_rules.proofs.Stored.{holds, back}
@@ -31,6 +33,7 @@ use Rattle.replay_file.specs.Turns.{start, stageIn, Held, placeAfter, tu
 use Rattle.replay_print.proofs.Text.{bad-length, offset-short}
 use Rattle.replay_file.proofs.Spoken.{spoken-short}
 use Rattle.replay_file.proofs.Gathered.{never, known-more}
+use Rattle.replay_print.specs.Text.{textSize}
 
 -- a choice, by its test
 pub by-cond : {A : Type 0} (P : A → Type 0) (b : Bool) (x y : A) → (b ≡ true → P x) → (b ≡ false → P y) → P (cond b x y)
@@ -41,13 +44,13 @@ by-cond {A} P b x y f g = go b refl
     go false e = g e
 
 -- a sample whose power is 0 to 2, and one whose inputs are twelve bits
-servo-good : (body : List ℕ) → Bytes body → servoSampleIn body .power < 3 → Good (inl (servoSampleIn body))
+servo-good : (body : List ℕ) → Bytes body → servoSampleIn body .power < 3 → Good (servo, servoSampleIn body)
 unfolding servoSampleIn
 servo-good body b h =
     let r = ofLe-lt (readAt 4 3 body) (bytes-read 4 3 body b) in
     (omega arith, ((omega arith, omega arith), b 2))
 
-io-good : (body : List ℕ) → Bytes body → ioSampleIn body .inputs < 4096 → Good (inr (ioSampleIn body))
+io-good : (body : List ℕ) → Bytes body → ioSampleIn body .inputs < 4096 → Good (inout, ioSampleIn body)
 unfolding ioSampleIn
 io-good body b h =
     let i = ofLe-lt (readAt 2 1 body) (bytes-read 2 1 body b) in
@@ -70,7 +73,7 @@ Leads at types net size (goes s text) = stageIn (placeAfter size s at) (typesAft
 pub record Fine (at : Place) (types net : List ℕ) (size : ℕ) (e : Effect) : Type 0 where
   pub held : Held (turned size e at .next) (typesAfter e types) (netAfter e net)
   pub leads : Leads at types net size e
-  pub short : at .offset < 2 ^ 64 → length (textAfter e (at .offset)) ≤ 1920
+  pub short : at .offset < 2 ^ 64 → length (textAfter e (at .offset)) ≤ textSize
 
 module _ (at : Place) (types net : List ℕ) (h : Held at types net) (size : ℕ) where
   pub fine-bad : Fine at types net size bad
@@ -78,7 +81,7 @@ module _ (at : Place) (types net : List ℕ) (h : Held at types net) (size : ℕ
   fine-bad = record { held = h; leads = tt; short = λ small. omega (arith, bad-length (at .offset), offset-short (at .offset) small) }
 
   -- a network that is sound, after a record that prints little
-  fine-running : (n : Net Module) (text : List ℕ) → 0 < at .count → SoundNet slots n → length text ≤ 1920 → Fine at types net size (goes (running n) text)
+  fine-running : (n : Net Module) (text : List ℕ) → 0 < at .count → SoundNet slots n → length text ≤ textSize → Fine at types net size (goes (running n) text)
   unfolding turned typesAfter netAfter textAfter
   fine-running n text c s l =
       let k = back lawful n net s (h .long) (h .bytes) in
@@ -98,12 +101,12 @@ module _ (at : Place) (types net : List ℕ) (h : Held at types net) (size : ℕ
       }
 
   -- one more module
-  fine-gathering : (ts : List ℕ) → 0 < length ts → length ts ≤ 32 → allKnown ts ≡ true → Fine at types net size (goes (gathering ts) [])
+  fine-gathering : (ts : List ℕ) → 0 < length ts → length ts ≤ chainMost → allKnown ts ≡ true → Fine at types net size (goes (gathering ts) [])
   unfolding turned typesAfter netAfter textAfter fresh
   fine-gathering ts p l a =
       let z = h .size in
       let n = length-map ts powered in
-      let w = Powered.powered lawful (map powered ts) (omega arith) (omega arith) (Powered.powered-each ts a) in
+      let w = Powered.powered lawful (map powered ts) (omega arith) (omega arith) (Powered.powered-each ts) in
       let r : take (length ts) (pasted 0 ts types) ≡ ts = read-pasted 0 ts types (omega arith) in
       record {
         held = record {
@@ -131,9 +134,9 @@ module _ (at : Place) (types net : List ℕ) (h : Held at types net) (size : ℕ
           let ts : List ℕ = take (at .count) types in
           let n : length ts ≡ at .count = length-take-le (at .count) types (omega arith) in
           let m = length-append ts (t ∷ []) in
-          by-cond (Fine at types net size) (ltb (length ts) 32 && known t) (goes (gathering (ts ++ t ∷ [])) []) bad
-          (λ q. fine-gathering (ts ++ t ∷ []) (omega arith) (omega (arith, ltb-true (length ts) 32 (and-true (ltb (length ts) 32) (known t) q .0)))
-          (known-more ts t (h .known) (and-true (ltb (length ts) 32) (known t) q .1)))
+          by-cond (Fine at types net size) (ltb (length ts) chainMost && known t) (goes (gathering (ts ++ t ∷ [])) []) bad
+          (λ q. fine-gathering (ts ++ t ∷ []) (omega arith) (omega (arith, ltb-true (length ts) chainMost (and-true (ltb (length ts) chainMost) (known t) q .0)))
+          (known-more ts t (h .known) (and-true (ltb (length ts) chainMost) (known t) q .1)))
           (λ q. fine-bad)
 
   -- a record for the network
@@ -164,13 +167,13 @@ module _ (at : Place) (types net : List ℕ) (h : Held at types net) (size : ℕ
     unfolding servoSample
     fine-servo =
         let x = servoSampleIn body in
-        fine-sample 0 (ltb (x .power) 3) (inl x) (getD body 0 0) (λ q. servo-good body b (ltb-true (x .power) 3 q))
+        fine-sample Servos.typeNumber (ltb (x .power) 3) (servo, x) (getD body 0 0) (λ q. servo-good body b (ltb-true (x .power) 3 q))
 
     fine-io : Fine at types net size (ioSample (netIn slots net) body)
     unfolding ioSample
     fine-io =
         let x = ioSampleIn body in
-        fine-sample 2 (ltb (x .inputs) 4096) (inr x) (getD body 0 0) (λ q. io-good body b (ltb-true (x .inputs) 4096 q))
+        fine-sample Inouts.typeNumber (ltb (x .inputs) 4096) (inout, x) (getD body 0 0) (λ q. io-good body b (ltb-true (x .inputs) 4096 q))
 
     fine-other : (k : ℕ) → Fine at types net size (netRecord k (netIn slots net) body)
     unfolding netRecord
@@ -183,7 +186,7 @@ module _ (at : Place) (types net : List ℕ) (h : Held at types net) (size : ℕ
         (λ q. fine-bad))))
 
 -- before the first byte nothing is gathered
-pub begun : (types net : List ℕ) → length types ≡ 32 → length net ≡ recordSize → Bytes net → Held start types net
+pub begun : (types net : List ℕ) → length types ≡ chainMost → length net ≡ recordSize → Bytes net → Held start types net
 begun types net e l b = record {
   size = e;
   most = omega arith;

@@ -12,7 +12,7 @@ use borrow.Author.Tests.{ltb-true, ltb-false, lt-leb, le-leb}
 use Rattle.base_layout.specs.Bytes.{pasted}
 use Rattle.base_layout.proofs.Pasted.{pasted-start}
 use Rattle.types_rules.specs.Types.{slots, known}
-use Rattle.net_rules.specs.Record.{netIn}
+use Rattle.net_rules.specs.Record.{netIn, chainMost}
 use Rattle.net_rules.specs.Calls.{allKnown}
 use Rattle.replay_file.specs.declared.Place.{Place}
 use Rattle.replay_file.specs.Records.{gathering, running, Effect, goes, bad, moduleRecord}
@@ -22,12 +22,12 @@ pub never : {A : Type 0} → false ≡ true → A
 never e = let z : _≡_ {A = ℕ} 0 1 = cc in absurd (omega arith)
 
 -- the code tests the other way round
-full-not : (k : ℕ) → leb 32 k ≡ not (ltb k 32)
-full-not k = go (ltb k 32) refl
+full-not : (k : ℕ) → leb chainMost k ≡ not (ltb k chainMost)
+full-not k = go (ltb k chainMost) refl
   where
-    go : (u : Bool) → ltb k 32 ≡ u → leb 32 k ≡ not u
-    go true e = lt-leb 32 k (omega (arith, ltb-true k 32 e))
-    go false e = le-leb 32 k (omega (arith, ltb-false k 32 e))
+    go : (u : Bool) → ltb k chainMost ≡ u → leb chainMost k ≡ not u
+    go true e = lt-leb chainMost k (omega (arith, ltb-true k chainMost e))
+    go false e = le-leb chainMost k (omega (arith, ltb-false k chainMost e))
 
 either-bad : (u v : Bool) (x : Effect) → (not u || not v) ≡ true → cond (u && v) x bad ≡ bad
 either-bad true true x h = never h
@@ -53,43 +53,40 @@ known-more (x ∷ ts) t a h = go (known x) (λ b. known-more ts t b h) a
     go true on a = on a
     go false on a = never a
 
-module _ (at : Place) (types net : List ℕ) (t : ℕ) (size : length types ≡ 32) (most : at .count ≤ 32) where
+module _ (at : Place) (types net : List ℕ) (t : ℕ) (size : length types ≡ chainMost) (most : at .count ≤ chainMost) where
   abbrev ts : List ℕ
   ts = take (at .count) types
 
   length-ts : length ts ≡ at .count
   length-ts = length-take-le (at .count) types (omega arith)
 
-  test-is : (r : Bool) → ((r || leb 32 (at .count)) || not (known t)) ≡ (r || (not (ltb (length ts) 32) || not (known t)))
+  test-is : (r : Bool) → ((r || leb chainMost (at .count)) || not (known t)) ≡ (r || (not (ltb (length ts) chainMost) || not (known t)))
   test-is true = refl
   test-is false = rw (full-not (at .count), length-ts) refl
 
   -- a module that is bad, by the code's test
-  pub module-bad : ((at .running || leb 32 (at .count)) || not (known t)) ≡ true → moduleRecord (stageIn at types net) t ≡ bad
+  pub module-bad : ((at .running || leb chainMost (at .count)) || not (known t)) ≡ true → moduleRecord (stageIn at types net) t ≡ bad
   module-bad h = go (at .running) (sym (test-is (at .running)) ∙ h)
     where
-      go : (r : Bool) → (r || (not (ltb (length ts) 32) || not (known t))) ≡ true → moduleRecord (cond r (running (netIn slots net)) (gathering ts)) t ≡ bad
+      go : (r : Bool) → (r || (not (ltb (length ts) chainMost) || not (known t))) ≡ true → moduleRecord (cond r (running (netIn slots net)) (gathering ts)) t ≡ bad
       go true h = refl
-      go false h = either-bad (ltb (length ts) 32) (known t) (goes (gathering (ts ++ t ∷ [])) []) h
+      go false h = either-bad (ltb (length ts) chainMost) (known t) (goes (gathering (ts ++ t ∷ [])) []) h
 
   -- one that is not
-  module _ (h : ((at .running || leb 32 (at .count)) || not (known t)) ≡ false) where
-    parts : (r : Bool) → (r || (not (ltb (length ts) 32) || not (known t))) ≡ false → (r ≡ false) × ((not (ltb (length ts) 32) || not (known t)) ≡ false)
+  module _ (h : ((at .running || leb chainMost (at .count)) || not (known t)) ≡ false) where
+    parts : (r : Bool) → (r || (not (ltb (length ts) chainMost) || not (known t))) ≡ false → (r ≡ false) × ((not (ltb (length ts) chainMost) || not (known t)) ≡ false)
     parts true h = never (sym h)
     parts false h = (refl, h)
 
-    split : (at .running ≡ false) × ((not (ltb (length ts) 32) || not (known t)) ≡ false)
+    split : (at .running ≡ false) × ((not (ltb (length ts) chainMost) || not (known t)) ≡ false)
     split = parts (at .running) (sym (test-is (at .running)) ∙ h)
 
-    pub module-room : at .count < 32
-    module-room = omega (arith, ltb-true (length ts) 32 (good-parts (ltb (length ts) 32) (known t) (split .1) .0), length-ts)
-
-    pub module-known : known t ≡ true
-    module-known = good-parts (ltb (length ts) 32) (known t) (split .1) .1
+    pub module-room : at .count < chainMost
+    module-room = omega (arith, ltb-true (length ts) chainMost (good-parts (ltb (length ts) chainMost) (known t) (split .1) .0), length-ts)
 
     pub module-good : moduleRecord (stageIn at types net) t ≡ goes (gathering (ts ++ t ∷ [])) []
     module-good =
-        rw (split .0) (both-good (ltb (length ts) 32) (known t) (goes (gathering (ts ++ t ∷ [])) []) (split .1))
+        rw (split .0) (both-good (ltb (length ts) chainMost) (known t) (goes (gathering (ts ++ t ∷ [])) []) (split .1))
 
     -- what the code leaves
     pub types-put : set types (at .count) t ≡ pasted 0 (ts ++ t ∷ []) types
@@ -105,9 +102,6 @@ module _ (at : Place) (types net : List ℕ) (t : ℕ) (size : length types ≡ 
     types-taken =
         let r = module-room in
         rw (add-one (at .count)) (take-suc-set types (at .count) t (omega arith))
-
-    pub types-known : allKnown ts ≡ true → allKnown (take (at .count + 1) (set types (at .count) t)) ≡ true
-    types-known a = rw types-taken (known-more ts t a module-known)
 
     pub types-more : length (take (at .count + 1) (set types (at .count) t)) ≡ at .count + 1
     types-more = rw types-taken (omega (arith, length-append ts (t ∷ []), length-ts))

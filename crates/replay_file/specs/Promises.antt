@@ -5,7 +5,7 @@ use mathlib.Core.List.{List, [], _∷_, _++_}
 use mathlib.Core.Bool.{Bool, true, false}
 use lib.ListN.{length, drop}
 use Rattle.base_layout.specs.Bytes.{Bytes}
-use Rattle.net_rules.specs.Record.{recordSize}
+use Rattle.net_rules.specs.Record.{recordSize, chainMost}
 use Rattle.replay_file.specs.declared.Place.{Place}
 use Rattle.replay_file.specs.Records.{Stage, replayed}
 use Rattle.replay_file.specs.Turns.{start, stageIn, headSize, turnStep, turnedBy, typesBy, netBy, textBy}
@@ -28,7 +28,7 @@ pub data Run : Place → List ℕ → List ℕ → List ℕ → List ℕ → Typ
 abbrev pub Whole : Type 0
 Whole =
     (types net file text : List ℕ)
-    → length types ≡ 32
+    → length types ≡ chainMost
     → length net ≡ recordSize
     → Bytes net
     → Bytes file
@@ -39,7 +39,7 @@ Whole =
 abbrev pub Ends : Type 0
 Ends =
     (types net file : List ℕ)
-    → length types ≡ 32
+    → length types ≡ chainMost
     → length net ≡ recordSize
     → Bytes net
     → Bytes file

@@ -2,17 +2,20 @@
 use Prim.Native.Nat.{ℕ, zero, suc, _+_}
 use mathlib.Core.List.{List, [], _∷_, _++_}
 use mathlib.Core.Bool.{Bool, cond, _&&_}
-use mathlib.Core.Logic.{inl, inr}
 use mathlib.Core.Option.{Option, some, none}
 use lib.ListN.{length, getD, take, drop}
 use lib.Dec.{eqb, leb, ltb}
 use Rattle.base_layout.specs.Bytes.{ofLe, readAt}
-use Rattle.inout_rules.specs.declared.Sample as Inouts
-use Rattle.servo_rules.specs.declared.Sample as Servos
+use Rattle.inout_rules.specs.declared.Sample as InoutSample
+use Rattle.inout_rules.specs.Answers as Inouts
+use Rattle.servo_rules.specs.declared.Sample as ServoSample
+use Rattle.servo_rules.specs.Answers as Servos
 use Rattle.chain_rules.specs.Chain.{Net, Step, byteStep}
+use Rattle.types_rules.specs.Table.{servo, inout}
 use Rattle.types_rules.specs.Types.{Module, AnySample, kind, known}
 use Rattle.net_rules.specs.Calls.{setUp, tickStep, sampleStep, byteOf, ofType}
 use Rattle.replay_print.specs.Text.{lines, badLine}
+use Rattle.net_rules.specs.Record.{chainMost}
 
 -- 01 Replay file: how many bytes follow the kind byte: module 1, line byte 2, servo sample 7, I/O sample 10, tick none; an unknown kind is bad
 -- whatever follows it.
@@ -37,7 +40,7 @@ pub data Effect : Type 0 where
 -- 01 Replay file: a module: bad after any other kind, of a type that there is not, or as the 33rd.
 abbrev pub moduleRecord : Stage → ℕ → Effect
 moduleRecord (running n) t = bad
-moduleRecord (gathering ts) t = cond (ltb (length ts) 32 && known t) (goes (gathering (ts ++ t ∷ [])) []) bad
+moduleRecord (gathering ts) t = cond (ltb (length ts) chainMost && known t) (goes (gathering (ts ++ t ∷ [])) []) bad
 
 -- 01 Replay file: a line byte prints a line for each reply; 01 Numbers given back, 14: its mark is 0 or 1.
 unfoldable pub lineByte : Net Module → ℕ → ℕ → Effect
@@ -46,11 +49,11 @@ lineByte n mark value =
     cond (leb mark 1) (goes (running (s .net)) (lines (s .replies))) bad
 
 -- 01 Replay file: the body of a servo sample: place, power, A/D, raw 4.
-unfoldable pub servoSampleIn : List ℕ → Servos.Sample
+unfoldable pub servoSampleIn : List ℕ → ServoSample.Sample
 servoSampleIn body = record { raw = ofLe (readAt 4 3 body); power = getD body 1 0; ad = getD body 2 0 }
 
 -- 01 Replay file: the body of an I/O sample: place, inputs 2, A/D 3, counter 4.
-unfoldable pub ioSampleIn : List ℕ → Inouts.Sample
+unfoldable pub ioSampleIn : List ℕ → InoutSample.Sample
 ioSampleIn body = record {
   inputs = ofLe (readAt 2 1 body);
   ad1 = getD body 3 0;
@@ -65,11 +68,11 @@ sampleRecord t fine x place n = cond (ofType t n place && fine) (goes (running (
 
 -- 01 Servo: power is 0 to 2.
 unfoldable pub servoSample : Net Module → List ℕ → Effect
-servoSample n body = sampleRecord 0 (ltb (servoSampleIn body .power) 3) (inl (servoSampleIn body)) (getD body 0 0) n
+servoSample n body = sampleRecord Servos.typeNumber (ltb (servoSampleIn body .power) 3) (servo, servoSampleIn body) (getD body 0 0) n
 
 -- 01 I/O module: the inputs are twelve bits.
 unfoldable pub ioSample : Net Module → List ℕ → Effect
-ioSample n body = sampleRecord 2 (ltb (ioSampleIn body .inputs) 4096) (inr (ioSampleIn body)) (getD body 0 0) n
+ioSample n body = sampleRecord Inouts.typeNumber (ltb (ioSampleIn body .inputs) 4096) (inout, ioSampleIn body) (getD body 0 0) n
 
 -- 01 Replay file: a record of each kind that needs a network; any kind but these is unknown.
 unfoldable pub netRecord : ℕ → Net Module → List ℕ → Effect

@@ -1,4 +1,4 @@
--- A replay in turns, as the code makes it: at most one record a turn, from the bytes of the file that are there. The types gathered and the
+-- A reader of the meaning may skip this file: a replay in turns, as the code makes it: at most one record a turn, from the bytes of the file that are there. The types gathered and the
 -- network stand in two lent slices.
 use mathlib.Core.Path.{_≡_}
 use Prim.Native.Nat.{ℕ, _+_, _<_, _≤_}
@@ -8,11 +8,11 @@ use lib.ListN.{length, getD, take, drop}
 use lib.Dec.{eqb, ltb}
 use Rattle.base_layout.specs.Bytes.{pasted, Bytes}
 use Rattle.types_rules.specs.Types.{slots}
-use Rattle.net_rules.specs.Record.{recordSize, netIn, stored, valid}
+use Rattle.net_rules.specs.Record.{recordSize, netIn, stored, valid, chainMost}
 use Rattle.net_rules.specs.Calls.{setUp, allKnown, fresh}
 use Rattle.replay_file.specs.declared.Place.{Place}
 use Rattle.replay_file.specs.declared.Turned.{Turned}
-use Rattle.replay_print.specs.Text.{badLine}
+use Rattle.replay_print.specs.Text.{badLine, textSize}
 use Rattle.replay_file.specs.Records.{Stage, gathering, running, Effect, goes, bad, bodyLength, recordStep}
 
 -- 01 Replay file: where a replay begins.
@@ -25,8 +25,8 @@ stageIn at types net = cond (at .running) (running (netIn slots net)) (gathering
 
 -- 01 Numbers given back, 16: what holds of the slices between turns: known types, and from the first module on a valid record, newly set up as long as types are gathered.
 pub record Held (at : Place) (types net : List ℕ) : Type 0 where
-  pub size : length types ≡ 32
-  pub most : at .count ≤ 32
+  pub size : length types ≡ chainMost
+  pub most : at .count ≤ chainMost
   pub known : allKnown (take (at .count) types) ≡ true
   pub long : length net ≡ recordSize
   pub bytes : Bytes net
@@ -103,4 +103,4 @@ textBy (judged size e) offset = textAfter e offset
 pub record Within (r : Turned) (from there : ℕ) : Type 0 where
   pub offset : r .next .offset ≤ from + 11
   pub took : r .took ≤ there
-  pub wrote : r .wrote ≤ 1920
+  pub wrote : r .wrote ≤ textSize

@@ -6,6 +6,7 @@ ghost use lib.ListN.{length};
 ghost use Rattle.base_layout.specs.Bytes.{pasted};
 ghost use Rattle.replay_file.specs.Records.{bad, running, bodyLength, moduleRecord, recordStep};
 ghost use Rattle.replay_file.specs.Turns.{stageIn, Held, Within, over, wants, turnStep, turned, typesAfter, netAfter, textAfter, turnedBy, typesBy, netBy, textBy};
+ghost use Rattle.replay_print.specs.Text.{textSize};
 use replay_file::Place;
 use replay_file::Turned;
 
@@ -25,14 +26,14 @@ fn body_len(kind: u8) -> usize
 // A module. The network is set up anew for each, so that it stands ready when another kind comes.
 fn take_module(at: Place, t: u8, types: &mut [u8], net: &mut [u8], out: &mut [u8]) -> Turned
     requires { ⌜ Held at (now types) (now net) ⌝ }
-    requires { ⌜ (at .offset + 11 < 2 ^ 64) × (1920 ≤ length (now out)) ⌝ }
+    requires { ⌜ (at .offset + 11 < 2 ^ 64) × (textSize ≤ length (now out)) ⌝ }
     ensures { λ r. ⌜ r ≡ turned 2 (moduleRecord (stageIn at (now (types .entry)) (now (net .entry))) t) at ⌝ }
     ensures { λ _. ⌜ now (types .exit) ≡ typesAfter (moduleRecord (stageIn at (now (types .entry)) (now (net .entry))) t) (now (types .entry)) ⌝ }
     ensures { λ _. ⌜ now (net .exit) ≡ netAfter (moduleRecord (stageIn at (now (types .entry)) (now (net .entry))) t) (now (net .entry)) ⌝ }
     ensures { λ _. ⌜ now (out .exit) ≡ pasted 0 (textAfter (moduleRecord (stageIn at (now (types .entry)) (now (net .entry))) t) (at .offset)) (now (out .entry)) ⌝ }
 {
     let n = at.count;
-    if at.running | (32 <= n) | !types_dispatch::is_known(t) {
+    if at.running | (net_rules::CHAIN_MOST <= n) | !types_table::is_known(t as u32) {
         return at.bad(out);
     }
     types[n] = t;
@@ -61,7 +62,7 @@ fn take_record(
     out: &mut [u8],
 ) -> Turned
     requires { ⌜ Held at (now types) (now net) ⌝ }
-    requires { ⌜ (length (now body) ≡ bodyLength kind) × (at .offset + 11 < 2 ^ 64) × (1920 ≤ length (now out)) ⌝ }
+    requires { ⌜ (length (now body) ≡ bodyLength kind) × (at .offset + 11 < 2 ^ 64) × (textSize ≤ length (now out)) ⌝ }
     ensures { λ r. ⌜ r ≡ turned (1 + bodyLength kind) (recordStep (stageIn at (now (types .entry)) (now (net .entry))) kind (now (body .entry))) at ⌝ }
     ensures { λ _. ⌜ now (types .exit) ≡ typesAfter (recordStep (stageIn at (now (types .entry)) (now (net .entry))) kind (now (body .entry))) (now (types .entry)) ⌝ }
     ensures { λ _. ⌜ now (net .exit) ≡ netAfter (recordStep (stageIn at (now (types .entry)) (now (net .entry))) kind (now (body .entry))) (now (net .entry)) ⌝ }
@@ -86,7 +87,7 @@ pub fn turn(
     out: &mut [u8],
 ) -> Turned
     requires { ⌜ Held at (now types) (now net) ⌝ }
-    requires { ⌜ (at .offset + 11 < 2 ^ 64) × (1920 ≤ length (now out)) ⌝ }
+    requires { ⌜ (at .offset + 11 < 2 ^ 64) × (textSize ≤ length (now out)) ⌝ }
     ensures { λ r. ⌜ r ≡ turnedBy (turnStep (stageIn at (now (types .entry)) (now (net .entry))) (now (input .entry)) last) at ⌝ }
     ensures { λ _. ⌜ now (types .exit) ≡ typesBy (turnStep (stageIn at (now (types .entry)) (now (net .entry))) (now (input .entry)) last) (now (types .entry)) ⌝ }
     ensures { λ _. ⌜ now (net .exit) ≡ netBy (turnStep (stageIn at (now (types .entry)) (now (net .entry))) (now (input .entry)) last) (now (net .entry)) ⌝ }

@@ -10,8 +10,10 @@ use lib.Seq.{take-append-seam, drop-append-seam, drop-drop}
 use Rattle.base_layout.specs.Bytes.{pasted}
 use Rattle.base_layout.proofs.Pasted.{pasted-none, pasted-twice, length-pasted}
 use Rattle.chain_rules.specs.Chain.{Reply, join, sentBy, repliesFrom}
-use Rattle.replay_print.specs.Text.{line, lines, replyText, printed}
+use Rattle.replay_print.specs.Text.{line, lines, replyText, printed, textSize, lineSize}
 use Rattle.replay_print.proofs.Text.{line-length, place-short}
+use Rattle.net_rules.specs.Record.{chainMost}
+use Rattle.module_rules.specs.Owes.{replySize}
 
 pub reply-none : (place : ℕ) (bs out : List ℕ) (at : ℕ) → length bs ≡ 0 → (0 ≡ length (replyText place bs)) × (out ≡ pasted at (replyText place bs) out)
 reply-none place [] out at h = (refl, sym (pasted-none at out))
@@ -21,16 +23,16 @@ pub reply-some : (place : ℕ) (bs : List ℕ) → (length bs ≡ 0 → ⊥) →
 reply-some place [] h = absurd (h refl)
 reply-some place (b ∷ bs) h = refl
 
-pub reply-short : (place : ℕ) (bs : List ℕ) → place < 32 → length bs ≤ 19 → length (replyText place bs) ≤ 60
+pub reply-short : (place : ℕ) (bs : List ℕ) → place < chainMost → length bs ≤ replySize → length (replyText place bs) ≤ lineSize
 reply-short place [] h l = omega arith
 reply-short place (b ∷ bs) h l = omega (arith, line-length place (b ∷ bs), place-short place h)
 
-module _ (lengths room : List ℕ) (small : (i : ℕ) → getD lengths i 0 ≤ 19) where
-  word-short : (place at : ℕ) → place < 32 → length (replyText place (take (getD lengths place 0) (drop at room))) ≤ 60
+module _ (lengths room : List ℕ) (small : (i : ℕ) → getD lengths i 0 ≤ replySize) where
+  word-short : (place at : ℕ) → place < chainMost → length (replyText place (take (getD lengths place 0) (drop at room))) ≤ lineSize
   word-short place at h =
       reply-short place (take (getD lengths place 0) (drop at room)) h (omega (arith, length-take (getD lengths place 0) (drop at room), small place))
 
-  printed-short : (k place at : ℕ) → place + k ≤ 32 → length (printed k place at lengths room) ≤ 60 * k
+  printed-short : (k place at : ℕ) → place + k ≤ chainMost → length (printed k place at lengths room) ≤ lineSize * k
   unfolding printed
   printed-short zero place at h = omega arith
   printed-short (suc k) place at h =
@@ -40,17 +42,17 @@ module _ (lengths room : List ℕ) (small : (i : ℕ) → getD lengths i 0 ≤ 1
         length-append (replyText place (take n (drop at room))) (printed k (place + 1) (at + n) lengths room),
         word-short place at (omega arith),
         printed-short k (place + 1) (at + n) (omega arith),
-        mul-suc 60 k,
+        mul-suc lineSize k,
       )
 
   -- a turn of the loop, with k places to go before it
   pub record Turn (k place at w n : ℕ) (out after : List ℕ) : Type 0 where
-    pub fits : n ≤ 60
+    pub fits : n ≤ lineSize
     pub long : length after ≡ length out
     pub said : pasted (w + n) (printed (k - 1) (place + 1) (at + getD lengths place 0) lengths room) after ≡ pasted w (printed k place at lengths room) out
     pub total : w + n + length (printed (k - 1) (place + 1) (at + getD lengths place 0) lengths room) ≡ w + length (printed k place at lengths room)
 
-  pub print-turn : (k place at w m : ℕ) (out : List ℕ) {n : ℕ} {after : List ℕ} → 0 < k → place + k ≤ 32 → w + 60 * k ≤ length out
+  pub print-turn : (k place at w m : ℕ) (out : List ℕ) {n : ℕ} {after : List ℕ} → 0 < k → place + k ≤ chainMost → w + lineSize * k ≤ length out
       → m ≡ getD lengths place 0
       → n ≡ length (replyText place (take m (drop at room)))
       → after ≡ pasted w (replyText place (take m (drop at room))) out
@@ -63,7 +65,7 @@ module _ (lengths room : List ℕ) (small : (i : ℕ) → getD lengths i 0 ≤ 1
       let y : List ℕ = printed k (place + 1) (at + getD lengths place 0) lengths room in
       let lx = word-short place at (omega arith) in
       let ly = printed-short k (place + 1) (at + getD lengths place 0) (omega arith) in
-      let m = mul-suc 60 k in
+      let m = mul-suc lineSize k in
       let en : _ ≡ length x = en ∙ rw e refl in
       let ea : _ ≡ pasted w x out = ea ∙ rw e refl in
       record {
@@ -105,10 +107,10 @@ printed-words lengths room (suc k) (w ∷ ws) place at rest h n e =
     let ih = printed-words lengths room k ws (place + 1) (at + length w) rest (omega arith) on left in
     rw (z, word, ih, add-one place) (sym (lines-sent place w (repliesFrom (suc place) ws)))
 
--- so replies of at most 32 places, each of at most 19 bytes, print at most 1,920 bytes
-pub lines-short : (lengths : List ℕ) (ws : List (List ℕ)) → length ws ≤ 32 → ((i : ℕ) → getD lengths i 0 ≡ length (getD ws i []))
-    → ((i : ℕ) → getD lengths i 0 ≤ 19)
-    → length (lines (repliesFrom 0 ws)) ≤ 1920
+-- so replies of all places, each no longer than a reply can be, fit into the room for text
+pub lines-short : (lengths : List ℕ) (ws : List (List ℕ)) → length ws ≤ chainMost → ((i : ℕ) → getD lengths i 0 ≡ length (getD ws i []))
+    → ((i : ℕ) → getD lengths i 0 ≤ replySize)
+    → length (lines (repliesFrom 0 ws)) ≤ textSize
 lines-short lengths ws h n s =
     let on : (i : ℕ) → getD lengths (0 + i) 0 ≡ length (getD ws i []) = λ i. ap (λ (j : ℕ). getD lengths j 0) (zero-add i) ∙ n i in
-    rw (← printed-words lengths (join ws) 32 ws 0 0 [] h on (sym (append-nil (join ws)))) (printed-short lengths (join ws) s 32 0 0 (omega arith))
+    rw (← printed-words lengths (join ws) chainMost ws 0 0 [] h on (sym (append-nil (join ws)))) (printed-short lengths (join ws) s chainMost 0 0 (omega arith))

@@ -13,6 +13,7 @@ use borrow.Author.Tests.{ne-eqb}
 use Rattle.base_layout.specs.Bytes.{pasted}
 use Rattle.base_layout.proofs.Pasted.{pasted-one, pasted-twice, length-pasted}
 use Rattle.replay_print.specs.Text.{space, newline, digit, digits, decimal, hexPair, hexes, line, badLine}
+use Rattle.net_rules.specs.Record.{chainMost}
 
 -- nothing for 0, and else the tens and the last digit
 digits-zero : (k : ℕ) → digits k 0 ≡ []
@@ -106,13 +107,13 @@ module _ (at b p q : ℕ) (d h out : List ℕ) {x y : List ℕ} (fits : at + (le
       pasted-one p b y (omega (arith, both-length))
       ∙ rw (e, both-put) (pasted-twice at (d ++ h) (b ∷ []) out (omega arith) ∙ ap (λ (t : List ℕ). pasted at t out) (append-assoc d h (b ∷ [])))
 
--- a line is at most 60 bytes long, the last line at most 25
+-- how long a line can be, and the last line
 pub line-length : (place : ℕ) (bs : List ℕ) → length (line place bs) ≡ length (decimal place) + 3 * length bs + 1
 unfolding line
 line-length place bs =
     omega (arith, length-append (decimal place) (hexes bs ++ newline ∷ []), length-append (hexes bs) (newline ∷ []), length-hexes bs)
 
-pub place-short : (place : ℕ) → place < 32 → length (decimal place) ≤ 2
+pub place-short : (place : ℕ) → place < chainMost → length (decimal place) ≤ 2
 place-short place h = decimal-short 1 place (omega arith)
 
 pub offset-short : (n : ℕ) → n < 2 ^ 64 → length (decimal n) ≤ 20

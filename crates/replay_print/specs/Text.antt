@@ -1,10 +1,12 @@
 -- The text that a replay prints, as ASCII codes.
-use Prim.Native.Nat.{ℕ, zero, suc, _+_, _/_, _%_}
+use Prim.Native.Nat.{ℕ, zero, suc, _+_, _*_, _/_, _%_}
 use mathlib.Core.List.{List, [], _∷_, _++_}
 use mathlib.Core.Bool.{cond}
 use lib.ListN.{getD, take, drop}
 use lib.Dec.{eqb, ltb}
+use Rattle.module_rules.specs.Owes.{replySize}
 use Rattle.chain_rules.specs.Chain.{Reply}
+use Rattle.net_rules.specs.Record.{chainMost}
 
 -- 01 Replay file: what stands before each byte.
 abbrev pub space : ℕ
@@ -43,6 +45,13 @@ hexes (b ∷ bs) = (space ∷ hexPair b) ++ hexes bs
 -- 01 Replay file: the line of a reply: its place in decimal, its bytes, the line's end.
 unfoldable pub line : ℕ → List ℕ → List ℕ
 line place bytes = decimal place ++ (hexes bytes ++ newline ∷ [])
+
+-- the longest line, with a place of two digits, and the room that the lines of all replies to a byte need
+abbrev pub lineSize : ℕ
+lineSize = 3 + 3 * replySize
+
+abbrev pub textSize : ℕ
+textSize = chainMost * lineSize
 
 -- 01 Replay file: a line for each of some replies.
 abbrev pub lines : List Reply → List ℕ

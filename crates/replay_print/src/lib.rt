@@ -4,7 +4,14 @@ ghost use mathlib.Core.List.{_∷_};
 ghost use Prim.Native.Nat.{ℕ, _+_, _*_, _≤_, _<_};
 ghost use lib.ListN.{length, getD};
 ghost use Rattle.base_layout.specs.Bytes.{pasted};
-ghost use Rattle.replay_print.specs.Text.{space, hexDigit, hexPair, hexes, decimal, line, replyText, printed};
+ghost use Rattle.replay_print.specs.Text.{space, hexDigit, hexPair, hexes, decimal, line, replyText, printed, textSize, lineSize};
+ghost use Rattle.net_rules.specs.Record.{chainMost, roomSize};
+ghost use Rattle.module_rules.specs.Owes.{replySize};
+
+// The longest line: a place of two digits, a reply's bytes, a newline; and the room that the lines of all replies to a byte need.
+pub const LINE_LEN: usize = 3 + 3 * module_rules::REPLY_LEN;
+
+pub const TEXT_LEN: usize = net_rules::CHAIN_MOST * LINE_LEN;
 
 fn hex_digit(d: u8) -> u8
     requires { ⌜ d < 16 ⌝ }
@@ -57,7 +64,7 @@ pub fn put_decimal(out: &mut [u8], at: usize, n: u64) -> usize
 
 // The line of a reply.
 fn put_line(out: &mut [u8], at: usize, place: usize, bytes: &[u8]) -> usize
-    requires { ⌜ (place < 32) × (length (now bytes) ≤ 19) × (at + 60 ≤ length (now out)) ⌝ }
+    requires { ⌜ (place < chainMost) × (length (now bytes) ≤ replySize) × (at + lineSize ≤ length (now out)) ⌝ }
     ensures { λ r. ⌜ r ≡ length (line place (now (bytes .entry))) ⌝ }
     ensures { λ _. ⌜ now (out .exit) ≡ pasted at (line place (now (bytes .entry))) (now (out .entry)) ⌝ }
 {
@@ -70,7 +77,7 @@ fn put_line(out: &mut [u8], at: usize, place: usize, bytes: &[u8]) -> usize
 
 // A place that says nothing has no line.
 fn put_reply(out: &mut [u8], at: usize, place: usize, bytes: &[u8]) -> usize
-    requires { ⌜ (place < 32) × (length (now bytes) ≤ 19) × (at + 60 ≤ length (now out)) ⌝ }
+    requires { ⌜ (place < chainMost) × (length (now bytes) ≤ replySize) × (at + lineSize ≤ length (now out)) ⌝ }
     ensures { λ r. ⌜ r ≡ length (replyText place (now (bytes .entry))) ⌝ }
     ensures { λ _. ⌜ now (out .exit) ≡ pasted at (replyText place (now (bytes .entry))) (now (out .entry)) ⌝ }
 {
@@ -81,16 +88,16 @@ fn put_reply(out: &mut [u8], at: usize, place: usize, bytes: &[u8]) -> usize
 }
 
 // The lines of the replies that stand in a room one after another; how many bytes they have.
-pub fn put_replies(lengths: [u8; 32], room: &[u8], out: &mut [u8]) -> usize
-    requires { ⌜ ((i : ℕ) → getD lengths i 0 ≤ 19) ⌝ }
-    requires { ⌜ (608 ≤ length (now room)) × (1920 ≤ length (now out)) ⌝ }
-    ensures { λ r. ⌜ r ≡ length (printed 32 0 0 lengths (now (room .entry))) ⌝ }
-    ensures { λ _. ⌜ now (out .exit) ≡ pasted 0 (printed 32 0 0 lengths (now (room .entry))) (now (out .entry)) ⌝ }
+pub fn put_replies(lengths: [u8; net_rules::CHAIN_MOST], room: &[u8], out: &mut [u8]) -> usize
+    requires { ⌜ ((i : ℕ) → getD lengths i 0 ≤ replySize) ⌝ }
+    requires { ⌜ (roomSize ≤ length (now room)) × (textSize ≤ length (now out)) ⌝ }
+    ensures { λ r. ⌜ r ≡ length (printed chainMost 0 0 lengths (now (room .entry))) ⌝ }
+    ensures { λ _. ⌜ now (out .exit) ≡ pasted 0 (printed chainMost 0 0 lengths (now (room .entry))) (now (out .entry)) ⌝ }
 {
     let mut wrote: usize = 0;
     let mut at: usize = 0;
     let mut place: usize = 0;
-    let mut left: usize = 32;
+    let mut left: usize = net_rules::CHAIN_MOST;
     while 0 < left {
         let end = at + lengths[place] as usize;
         wrote += put_reply(out, wrote, place, &room[at..end]);

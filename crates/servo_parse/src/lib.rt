@@ -2,54 +2,21 @@
 ghost use mathlib.Core.Path.{_≡_};
 ghost use Prim.Native.Nat.{_<_};
 ghost use Rattle.base_layout.specs.Bytes.{ofLe, readAt};
-ghost use Rattle.module_station.specs.Touch.{frameOf};
-ghost use Rattle.servo_parse.specs.Loads.{isSet, needed, carriedAt, carriedIn, inRange};
-ghost use Rattle.servo_parse.specs.Orders.{counted, ranged, loadRequest, gainsIn, gainsFit, gainRequest, haltOf, oneHalt, stopCount, stopRequest, own, request};
-use module_station::Asked;
-use module_station::Head;
-use module_station::Setting;
+ghost use Rattle.module_rules.specs.Touch.{frameOf};
+ghost use Rattle.servo_rules.specs.Carried.{isSet, needed, carriedAt, carriedIn, inRange};
+ghost use Rattle.servo_rules.specs.Asks.{asksOf, counted, ranged, loadRequest, gainsIn, gainsFit, gainRequest, haltOf, oneHalt, stopCount, stopRequest, own};
+ghost use Rattle.servo_rules.specs.Answers.{request};
+use module_rules::Asked;
+use module_rules::Head;
 use servo_filter::Gains;
+use servo_rules::Carried;
+use servo_rules::Halt;
+use servo_rules::Order;
+use servo_rules::Request;
+use servo_rules::Tuning;
 
-// What a Load Trajectory carries; 0 for what it does not.
-pub struct Carried {
-    pub control: u8,
-    pub place: u32,
-    pub velocity: u32,
-    pub acceleration: u32,
-    pub pulse: u8,
-}
-
-// What Set Gain brings.
-pub struct Tuning {
-    pub gains: Gains,
-    pub cl: u8,
-    pub sm: u8,
-}
-
-// The kinds of Stop: none of bits 1 to 4, off, abrupt, smooth, Stop Here.
-pub enum Halt {
-    Keep,
-    Release,
-    Abrupt,
-    Smooth,
-    Here,
-}
-
-pub enum Order {
-    Set(Setting),
-    Reset,
-    ResetPosition,
-    LoadTrajectory(Carried),
-    Start,
-    SetGain(Tuning),
-    Stop(bool, Halt, u32),
-    ClearBits,
-}
-
-pub enum Request {
-    Malformed,
-    Wants(Order),
-}
+// The greatest velocity and acceleration that a load can carry.
+const FASTEST: u32 = 83_886_080;
 
 // Whether bit k of a byte is set.
 pub fn is_set(k: u8, b: u8) -> bool
@@ -94,7 +61,7 @@ fn needed(control: u8) -> usize
 }
 
 fn counted(n: usize, ds: &[u8], r: Request) -> Request
-    ensures { λ q. ⌜ q ≡ counted n (now (ds .entry)) r ⌝ }
+    ensures { λ q. ⌜ asksOf q ≡ counted n (now (ds .entry)) (asksOf r) ⌝ }
 {
     if ds.len() == n {
         return r;
@@ -103,7 +70,7 @@ fn counted(n: usize, ds: &[u8], r: Request) -> Request
 }
 
 fn ranged(ok: bool, c: Order) -> Request
-    ensures { λ r. ⌜ r ≡ ranged ok c ⌝ }
+    ensures { λ r. ⌜ asksOf r ≡ ranged ok c ⌝ }
 {
     if ok {
         return Request::Wants(c);
@@ -143,24 +110,23 @@ fn carried_in(ds: &[u8]) -> Carried
     }
 }
 
-impl Carried {
-    fn is_in_range(self) -> bool
-        ensures { λ r. ⌜ r ≡ inRange self ⌝ }
-    {
-        (self.velocity <= 83_886_080)
-            & (self.acceleration <= 83_886_080)
-            & (!is_set(2, self.control) | (1 <= self.acceleration))
-    }
+// Whether a load's velocity and acceleration are in range.
+fn is_in_range(c: Carried) -> bool
+    ensures { λ r. ⌜ r ≡ inRange c ⌝ }
+{
+    (c.velocity <= FASTEST)
+        & (c.acceleration <= FASTEST)
+        & (!is_set(2, c.control) | (1 <= c.acceleration))
 }
 
 fn load_request(ds: &[u8]) -> Request
-    ensures { λ r. ⌜ r ≡ loadRequest (now (ds .entry)) ⌝ }
+    ensures { λ r. ⌜ asksOf r ≡ loadRequest (now (ds .entry)) ⌝ }
 {
     let c = carried_in(ds);
     counted(
         needed(base_layout::byte_at(ds, 0)),
         ds,
-        ranged(c.is_in_range(), Order::LoadTrajectory(c)),
+        ranged(is_in_range(c), Order::LoadTrajectory(c)),
     )
 }
 
@@ -184,7 +150,7 @@ fn gains_fit(g: Gains) -> bool
 }
 
 fn gain_request(ds: &[u8]) -> Request
-    ensures { λ r. ⌜ r ≡ gainRequest (now (ds .entry)) ⌝ }
+    ensures { λ r. ⌜ asksOf r ≡ gainRequest (now (ds .entry)) ⌝ }
 {
     let gains = gains_in(ds);
     let fit = gains_fit(gains)
@@ -229,7 +195,7 @@ fn stop_count(control: u8) -> usize
 }
 
 fn stop_request(ds: &[u8]) -> Request
-    ensures { λ r. ⌜ r ≡ stopRequest (now (ds .entry)) ⌝ }
+    ensures { λ r. ⌜ asksOf r ≡ stopRequest (now (ds .entry)) ⌝ }
 {
     let c = base_layout::byte_at(ds, 0);
     let halt = halt_of(c);
@@ -239,7 +205,7 @@ fn stop_request(ds: &[u8]) -> Request
 
 // What the type's own codes ask.
 fn own_request(code: u8, ds: &[u8]) -> Request
-    ensures { λ r. ⌜ r ≡ own code (now (ds .entry)) ⌝ }
+    ensures { λ r. ⌜ asksOf r ≡ own code (now (ds .entry)) ⌝ }
 {
     match code {
         0 => counted(0, ds, Request::Wants(Order::ResetPosition)),
@@ -254,13 +220,13 @@ fn own_request(code: u8, ds: &[u8]) -> Request
 
 // What a frame asks; alone says that it was for this module individually.
 pub fn request_of(f: Head, alone: bool, ds: &[u8]) -> Request
-    ensures { λ r. ⌜ r ≡ request (frameOf f (now (ds .entry))) alone ⌝ }
+    ensures { λ r. ⌜ asksOf r ≡ request (frameOf f (now (ds .entry))) alone ⌝ }
 {
     let asked = module_station::asked_by(f.code, alone, ds);
     match asked {
         Asked::Other => own_request(f.code, ds),
         Asked::Malformed => Request::Malformed,
-        Asked::Wants(s) => Request::Wants(Order::Set(s)),
-        Asked::Reset => Request::Wants(Order::Reset),
+        Asked::Wants(s) => Request::Set(s),
+        Asked::Reset => Request::Reset,
     }
 }

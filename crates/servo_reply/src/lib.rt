@@ -4,20 +4,27 @@ ghost use Prim.Native.Nat.{_+_, _<_, _≤_};
 ghost use lib.IntN.{natAbs};
 ghost use lib.ListN.{length};
 ghost use Rattle.base_layout.specs.Bytes.{pasted};
-ghost use Rattle.module_station.specs.Touch.{frameOf};
+ghost use Rattle.module_rules.specs.Touch.{frameOf};
+ghost use Rattle.module_rules.specs.Report.{replyOf};
+ghost use Rattle.module_rules.specs.Owes.{replySize};
 ghost use Rattle.servo_motion.specs.Profile.{Ranged};
-ghost use Rattle.servo_rules.specs.Answers.{done, bitAt, status, numbers, reply, outputsOf};
-use module_station::Head;
+ghost use Rattle.servo_rules.specs.Answers.{done, bitAt, statusOf, numbersOf, sizes, outputsFrom};
+use module_rules::Head;
+use module_rules::Station;
+use servo_filter::Memory;
+use servo_rules::Counts;
+use servo_rules::Drive;
 use servo_rules::Mode;
-use servo_rules::Servo;
+use servo_rules::Run;
+use servo_rules::Sample;
 
 // Move done.
-fn is_done(m: Servo) -> bool
-    requires { ⌜ Ranged (m .profile) ⌝ }
-    ensures { λ r. ⌜ r ≡ done m ⌝ }
+fn is_done(r: Run) -> bool
+    requires { ⌜ Ranged (r .profile) ⌝ }
+    ensures { λ q. ⌜ q ≡ done r ⌝ }
 {
-    let p = m.profile;
-    let d = m.drive;
+    let p = r.profile;
+    let d = r.drive;
     let mode = d.mode;
     match mode {
         Mode::Off => true,
@@ -26,7 +33,7 @@ fn is_done(m: Servo) -> bool
         Mode::Velocity => base_integers::is_same(p.speed, p.aim),
         Mode::Trapezoid => {
             base_integers::is_same(servo_motion::distance(p.goal, p.setpoint), 0)
-                & servo_tick::is_at_rest(m)
+                & servo_run::is_at_rest(r)
         }
     }
 }
@@ -38,53 +45,70 @@ fn bit_at(n: u8, b: bool) -> u8
     if b { n } else { 0 }
 }
 
-fn status(m: Servo) -> u8
-    requires { ⌜ Ranged (m .profile) ⌝ }
-    ensures { λ r. ⌜ r ≡ status m ⌝ }
+fn status(cause: u8, power: u8, r: Run) -> u8
+    requires { ⌜ Ranged (r .profile) ⌝ }
+    ensures { λ q. ⌜ q ≡ statusOf cause power r ⌝ }
 {
-    bit_at(1, is_done(m))
-        + module_station::cause_bit(m.station.cause)
-        + bit_at(8, m.latched.power == 1)
-        + bit_at(16, m.drive.error)
+    bit_at(1, is_done(r))
+        + module_station::cause_bit(cause)
+        + bit_at(8, power == 1)
+        + bit_at(16, r.drive.error)
 }
 
-fn numbers(m: Servo) -> [u32; 8]
-    ensures { λ r. ⌜ r ≡ numbers m ⌝ }
+fn numbers(x: Sample, k: Counts, y: Memory) -> [u32; 8]
+    ensures { λ r. ⌜ r ≡ numbersOf x k y ⌝ }
 {
-    let here = servo_tick::position(m);
-    let y = m.memory;
-    let change = base_integers::less(here, m.counts.last) % 65536;
+    let here = servo_run::position(x, k);
+    let change = base_integers::less(here, k.last) % 65536;
     let error = base_integers::word(y.previous) % 65536;
-    [here, m.latched.ad as u32, change, 0, 0, 2560, error, 0]
+    [
+        here,
+        x.ad as u32,
+        change,
+        0,
+        0,
+        servo_rules::TYPE_AND_VERSION,
+        error,
+        0,
+    ]
 }
 
 // Puts the reply to a frame into the room from place from on; how many bytes it has.
-pub fn put_reply(m: Servo, f: Head, ds: &[u8], room: &mut [u8], from: usize) -> usize
-    requires { ⌜ Ranged (m .profile) ⌝ }
-    requires { ⌜ from + 19 ≤ length (now room) ⌝ }
-    ensures { λ r. ⌜ r ≡ length (reply (frameOf f (now (ds .entry))) m) ⌝ }
-    ensures { λ _. ⌜ now (room .exit) ≡ pasted from (reply (frameOf f (now (ds .entry))) m) (now (room .entry)) ⌝ }
+pub fn put_reply(
+    s: Station,
+    x: Sample,
+    k: Counts,
+    r: Run,
+    f: Head,
+    ds: &[u8],
+    room: &mut [u8],
+    from: usize,
+) -> usize
+    requires { ⌜ Ranged (r .profile) ⌝ }
+    requires { ⌜ from + replySize ≤ length (now room) ⌝ }
+    ensures { λ n. ⌜ n ≡ length (replyOf (frameOf f (now (ds .entry))) s (statusOf (s .cause) (x .power) r) sizes (numbersOf x k (r .memory))) ⌝ }
+    ensures { λ _. ⌜ now (room .exit) ≡ pasted from (replyOf (frameOf f (now (ds .entry))) s (statusOf (s .cause) (x .power) r) sizes (numbersOf x k (r .memory))) (now (room .entry)) ⌝ }
 {
     module_reply::put_reply(
         room,
         from,
         f,
         ds,
-        m.station,
-        status(m),
-        module_station::servo_sizes(),
-        numbers(m),
+        s,
+        status(s.cause, x.power, r),
+        servo_rules::SIZES,
+        numbers(x, k, r.memory),
     )
 }
 
 // What the board drives.
-pub fn outputs(m: Servo) -> [u8; 8]
-    requires { ⌜ natAbs (m .drive .output) < 256 ⌝ }
-    ensures { λ r. ⌜ r ≡ outputsOf m ⌝ }
+pub fn outputs(power: u8, d: Drive) -> [u8; 8]
+    requires { ⌜ natAbs (d .output) < 256 ⌝ }
+    ensures { λ r. ⌜ r ≡ outputsFrom power d ⌝ }
 {
-    let u = m.drive.output;
+    let u = d.output;
     let size = base_integers::size(u) as u8;
     let negative = bit_at(1, u < 0);
-    let enable = bit_at(1, m.drive.amplifier & (m.latched.power == 1));
+    let enable = bit_at(1, d.amplifier & (power == 1));
     [size, negative, enable, 0, 0, 0, 0, 0]
 }

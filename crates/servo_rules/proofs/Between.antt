@@ -4,45 +4,47 @@ use mathlib.Core.Logic.{_⊎_, inl, inr}
 use mathlib.Core.Bool.{Bool}
 use lib.IntN.{pos}
 use Rattle.line_receiver.specs.Frames.{Frame}
-use Rattle.servo_parse.specs.declared.Order.{Order}
-use Rattle.servo_parse.specs.declared.Order.the-variants.{Set, Reset, ResetPosition, LoadTrajectory, Start, SetGain, Stop, ClearBits}
-use Rattle.servo_parse.specs.declared.Request.{Request}
-use Rattle.servo_parse.specs.declared.Request.the-variants.{Malformed, Wants}
-use Rattle.servo_parse.specs.Orders.{request}
-use Rattle.servo_rules.specs.declared.Sample.{Sample}
+use Rattle.servo_rules.specs.declared.Order.{Order}
+use Rattle.servo_rules.specs.declared.Order.the-variants.{ResetPosition, LoadTrajectory, Start, SetGain, Stop, ClearBits}
+use Rattle.servo_rules.specs.declared.Samples.{Samples}
 use Rattle.servo_rules.specs.declared.Mode.the-variants.{Off, Pwm}
+use Rattle.servo_rules.specs.declared.Run.{Run}
 use Rattle.servo_rules.specs.declared.Servo.{Servo}
-use Rattle.servo_rules.specs.Servo.{idled, off}
+use Rattle.servo_rules.specs.State.{position, idled, off}
 use Rattle.servo_rules.specs.Loads.{loaded, startsNow, start}
-use Rattle.servo_rules.specs.Orders.{resetPosition, stopped, can, perform, withCause, settled, execute}
+use Rattle.servo_rules.specs.Perform.{resetPosition, stopped, perform}
 use Rattle.servo_rules.specs.Tick.{unpowered, tripped, pulsed, ticked}
+use Rattle.servo_rules.specs.Answers.{execute}
 use Rattle.servo_rules.specs.TickPromises.{Between, Silent, DrivenOnly}
-use Rattle.servo_rules.proofs.Keeping.{either, Undriven, Quiet, still, not-off, distinct, started-keeps, halted-keeps}
-use Rattle.servo_rules.proofs.Ends.{ends}
+use Rattle.servo_rules.proofs.Keeping.{either, Undriven, still, not-off, distinct, started-keeps, halted-keeps}
+use Rattle.servo_rules.proofs.Framed.{leaves}
+use Rattle.servo_rules.proofs.Ends.{tick-ends}
 use Rattle.servo_rules.proofs.Ticking.{ticks}
+
+-- the samples as they were, and no new output
+abbrev Quiet : Servo → Servo → Type 0
+Quiet m n = (n .samples ≡ m .samples) × Undriven (m .run) (n .run)
 
 start-quiet : (m : Servo) → Quiet m (start m)
 unfolding start
-start-quiet m = started-keeps (m .load .way) m .quiet
+start-quiet m = (refl, started-keeps (m .settings .load .way) (position m) (m .settings) (m .run) .undriven)
 
 order-quiet : (c : Order) (m : Servo) → Quiet m (perform c m)
 unfolding resetPosition loaded stopped
-order-quiet (Set s) m = still m
-order-quiet Reset m = (refl, inr (refl, refl))
-order-quiet ResetPosition m = still m
-order-quiet (LoadTrajectory c) m = either (Quiet m) (startsNow c) (start (loaded c m)) (loaded c m) (start-quiet (loaded c m)) (still m)
+order-quiet ResetPosition m = (refl, still (m .run))
+order-quiet (LoadTrajectory c) m =
+    either (Quiet m) (startsNow c) (start (loaded c m)) (loaded c m) (start-quiet (loaded c m)) (refl, still (m .run))
 order-quiet Start m = start-quiet m
-order-quiet (SetGain t) m = still m
-order-quiet (Stop a h x) m = halted-keeps h x m .quiet
-order-quiet ClearBits m = still m
-
-settled-quiet : (q : Request) (m : Servo) → Quiet m (settled q m)
-settled-quiet Malformed m = still m
-settled-quiet (Wants c) m = either (Quiet m) (can c m) (withCause 0 (perform c m)) (withCause 3 m) (order-quiet c m) (still m)
+order-quiet (SetGain t) m = (refl, still (m .run))
+order-quiet (Stop a h x) m = (refl, halted-keeps h (position m) x (m .run) .undriven)
+order-quiet ClearBits m = (refl, still (m .run))
 
 frame-quiet : (f : Frame) (alone : Bool) (m : Servo) → Quiet m (execute f alone m)
-unfolding execute
-frame-quiet f alone m = either (Quiet m) (f .damaged) (withCause 1 m) (settled (request f alone) m) (still m) (settled-quiet (request f alone) m)
+frame-quiet f alone m = leaves (Quiet m) f alone m (record {
+  kept = λ s. (refl, still (m .run));
+  renewed = λ d q. (refl, inr (refl, refl));
+  performed = λ c d q t. order-quiet c m;
+})
 
 pub between : Between
 between f alone m = by (frame-quiet f alone m .1)
@@ -55,33 +57,30 @@ between f alone m = by (frame-quiet f alone m .1)
 quiet-silent : (m n : Servo) → Quiet m n → Silent m → Silent n
 quiet-silent m n q s = by (q .1)
   where
-    by : Undriven m n → Silent n
+    by : Undriven (m .run) (n .run) → Silent n
     by (inl h) = record {
       off = λ e. h .0 ∙ s .off (h .1 e);
-      unpowered = λ p. h .0 ∙ s .unpowered (λ e. p (ap (λ (x : Sample). x .power) (q .0) ∙ e));
+      unpowered = λ p. h .0 ∙ s .unpowered (λ e. p (ap (λ (x : Samples). x .latched .power) (q .0) ∙ e));
     }
     by (inr h) = record { off = λ e. h .0; unpowered = λ p. h .0 }
 
 -- no tick that ends in off has an output
-tick-off : (m : Servo) → Silent m → ticked m .drive .mode ≡ Off → ticked m .drive .output ≡ pos 0
+tick-off : (m : Servo) → Silent m → ticked m .run .drive .mode ≡ Off → ticked m .run .drive .output ≡ pos 0
 unfolding unpowered pulsed tripped idled off
 tick-off m s =
-    ends (λ (n : Servo). n .drive .mode ≡ Off → n .drive .output ≡ pos 0) m (record {
+    tick-ends (λ (r : Run). r .drive .mode ≡ Off → r .drive .output ≡ pos 0) m (record {
       low = λ e k. refl;
       off = λ e k. s .off k;
       pwm = λ q k. absurd (distinct Pwm Off refl (sym q ∙ k));
-      output = λ q y u k. absurd (not-off (m .drive .mode) q k);
+      output = λ q y u k. absurd (not-off (m .run .drive .mode) q k);
       trip = λ q k. refl;
     })
 
 pub driven-only : DrivenOnly
+unfolding ticked
 driven-only = record {
   power = record { off = λ e. refl; unpowered = λ p. refl };
   frame = λ f alone m s. quiet-silent m (execute f alone m) (frame-quiet f alone m) s;
   sampling = λ x m s. record { off = s .off; unpowered = s .unpowered };
-  tick = λ m s.
-      record {
-        off = tick-off m s;
-        unpowered = λ p. ticks m .unpowered (λ e. p (ap (λ (x : Sample). x .power) (ticks m .latched) ∙ e)) (s .off);
-      };
+  tick = λ m s. record { off = tick-off m s; unpowered = λ p. ticks m .unpowered p (s .off) };
 }

@@ -19,18 +19,18 @@ use Rattle.servo_rules.proofs.Starting.{complete-is}
 -- the five tests of a trapezoid's load
 abbrev tests : Servo → List Bool
 tests m =
-    (m .rates .paced && m .rates .ramped)
-    ∷ m .load .placed
-    ∷ ltb 0 (m .rates .velocity)
-    ∷ atRest m
-    ∷ not (eqb (less (m .load .place) (whole (beginning m))) (2 ^ 31))
+    (m .settings .rates .paced && m .settings .rates .ramped)
+    ∷ m .settings .load .placed
+    ∷ ltb 0 (m .settings .rates .velocity)
+    ∷ atRest (m .run)
+    ∷ not (eqb (less (m .settings .load .place) (whole (beginning m))) (2 ^ 31))
     ∷ []
 
 movable-is : (m : Servo) → movable m ≡ true → Movable m
 unfolding movable
 movable-is m e =
     let t = every-hold (tests m) e in
-    let r = every-hold (m .rates .paced ∷ m .rates .ramped ∷ []) (t .0) in
+    let r = every-hold (m .settings .rates .paced ∷ m .settings .rates .ramped ∷ []) (t .0) in
     record {
       paced = r .0;
       ramped = r .1 .0;
@@ -47,11 +47,11 @@ is-movable m r =
     (ap₂ _&&_ (r .paced) (r .ramped), (r .placed, (lt-ltb _ _ (r .fast), (eq-same _ _ (r .still), (ap not (ne-eqb _ _ (r .near)), tt)))))
 
 pub complete : Complete
-complete m = (λ e. there (m .load .way) (sym (complete-is m) ∙ e), λ h. complete-is m ∙ back (m .load .way) h)
+complete m = (λ e. there (m .settings .load .way) (sym (complete-is m) ∙ e), λ h. complete-is m ∙ back (m .settings .load .way) h)
   where
     there : (w : Way) → completeBy w m ≡ true → Completes w m
     there Pulse e = e
-    there Speed e = let t = every-hold (m .rates .paced ∷ m .rates .ramped ∷ []) e in (t .0, t .1 .0)
+    there Speed e = let t = every-hold (m .settings .rates .paced ∷ m .settings .rates .ramped ∷ []) e in (t .0, t .1 .0)
     there Move e = movable-is m e
 
     back : (w : Way) → Completes w m → completeBy w m ≡ true

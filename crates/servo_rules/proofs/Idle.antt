@@ -1,4 +1,4 @@
--- A servo at rest stays so until a start is carried out. Assumes nothing.
+-- A step of what is at rest leaves its profile as it is. Assumes nothing.
 use mathlib.Core.Path.{_≡_, refl, sym, ap, ap₂, _∙_}
 use Prim.Native.Nat.{ℕ, zero, suc, _+_, _%_, _^_, _≤_, _<_, zero-le}
 use native.Mathlib.Nat.{zero-sub}
@@ -16,9 +16,9 @@ use Rattle.servo_motion.proofs.Speeds.{next, stillStops}
 use Rattle.servo_motion.proofs.Velocity.{toward-most}
 use Rattle.servo_rules.specs.declared.Mode.{Mode}
 use Rattle.servo_rules.specs.declared.Mode.the-variants.{Off, Pwm, Hold, Velocity, Trapezoid}
-use Rattle.servo_rules.specs.declared.Servo.{Servo}
+use Rattle.servo_rules.specs.declared.Run.{Run}
 use Rattle.servo_rules.specs.Tick.{advancedBy, advanced}
-use Rattle.servo_rules.specs.RestPromises.{Resting}
+use Rattle.servo_rules.specs.RestPromises.{Rests}
 
 -- at rest and at the goal a trapezoid's next speed is 0
 can-rest : (a top : ℕ) → CanStop a top 0 0
@@ -42,20 +42,24 @@ step-rest p h e =
     let s : (p .setpoint + 0) % 2 ^ 48 ≡ p .setpoint = omega arith in
     ap₂ (λ (s : ℕ) (v : ℤ). record { setpoint = s; speed = v; goal = p .goal; aim = p .aim; acceleration = p .acceleration; top = p .top }) s (sym e)
 
-module _ (m : Servo) (h : m .profile .setpoint < 2 ^ 48) (r : Resting m) where
-  pub rest-advanced : advanced m ≡ m .profile
+-- what runs is at rest
+abbrev pub Still : Run → Type 0
+Still r = Rests (r .profile) (r .drive .mode) (r .drive .pulse)
+
+module _ (r : Run) (h : r .profile .setpoint < 2 ^ 48) (still : Still r) where
+  pub rest-advanced : advanced r ≡ r .profile
   unfolding advanced byVelocity byTrapezoid trapezoid
-  rest-advanced = by (m .drive .mode) refl
+  rest-advanced = by (r .drive .mode) refl
     where
       p : Profile
-      p = m .profile
+      p = r .profile
 
-      by : (k : Mode) → m .drive .mode ≡ k → advancedBy k (m .profile) ≡ m .profile
+      by : (k : Mode) → r .drive .mode ≡ k → advancedBy k p ≡ p
       by Off q = refl
       by Pwm q = refl
       by Hold q = refl
       by Velocity q =
-          ap (stepped p) (ap₂ (toward (p .acceleration)) (r .aim q) (r .speed) ∙ toward-rest (p .acceleration)) ∙ step-rest p h (r .speed)
+          ap (stepped p) (ap₂ (toward (p .acceleration)) (still .aim q) (still .speed) ∙ toward-rest (p .acceleration)) ∙ step-rest p h (still .speed)
       by Trapezoid q =
-          ap (stepped p) (ap₂ (trapezoid (p .acceleration) (p .top)) (r .goal q) (r .speed) ∙ ap pos (trapezoid-rest (p .acceleration) (p .top)))
-          ∙ step-rest p h (r .speed)
+          ap (stepped p) (ap₂ (trapezoid (p .acceleration) (p .top)) (still .goal q) (still .speed) ∙ ap pos (trapezoid-rest (p .acceleration) (p .top)))
+          ∙ step-rest p h (still .speed)

@@ -1,11 +1,13 @@
 -- What a load stores, and that starts, stops and shifts keep the velocity and acceleration that were loaded. Assumes nothing.
-use mathlib.Core.Path.{refl}
+use mathlib.Core.Path.{_≡_, refl}
 use mathlib.Core.Bool.{or-true}
-use Rattle.servo_parse.specs.Loads.{isSet}
+use Rattle.servo_rules.specs.declared.Settings.{Settings}
+use Rattle.servo_rules.specs.Carried.{isSet}
+use Rattle.servo_rules.specs.State.{dropped}
 use Rattle.servo_rules.specs.Loads.{wayOf, ratesOf, loaded, start}
-use Rattle.servo_rules.specs.Orders.{resetPosition, stopped}
+use Rattle.servo_rules.specs.Perform.{resetPosition, drops, stopped}
 use Rattle.servo_rules.specs.LoadPromises.{Loads, Ways}
-use Rattle.servo_rules.proofs.Keeping.{started-keeps, halted-keeps}
+use Rattle.servo_rules.proofs.Keeping.{either}
 
 pub loads : Loads
 unfolding loaded ratesOf start stopped resetPosition
@@ -21,8 +23,8 @@ loads c m = record {
   noAcceleration = λ e. (rw e refl, rw e refl);
   paced = λ e. rw e (or-true (isSet 1 (c .control)));
   ramped = λ e. rw e (or-true (isSet 2 (c .control)));
-  used = started-keeps (m .load .way) m .rates;
-  stopping = λ a h x. halted-keeps h x m .rates;
+  used = refl;
+  stopping = λ a h x. either (λ (s : Settings). s .rates ≡ m .settings .rates) (drops h) (dropped (m .settings)) (m .settings) refl refl;
   shifting = refl;
 }
 

@@ -5,12 +5,12 @@ use mathlib.Core.Bool.{true, not}
 use borrow.Author.Tests.{eqb-true, eq-eqb, not-true}
 use Rattle.base_layout.proofs.Every.{every-hold}
 use Rattle.servo_rules.specs.declared.Servo.{Servo}
-use Rattle.servo_rules.specs.Servo.{powered, ready}
+use Rattle.servo_rules.specs.State.{powered, ready}
 use Rattle.servo_rules.specs.LoadPromises.{Ready}
 
 pub ready-is : (m : Servo) → ready m ≡ true → Ready m
 ready-is m e =
-    let t = every-hold (powered m ∷ not (m .drive .error) ∷ []) e in
+    let t = every-hold (powered m ∷ not (m .run .drive .error) ∷ []) e in
     (eqb-true _ _ (t .0), not-true _ (t .1 .0))
 
 pub is-ready : (m : Servo) → Ready m → ready m ≡ true

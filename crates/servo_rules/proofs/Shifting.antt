@@ -5,8 +5,8 @@ use native.Mathlib.Omega.{arith}
 use lib.IntN.{pos, _-ℤ_, _*ℤ_}
 use Rattle.base_integers.specs.Whole.{less, signed, difference}
 use Rattle.servo_motion.specs.Setpoint.{whole, fraction, distance}
-use Rattle.servo_rules.specs.Servo.{position, setpointAt}
-use Rattle.servo_rules.specs.Orders.{shifted, resetPosition}
+use Rattle.servo_rules.specs.State.{position, setpointAt}
+use Rattle.servo_rules.specs.Perform.{shifted, resetPosition}
 use Rattle.servo_rules.specs.StopPromises.{ResetsPosition, ShiftsNow}
 use Rattle.base_integers.proofs.Same.{same-eq, eq-same}
 use Rattle.servo_rules.proofs.Shown.{less-self}
@@ -69,17 +69,17 @@ pub resets-position : ResetsPosition
 unfolding resetPosition shifted difference
 resets-position m c =
     let x : ℕ = position m in
-    let p : ℕ = m .profile .setpoint in
+    let p : ℕ = m .run .profile .setpoint in
     let hx : x < 2 ^ 32 = omega arith in
     let hp : p < 2 ^ 48 = c .profile .setpoint in
-    let zero : less (m .latched .raw) (m .latched .raw) ≡ 0 = less-self (m .latched .raw) (c .raw) in
+    let zero : less (m .samples .latched .raw) (m .samples .latched .raw) ≡ 0 = less-self (m .samples .latched .raw) (c .raw) in
     let w = whole-shifted p x hp hx in
     let f = part-shifted p x hp hx in
     record {
       zero = zero;
       change = ap (λ (z : ℕ). less z (less (m .counts .last) x)) (zero ∙ sym (less-self x hx)) ∙ less-both x (m .counts .last) x hx (c .last) hx;
-      far = distance-same (less (m .profile .goal) x) ((p + (2 ^ 48 - setpointAt x)) % 2 ^ 48) (m .profile .goal) p
-          (ap (less (less (m .profile .goal) x)) w ∙ less-both (m .profile .goal) (whole p) x (c .profile .goal) (omega arith) hx) f;
+      far = distance-same (less (m .run .profile .goal) x) ((p + (2 ^ 48 - setpointAt x)) % 2 ^ 48) (m .run .profile .goal) p
+          (ap (less (less (m .run .profile .goal) x)) w ∙ less-both (m .run .profile .goal) (whole p) x (c .profile .goal) (omega arith) hx) f;
       following = ap signed (ap₂ less w zero ∙ less-zero (less (whole p) x) (omega arith));
       part = f;
       speed = refl;
@@ -89,4 +89,4 @@ resets-position m c =
     }
 
 pub shifts-now : ShiftsNow
-shifts-now m = (same-eq (m .profile .speed) (pos 0), eq-same (m .profile .speed) (pos 0))
+shifts-now m = (same-eq (m .run .profile .speed) (pos 0), eq-same (m .run .profile .speed) (pos 0))

@@ -2,18 +2,18 @@
 use mathlib.Core.Path.{_≡_, refl}
 use mathlib.Core.Bool.{Bool, true, false}
 use Prim.Native.Nat.{ℕ}
-use Rattle.servo_parse.specs.declared.Halt.{Halt}
-use Rattle.servo_parse.specs.declared.Halt.the-variants.{Keep, Release, Abrupt, Smooth, Here}
+use Rattle.servo_rules.specs.declared.Halt.{Halt}
+use Rattle.servo_rules.specs.declared.Halt.the-variants.{Keep, Release, Abrupt, Smooth, Here}
 use Rattle.servo_rules.specs.declared.Servo.{Servo}
-use Rattle.servo_rules.specs.Servo.{servoOff, idled, off}
+use Rattle.servo_rules.specs.State.{position, servoOff, idled, off}
 use Rattle.servo_rules.specs.Loads.{toSpeed}
-use Rattle.servo_rules.specs.Orders.{halted, holding, smooth, stopped}
+use Rattle.servo_rules.specs.Perform.{holding, smooth, stopped}
 use Rattle.servo_rules.specs.StopPromises.{Released, Slows, Stops, StopsNow}
 use Rattle.servo_rules.proofs.Readying.{ready-is, is-ready}
 use Rattle.servo_rules.proofs.Keeping.{halted-keeps}
 
 module _ (a : Bool) (x : ℕ) (m : Servo) where
-  slows : servoOff (m .drive .mode) ≡ false → Slows m (stopped a Smooth x m)
+  slows : servoOff (m .run .drive .mode) ≡ false → Slows (m .run) (stopped a Smooth x m .run)
   unfolding stopped smooth toSpeed
   slows e = record {
     mode = rw e refl;
@@ -25,15 +25,16 @@ module _ (a : Bool) (x : ℕ) (m : Servo) where
     memory = rw e refl;
   }
 
-  slows-off : servoOff (m .drive .mode) ≡ true → Released (stopped a Smooth x m)
+  slows-off : servoOff (m .run .drive .mode) ≡ true → Released (stopped a Smooth x m .run)
   unfolding stopped smooth off idled
   slows-off e = record { mode = rw e refl; speed = rw e refl; output = rw e refl; pulse = rw e refl; memory = rw e refl }
 
-  released : Released (stopped a Release x m)
+  released : Released (stopped a Release x m .run)
   unfolding stopped off idled
   released = record { mode = refl; speed = refl; output = refl; pulse = refl; memory = refl }
 
-  waits-not : (h : Halt) → (h ≡ Keep → ⊥) → halted h x m .load .waits ≡ false
+  waits-not : (h : Halt) → (h ≡ Keep → ⊥) → stopped a h x m .settings .load .waits ≡ false
+  unfolding stopped
   waits-not Keep n = absurd (n refl)
   waits-not Release n = refl
   waits-not Abrupt n = refl
@@ -50,7 +51,7 @@ stops a x m = record {
   slow = slows a x m;
   slowOff = slows-off a x m;
   amplifier = λ h. refl;
-  error = λ h. halted-keeps h x m .error;
+  error = λ h. halted-keeps h (position m) x (m .run) .error;
   waits = waits-not a x m;
 }
 

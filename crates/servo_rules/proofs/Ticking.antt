@@ -1,33 +1,46 @@
 -- What a tick does, by power, mode and following error. Assumes nothing.
 use mathlib.Core.Path.{_≡_, refl, sym, ap, subst, _∙_}
 use mathlib.Core.Bool.{Bool, true, false, cond, true≢false}
-use Prim.Native.Nat.{_≤_, _<_}
+use Prim.Native.Nat.{ℕ, _≤_, _<_}
 use borrow.Author.Tests.{eq-eqb, ne-eqb, lt-leb, le-leb}
 use lib.IntN.{pos, natAbs}
+use Rattle.servo_filter.specs.declared.Gains.{Gains}
 use Rattle.servo_filter.specs.declared.Filtered.{Filtered}
 use Rattle.servo_filter.specs.declared.Filtered.the-variants as Filters
 use Rattle.servo_filter.specs.Filter.{held, filtered}
 use Rattle.servo_rules.specs.declared.Mode.{Mode}
 use Rattle.servo_rules.specs.declared.Mode.the-variants.{Off, Pwm, Hold, Velocity, Trapezoid}
+use Rattle.servo_rules.specs.declared.Run.{Run}
 use Rattle.servo_rules.specs.declared.Servo.{Servo}
-use Rattle.servo_rules.specs.Servo.{servoOff, idled, off}
-use Rattle.servo_rules.specs.Tick.{latch, unpowered, advanced, putOut, tripped, filteredTo, servoed, pulsed, drivenBy, ticked}
+use Rattle.servo_rules.specs.State.{positionAt, position, servoOff, idled, off}
+use Rattle.servo_rules.specs.Tick.{advanced, unpowered, putOut, tripped, filteredTo, servoed, pulsed, drivenBy, ran, ticked}
 use Rattle.servo_rules.specs.StopPromises.{Released}
 use Rattle.servo_rules.specs.TickPromises.{followed, remembered, worked, Ticks}
-use Rattle.servo_rules.proofs.Ends.{answer, ends, stays}
+use Rattle.servo_rules.proofs.Ends.{answer, tick-ends}
 
-module _ (m : Servo) where
-  -- the tick at power 0, and at any other by the mode
-  at-low : m .waiting .power ≡ 0 → ticked m ≡ unpowered (latch m)
-  unfolding ticked
-  at-low e = ap (λ (t : Bool). cond t (unpowered (latch m)) (drivenBy (m .drive .mode) (latch m))) (eq-eqb _ _ e)
+unpowered-released : (r : Run) → Released (unpowered r) × (unpowered r .drive .amplifier ≡ false)
+unfolding unpowered idled off
+unpowered-released r = (record { mode = refl; speed = refl; output = refl; pulse = refl; memory = refl }, refl)
 
-  by-mode : (m .waiting .power ≡ 0 → ⊥) → ticked m ≡ drivenBy (m .drive .mode) (latch m)
-  unfolding ticked
-  by-mode n = ap (λ (t : Bool). cond t (unpowered (latch m)) (drivenBy (m .drive .mode) (latch m))) (ne-eqb _ _ n)
+tripped-released : (r : Run) → Released (tripped (advanced r) r) × (tripped (advanced r) r .drive .error ≡ true)
+unfolding tripped idled off
+tripped-released r = (record { mode = refl; speed = refl; output = refl; pulse = refl; memory = refl }, refl)
+
+module _ (power here : ℕ) (g : Gains) (r : Run) where
+  -- what a tick makes of what runs at power 0, and at any other by the mode
+  at-low : power ≡ 0 → ran power here g r ≡ unpowered r
+  unfolding ran
+  at-low e = ap (λ (t : Bool). cond t (unpowered r) (drivenBy (r .drive .mode) power here g r)) (eq-eqb _ _ e)
+
+  by-mode : (power ≡ 0 → ⊥) → ran power here g r ≡ drivenBy (r .drive .mode) power here g r
+  unfolding ran
+  by-mode n = ap (λ (t : Bool). cond t (unpowered r) (drivenBy (r .drive .mode) power here g r)) (ne-eqb _ _ n)
+
+  in-mode : (power ≡ 0 → ⊥) → (k : Mode) → r .drive .mode ≡ k → ran power here g r ≡ drivenBy k power here g r
+  in-mode n k e = by-mode n ∙ ap (λ (k : Mode). drivenBy k power here g r) e
 
   -- a mode with a servo runs the filter
-  by-filter : (k : Mode) → servoOff k ≡ false → drivenBy k (latch m) ≡ filteredTo (answer (latch m)) (advanced (latch m)) (latch m)
+  by-filter : (k : Mode) → servoOff k ≡ false → drivenBy k power here g r ≡ filteredTo (answer here g r) power (advanced r) r
   unfolding servoed
   by-filter Off e = absurd (true≢false e)
   by-filter Pwm e = absurd (true≢false e)
@@ -35,22 +48,16 @@ module _ (m : Servo) where
   by-filter Velocity e = refl
   by-filter Trapezoid e = refl
 
-  on-filter : (m .waiting .power ≡ 0 → ⊥) → servoOff (m .drive .mode) ≡ false
-      → ticked m ≡ filteredTo (answer (latch m)) (advanced (latch m)) (latch m)
-  on-filter n s = by-mode n ∙ by-filter (m .drive .mode) s
+  answered : (power ≡ 0 → ⊥) → servoOff (r .drive .mode) ≡ false → (a : Filtered) → answer here g r ≡ a
+      → ran power here g r ≡ filteredTo a power (advanced r) r
+  answered n s a e = by-mode n ∙ by-filter (r .drive .mode) s ∙ ap (λ (a : Filtered). filteredTo a power (advanced r) r) e
 
-  unpowered-released : Released (unpowered (latch m)) × (unpowered (latch m) .drive .amplifier ≡ false)
-  unfolding unpowered idled off
-  unpowered-released = (record { mode = refl; speed = refl; output = refl; pulse = refl; memory = refl }, refl)
-
-  tripped-released : Released (tripped (advanced (latch m)) (latch m)) × (tripped (advanced (latch m)) (latch m) .drive .error ≡ true)
-  unfolding tripped idled off
-  tripped-released = (record { mode = refl; speed = refl; output = refl; pulse = refl; memory = refl }, refl)
-
+module _ (m : Servo) where
   -- no output without power 1
-  no-output : (m .waiting .power ≡ 1 → ⊥) → (m .drive .mode ≡ Off → m .drive .output ≡ pos 0) → ticked m .drive .output ≡ pos 0
+  no-output : (m .samples .waiting .power ≡ 1 → ⊥) → (m .run .drive .mode ≡ Off → m .run .drive .output ≡ pos 0)
+      → ticked m .run .drive .output ≡ pos 0
   unfolding unpowered pulsed putOut tripped idled off
-  no-output n h = ends (λ (k : Servo). k .drive .output ≡ pos 0) m (record {
+  no-output n h = tick-ends (λ (s : Run). s .drive .output ≡ pos 0) m (record {
     low = λ e. refl;
     off = h;
     pwm = λ q. rw (ne-eqb _ _ n) refl;
@@ -58,9 +65,9 @@ module _ (m : Servo) where
     trip = λ q. refl;
   })
 
-  amplifier-stays : (m .waiting .power ≡ 0 → ⊥) → ticked m .drive .amplifier ≡ m .drive .amplifier
+  amplifier-stays : (m .samples .waiting .power ≡ 0 → ⊥) → ticked m .run .drive .amplifier ≡ m .run .drive .amplifier
   unfolding pulsed tripped idled off
-  amplifier-stays n = ends (λ (k : Servo). k .drive .amplifier ≡ m .drive .amplifier) m (record {
+  amplifier-stays n = tick-ends (λ (s : Run). s .drive .amplifier ≡ m .run .drive .amplifier) m (record {
     low = λ e. absurd (n e);
     off = λ e. refl;
     pwm = λ q. refl;
@@ -68,51 +75,62 @@ module _ (m : Servo) where
     trip = λ q. refl;
   })
 
-  on-pulse : (m .waiting .power ≡ 0 → ⊥) → m .drive .mode ≡ Pwm → ticked m ≡ pulsed (latch m)
-  on-pulse n k = by-mode n ∙ ap (λ (k : Mode). drivenBy k (latch m)) k
+  abbrev place : ℕ
+  place = positionAt (m .samples .waiting) (m .counts)
 
-  trips : m .tuning .gains .el < natAbs (followed m) → answer (latch m) ≡ Filters.Off
+  trips : m .settings .tuning .gains .el < natAbs (followed m) → answer place (m .settings .tuning .gains) (m .run) ≡ Filters.Off
   unfolding filtered
-  trips h = rw (lt-leb (natAbs (followed m)) (m .tuning .gains .el) h) refl
+  trips h = rw (lt-leb (natAbs (followed m)) (m .settings .tuning .gains .el) h) refl
 
-  runs : natAbs (followed m) ≤ m .tuning .gains .el → answer (latch m) ≡ Filters.Output (remembered m) (worked m)
+  runs : natAbs (followed m) ≤ m .settings .tuning .gains .el
+      → answer place (m .settings .tuning .gains) (m .run) ≡ Filters.Output (remembered m) (worked m)
   unfolding filtered
-  runs h = rw (le-leb (natAbs (followed m)) (m .tuning .gains .el) h) refl
+  runs h = rw (le-leb (natAbs (followed m)) (m .settings .tuning .gains .el) h) refl
 
 pub ticks : Ticks
-unfolding pulsed putOut
+unfolding ticked pulsed putOut
 ticks m =
-    let s = stays m in
+    let power : ℕ = m .samples .waiting .power in
+    let here : ℕ = positionAt (m .samples .waiting) (m .counts) in
+    let g : Gains = m .settings .tuning .gains in
+    let r : Run = m .run in
     record {
-      latched = s .latched;
-      last = s .last;
-      offset = s .offset;
-      station = s .station;
-      waiting = s .waiting;
-      tuning = s .tuning;
-      rates = s .rates;
-      load = s .load;
-      low = λ e. subst (λ (k : Servo). Released k × (k .drive .amplifier ≡ false)) (sym (at-low m e)) (unpowered-released m);
+      latched = refl;
+      last = refl;
+      offset = refl;
+      station = refl;
+      waiting = refl;
+      tuning = refl;
+      rates = refl;
+      load = refl;
+      low = λ e. subst (λ (s : Run). Released s × (s .drive .amplifier ≡ false)) (sym (at-low power here g r e)) (unpowered-released r);
       amplifier = amplifier-stays m;
       unpowered = no-output m;
-      off = λ n e. by-mode m n ∙ ap (λ (k : Mode). drivenBy k (latch m)) e;
+      off = λ n e.
+          ap (λ (s : Run). record {
+            station = m .station;
+            samples = record { waiting = m .samples .waiting; latched = m .samples .waiting };
+            counts = record { offset = m .counts .offset; last = position m };
+            settings = m .settings;
+            run = s;
+          }) (in-mode power here g r n Off e);
       pulse = λ n k.
-          let e = on-pulse m n k in (
-            ap (λ (k : Servo). k .profile) e,
-            ap (λ (k : Servo). k .memory) e,
-            ap (λ (k : Servo). k .drive .mode) e ∙ k,
-            ap (λ (k : Servo). k .drive .pulse) e,
-            λ p. ap (λ (k : Servo). k .drive .output) e ∙ ap (λ (t : Bool). cond t (held (m .tuning .gains .ol) (m .drive .pulse)) (pos 0)) (eq-eqb _ _ p),
+          let e : ran power here g r ≡ pulsed power (g .ol) r = in-mode power here g r n Pwm k in (
+            ap (λ (s : Run). s .profile) e,
+            ap (λ (s : Run). s .memory) e,
+            ap (λ (s : Run). s .drive .mode) e ∙ k,
+            ap (λ (s : Run). s .drive .pulse) e,
+            λ p. ap (λ (s : Run). s .drive .output) e ∙ ap (λ (t : Bool). cond t (held (g .ol) (r .drive .pulse)) (pos 0)) (eq-eqb _ _ p),
           );
       trip = λ n k h.
-          let e : ticked m ≡ tripped (advanced (latch m)) (latch m) = on-filter m n k ∙ ap (λ (r : Filtered). filteredTo r (advanced (latch m)) (latch m)) (trips m h) in
-          subst (λ (k : Servo). Released k × (k .drive .error ≡ true)) (sym e) (tripped-released m);
+          subst (λ (s : Run). Released s × (s .drive .error ≡ true))
+          (sym (answered power here g r n k Filters.Off (trips m h))) (tripped-released r);
       runs = λ n k h.
-          let e = on-filter m n k ∙ ap (λ (r : Filtered). filteredTo r (advanced (latch m)) (latch m)) (runs m h) in (
-            ap (λ (k : Servo). k .profile) e,
-            ap (λ (k : Servo). k .memory) e,
-            ap (λ (k : Servo). k .drive .mode) e,
-            ap (λ (k : Servo). k .drive .error) e,
-            λ p. ap (λ (k : Servo). k .drive .output) e ∙ ap (λ (t : Bool). cond t (worked m) (pos 0)) (eq-eqb _ _ p),
+          let e = answered power here g r n k (Filters.Output (remembered m) (worked m)) (runs m h) in (
+            ap (λ (s : Run). s .profile) e,
+            ap (λ (s : Run). s .memory) e,
+            ap (λ (s : Run). s .drive .mode) e,
+            ap (λ (s : Run). s .drive .error) e,
+            λ p. ap (λ (s : Run). s .drive .output) e ∙ ap (λ (t : Bool). cond t (worked m) (pos 0)) (eq-eqb _ _ p),
           );
     }

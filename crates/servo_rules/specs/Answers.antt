@@ -1,67 +1,86 @@
--- What a servo tells the host and the board (document 01, "Servo": items, status bits, enable line).
+-- What a servo tells the host and the board (document 01, "Servo": items, status bits, enable line), and the type as a whole.
 use Prim.Native.Nat.{ℕ, _+_, _%_}
 use mathlib.Core.List.{List, [], _∷_}
 use mathlib.Core.Bool.{Bool, true, cond, _&&_}
 use lib.IntN.{pos, natAbs}
 use lib.Signed.{ltZ}
 use Rattle.line_receiver.specs.Frames.{Frame}
-use Rattle.module_station.specs.Report.{replyOf, causeBit, servoSizes}
-use Rattle.chain_rules.specs.Chain.{Kind}
+use Rattle.module_rules.specs.Report.{causeBit}
+use Rattle.module_rules.specs.Rules as Any
 use Rattle.base_integers.specs.Whole.{same, less, word}
 use Rattle.servo_motion.specs.Profile.{left}
 use Rattle.servo_rules.specs.declared.Sample.{Sample}
+use Rattle.servo_filter.specs.declared.Memory.{Memory}
+use Rattle.servo_rules.specs.declared.Counts.{Counts}
 use Rattle.servo_rules.specs.declared.Mode.{Mode}
 use Rattle.servo_rules.specs.declared.Mode.the-variants.{Off, Pwm, Hold, Velocity, Trapezoid}
+use Rattle.servo_rules.specs.declared.Drive.{Drive}
+use Rattle.servo_rules.specs.declared.Run.{Run}
 use Rattle.servo_rules.specs.declared.Servo.{Servo}
-use Rattle.servo_rules.specs.Servo.{position, powered, sampled}
+use Rattle.servo_rules.specs.declared.Order.{Order}
+use Rattle.servo_rules.specs.Asks.{own}
+use Rattle.servo_rules.specs.State.{positionAt, good, withStation, fresh, started, sampled}
 use Rattle.servo_rules.specs.Loads.{atRest}
-use Rattle.servo_rules.specs.Orders.{execute}
+use Rattle.servo_rules.specs.Perform.{can, perform}
 use Rattle.servo_rules.specs.Tick.{ticked}
 
--- 01 Tick, Move done: off, PWM, holding; goal speed reached; no distance and no speed left
-abbrev pub doneBy : Mode → Servo → Bool
-doneBy Off m = true
-doneBy Pwm m = true
-doneBy Hold m = true
-doneBy Velocity m = same (m .profile .speed) (m .profile .aim)
-doneBy Trapezoid m = same (left (m .profile)) (pos 0) && atRest m
+-- 01 Servo: its type's number, and the version above it
+abbrev pub typeNumber : ℕ
+typeNumber = 0
 
-unfoldable pub done : Servo → Bool
-done m = doneBy (m .drive .mode) m
+abbrev pub typeAndVersion : ℕ
+typeAndVersion = 2560
+
+-- 01 Tick, Move done: off, PWM, holding; goal speed reached; no distance and no speed left
+abbrev pub doneBy : Mode → Run → Bool
+doneBy Off r = true
+doneBy Pwm r = true
+doneBy Hold r = true
+doneBy Velocity r = same (r .profile .speed) (r .profile .aim)
+doneBy Trapezoid r = same (left (r .profile)) (pos 0) && atRest r
+
+unfoldable pub done : Run → Bool
+done r = doneBy (r .drive .mode) r
 
 abbrev pub bitAt : ℕ → Bool → ℕ
 bitAt n b = cond b n 0
 
 -- 01 Servo, Status bits: 0 move done, 1 cause not 0, 3 power good, 4 position error
-unfoldable pub status : Servo → ℕ
-status m = bitAt 1 (done m) + causeBit (m .station .cause) + bitAt 8 (powered m) + bitAt 16 (m .drive .error)
+unfoldable pub statusOf : ℕ → ℕ → Run → ℕ
+statusOf cause power r = bitAt 1 (done r) + causeBit cause + bitAt 8 (good power) + bitAt 16 (r .drive .error)
 
--- 01 Servo, Items 0 to 7: position, A/D, last tick's change, 0, home, type and version, previous error, 0
-unfoldable pub numbers : Servo → List ℕ
-numbers m =
-    position m
-    ∷ m .latched .ad
-    ∷ less (position m) (m .counts .last) % 65536
+abbrev pub status : Servo → ℕ
+status m = statusOf (m .station .cause) (m .samples .latched .power) (m .run)
+
+-- 01 Servo, Items 0 to 7: position, A/D, last tick's change, 0, home, type and version, previous error, 0; and how many bytes each has
+unfoldable pub numbersOf : Sample → Counts → Memory → List ℕ
+numbersOf x k y =
+    positionAt x k
+    ∷ x .ad
+    ∷ less (positionAt x k) (k .last) % 65536
     ∷ 0
     ∷ 0
-    ∷ 2560
-    ∷ word (m .memory .previous) % 65536
+    ∷ typeAndVersion
+    ∷ word (y .previous) % 65536
     ∷ 0
     ∷ []
 
-unfoldable pub reply : Frame → Servo → List ℕ
-reply f m = replyOf f (m .station) (status m) servoSizes (numbers m)
+abbrev pub numbers : Servo → List ℕ
+numbers m = numbersOf (m .samples .latched) (m .counts) (m .run .memory)
+
+abbrev pub sizes : List ℕ
+sizes = 4 ∷ 1 ∷ 2 ∷ 1 ∷ 4 ∷ 2 ∷ 2 ∷ 1 ∷ []
 
 -- 01 Filter, Enable line: amplifier bit and power 1
-abbrev pub enabled : Servo → Bool
-enabled m = m .drive .amplifier && powered m
+abbrev pub enabled : ℕ → Drive → Bool
+enabled power d = d .amplifier && good power
 
 -- what the board drives: the output's size, 1 if it is below 0, the enable line; five bytes of 0
-unfoldable pub outputsOf : Servo → List ℕ
-outputsOf m =
-    natAbs (m .drive .output)
-    ∷ bitAt 1 (ltZ (m .drive .output) (pos 0))
-    ∷ bitAt 1 (enabled m)
+unfoldable pub outputsFrom : ℕ → Drive → List ℕ
+outputsFrom power d =
+    natAbs (d .output)
+    ∷ bitAt 1 (ltZ (d .output) (pos 0))
+    ∷ bitAt 1 (enabled power d)
     ∷ 0
     ∷ 0
     ∷ 0
@@ -69,6 +88,37 @@ outputsOf m =
     ∷ 0
     ∷ []
 
--- what the chain knows of the type
-abbrev pub servo : Kind Servo Sample
-servo = record { address = λ m. m .station .address; execute = execute; reply = reply; sample = sampled; tick = ticked }
+abbrev pub outputsOf : Servo → List ℕ
+outputsOf m = outputsFrom (m .samples .latched .power) (m .run .drive)
+
+-- the servo as a module type
+abbrev pub servo : Any.Rules Servo Sample Order
+servo = record {
+  number = typeNumber;
+  station = λ m. m .station;
+  withStation = withStation;
+  started = started;
+  renewed = λ m. fresh (m .samples);
+  own = own;
+  can = can;
+  perform = perform;
+  sample = sampled;
+  tick = ticked;
+  status = status;
+  sizes = sizes;
+  numbers = numbers;
+  outputs = outputsOf;
+}
+
+-- what follows for it as for every type
+abbrev pub request : Frame → Bool → Any.Request Order
+request = Any.request servo
+
+abbrev pub withCause : ℕ → Servo → Servo
+withCause = Any.withCause servo
+
+abbrev pub execute : Frame → Bool → Servo → Servo
+execute = Any.execute servo
+
+abbrev pub reply : Frame → Servo → List ℕ
+reply = Any.reply servo

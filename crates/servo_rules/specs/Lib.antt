@@ -1,8 +1,11 @@
-pub mod Servo
+pub mod Carried
+pub mod Asks
+pub mod State
 pub mod Loads
-pub mod Orders
+pub mod Perform
 pub mod Tick
 pub mod Answers
+pub mod AskPromises
 pub mod Promises
 pub mod LoadPromises
 pub mod StopPromises

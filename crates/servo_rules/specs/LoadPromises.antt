@@ -5,30 +5,30 @@ use mathlib.Core.Bool.{Bool, true, false}
 use lib.IntN.{pos}
 use Rattle.base_integers.specs.Whole.{less}
 use Rattle.line_receiver.specs.Frames.{Frame}
+use Rattle.module_rules.specs.Rules.{wants}
 use Rattle.servo_motion.specs.Setpoint.{whole}
 use Rattle.servo_filter.specs.Filter.{blank}
-use Rattle.servo_parse.specs.declared.Carried.{Carried}
-use Rattle.servo_parse.specs.declared.Halt.{Halt}
-use Rattle.servo_parse.specs.declared.Order.{Order}
-use Rattle.servo_parse.specs.declared.Order.the-variants.{Set, Reset, ResetPosition, LoadTrajectory, Start, SetGain, Stop, ClearBits}
-use Rattle.servo_parse.specs.declared.Request.the-variants.{Wants}
-use Rattle.servo_parse.specs.Loads.{isSet}
-use Rattle.servo_parse.specs.Orders.{request}
+use Rattle.servo_rules.specs.declared.Carried.{Carried}
+use Rattle.servo_rules.specs.declared.Halt.{Halt}
+use Rattle.servo_rules.specs.declared.Order.{Order}
+use Rattle.servo_rules.specs.declared.Order.the-variants.{ResetPosition, LoadTrajectory, Start, SetGain, Stop, ClearBits}
 use Rattle.servo_rules.specs.declared.Mode.the-variants.{Pwm, Velocity, Trapezoid}
 use Rattle.servo_rules.specs.declared.Way.{Way}
 use Rattle.servo_rules.specs.declared.Way.the-variants.{Pulse, Speed, Move}
 use Rattle.servo_rules.specs.declared.Servo.{Servo}
-use Rattle.servo_rules.specs.Servo.{position, setpointAt, servoOff}
+use Rattle.servo_rules.specs.Carried.{isSet}
+use Rattle.servo_rules.specs.State.{position, setpointAt, servoOff}
 use Rattle.servo_rules.specs.Loads.{wayOf, loadOf, loaded, startsNow, beginning, complete, startable, signedBy, start}
-use Rattle.servo_rules.specs.Orders.{resetPosition, stopped, can, perform, withCause, execute}
+use Rattle.servo_rules.specs.Perform.{resetPosition, stopped, can, perform}
+use Rattle.servo_rules.specs.Answers.{request, withCause, execute}
 
 -- power is good and the error bit is clear
 abbrev pub Ready : Servo → Type 0
-Ready m = (m .latched .power ≡ 1) × (m .drive .error ≡ false)
+Ready m = (m .samples .latched .power ≡ 1) × (m .run .drive .error ≡ false)
 
 -- Start can be carried out exactly if a load waits, it is complete, power is 1 and the error bit is clear (01 Start).
 pub record Startable (m : Servo) : Type 0 where
-  pub waits : m .load .waits ≡ true
+  pub waits : m .settings .load .waits ≡ true
   pub entire : complete m ≡ true
   pub ready : Ready m
 
@@ -38,25 +38,25 @@ Starts = (m : Servo) → (can Start m ≡ true → Startable m) × (Startable m 
 -- A load is complete: in PWM mode if it carried PWM; in velocity mode if velocity and acceleration have been loaded; a trapezoid also needs
 -- a position, a velocity above 0, no speed now, and a goal not 2 ^ 31 counts away (01 Start).
 pub record Movable (m : Servo) : Type 0 where
-  pub paced : m .rates .paced ≡ true
-  pub ramped : m .rates .ramped ≡ true
-  pub placed : m .load .placed ≡ true
-  pub fast : 0 < m .rates .velocity
-  pub still : m .profile .speed ≡ pos 0
-  pub near : less (m .load .place) (whole (beginning m)) ≡ 2 ^ 31 → ⊥
+  pub paced : m .settings .rates .paced ≡ true
+  pub ramped : m .settings .rates .ramped ≡ true
+  pub placed : m .settings .load .placed ≡ true
+  pub fast : 0 < m .settings .rates .velocity
+  pub still : m .run .profile .speed ≡ pos 0
+  pub near : less (m .settings .load .place) (whole (beginning m)) ≡ 2 ^ 31 → ⊥
 
 abbrev pub Completes : Way → Servo → Type 0
-Completes Pulse m = m .load .pulsed ≡ true
-Completes Speed m = (m .rates .paced ≡ true) × (m .rates .ramped ≡ true)
+Completes Pulse m = m .settings .load .pulsed ≡ true
+Completes Speed m = (m .settings .rates .paced ≡ true) × (m .settings .rates .ramped ≡ true)
 Completes Move m = Movable m
 
 abbrev pub Complete : Type 0
-Complete = (m : Servo) → (complete m ≡ true → Completes (m .load .way) m) × (Completes (m .load .way) m → complete m ≡ true)
+Complete =
+    (m : Servo)
+    → (complete m ≡ true → Completes (m .settings .load .way) m) × (Completes (m .settings .load .way) m → complete m ≡ true)
 
 -- the orders that start: Start, and a load with bit 7
 abbrev pub Starting : Order → Type 0
-Starting (Set s) = ⊥
-Starting Reset = ⊥
 Starting ResetPosition = ⊥
 Starting (LoadTrajectory c) = startsNow c ≡ true
 Starting Start = Unit {0}
@@ -66,11 +66,11 @@ Starting ClearBits = ⊥
 
 -- A load starts once: after an executed start nothing waits, and a Start that follows is not now.
 pub record OneStart (c : Order) (m : Servo) : Type 0 where
-  pub used : perform c m .load .waits ≡ false
+  pub used : perform c m .settings .load .waits ≡ false
   pub again : can Start (perform c m) ≡ false
   pub second : (f g : Frame) (alone apart : Bool)
-      → f .damaged ≡ false → request f alone ≡ Wants c → can c m ≡ true
-      → g .damaged ≡ false → request g apart ≡ Wants Start
+      → f .damaged ≡ false → request f alone ≡ wants c → can c m ≡ true
+      → g .damaged ≡ false → request g apart ≡ wants Start
       → execute g apart (execute f alone m) ≡ withCause 3 (execute f alone m)
 
 abbrev pub Twice : Type 0
@@ -83,7 +83,7 @@ pub record StartsNow (c : Carried) (m : Servo) : Type 0 where
   pub later : startsNow c ≡ false → can (LoadTrajectory c) m ≡ true
   pub does : startsNow c ≡ true → perform (LoadTrajectory c) m ≡ start (loaded c m)
   pub kept : (f : Frame) (alone : Bool)
-      → f .damaged ≡ false → request f alone ≡ Wants (LoadTrajectory c)
+      → f .damaged ≡ false → request f alone ≡ wants (LoadTrajectory c)
       → startsNow c ≡ true → startable (loaded c m) ≡ false
       → execute f alone m ≡ withCause 3 m
 
@@ -94,21 +94,24 @@ StartNow = (c : Carried) (m : Servo) → StartsNow c m
 -- are stored, absent ones keep the numbers of earlier loads, used or dropped, and both stay loaded (01 Load Trajectory).
 pub record Loading (c : Carried) (m : Servo) : Type 0 where
   pub does : startsNow c ≡ false → perform (LoadTrajectory c) m ≡ loaded c m
-  pub load : loaded c m .load ≡ loadOf c
-  pub profile : loaded c m .profile ≡ m .profile
-  pub memory : loaded c m .memory ≡ m .memory
-  pub drive : loaded c m .drive ≡ m .drive
-  pub velocity : isSet 1 (c .control) ≡ true → (loaded c m .rates .velocity ≡ c .velocity) × (loaded c m .rates .paced ≡ true)
+  pub load : loaded c m .settings .load ≡ loadOf c
+  pub profile : loaded c m .run .profile ≡ m .run .profile
+  pub memory : loaded c m .run .memory ≡ m .run .memory
+  pub drive : loaded c m .run .drive ≡ m .run .drive
+  pub velocity : isSet 1 (c .control) ≡ true
+      → (loaded c m .settings .rates .velocity ≡ c .velocity) × (loaded c m .settings .rates .paced ≡ true)
   pub noVelocity : isSet 1 (c .control) ≡ false
-      → (loaded c m .rates .velocity ≡ m .rates .velocity) × (loaded c m .rates .paced ≡ m .rates .paced)
-  pub acceleration : isSet 2 (c .control) ≡ true → (loaded c m .rates .acceleration ≡ c .acceleration) × (loaded c m .rates .ramped ≡ true)
+      → (loaded c m .settings .rates .velocity ≡ m .settings .rates .velocity) × (loaded c m .settings .rates .paced ≡ m .settings .rates .paced)
+  pub acceleration : isSet 2 (c .control) ≡ true
+      → (loaded c m .settings .rates .acceleration ≡ c .acceleration) × (loaded c m .settings .rates .ramped ≡ true)
   pub noAcceleration : isSet 2 (c .control) ≡ false
-      → (loaded c m .rates .acceleration ≡ m .rates .acceleration) × (loaded c m .rates .ramped ≡ m .rates .ramped)
-  pub paced : m .rates .paced ≡ true → loaded c m .rates .paced ≡ true
-  pub ramped : m .rates .ramped ≡ true → loaded c m .rates .ramped ≡ true
-  pub used : start m .rates ≡ m .rates
-  pub stopping : (a : Bool) (h : Halt) (x : ℕ) → stopped a h x m .rates ≡ m .rates
-  pub shifting : resetPosition m .rates ≡ m .rates
+      → (loaded c m .settings .rates .acceleration ≡ m .settings .rates .acceleration)
+      × (loaded c m .settings .rates .ramped ≡ m .settings .rates .ramped)
+  pub paced : m .settings .rates .paced ≡ true → loaded c m .settings .rates .paced ≡ true
+  pub ramped : m .settings .rates .ramped ≡ true → loaded c m .settings .rates .ramped ≡ true
+  pub used : start m .settings .rates ≡ m .settings .rates
+  pub stopping : (a : Bool) (h : Halt) (x : ℕ) → stopped a h x m .settings .rates ≡ m .settings .rates
+  pub shifting : resetPosition m .settings .rates ≡ m .settings .rates
 
 abbrev pub Loads : Type 0
 Loads = (c : Carried) (m : Servo) → Loading c m
@@ -123,33 +126,33 @@ Ways =
 
 -- what a start leaves as it was: all that runs but the setpoint
 pub record Carries (before m : Servo) : Type 0 where
-  pub setpoint : m .profile .setpoint ≡ beginning before
-  pub speed : m .profile .speed ≡ before .profile .speed
-  pub output : m .drive .output ≡ before .drive .output
-  pub memory : m .memory ≡ before .memory
+  pub setpoint : m .run .profile .setpoint ≡ beginning before
+  pub speed : m .run .profile .speed ≡ before .run .profile .speed
+  pub output : m .run .drive .output ≡ before .run .drive .output
+  pub memory : m .run .memory ≡ before .run .memory
 
 -- What a start begins, by the load's mode: PWM with no output until the tick, and speed, integral and previous error 0; a profile toward the
 -- loaded speed with its sign, or toward the loaded position, with the loaded numbers, from the position if the servo was off (01 Start).
 pub record Begun (m : Servo) : Type 0 where
-  pub pulse : m .load .way ≡ Pulse
-      → (start m .drive .mode ≡ Pwm)
-      × (start m .drive .pulse ≡ signedBy (m .load .reverse) (m .load .pulse))
-      × (start m .drive .output ≡ pos 0)
-      × (start m .profile .speed ≡ pos 0)
-      × (start m .memory ≡ blank)
-  pub speed : m .load .way ≡ Speed
-      → (start m .drive .mode ≡ Velocity)
-      × (start m .profile .aim ≡ signedBy (m .load .reverse) (m .rates .velocity))
-      × (start m .profile .acceleration ≡ m .rates .acceleration)
+  pub pulse : m .settings .load .way ≡ Pulse
+      → (start m .run .drive .mode ≡ Pwm)
+      × (start m .run .drive .pulse ≡ signedBy (m .settings .load .reverse) (m .settings .load .pulse))
+      × (start m .run .drive .output ≡ pos 0)
+      × (start m .run .profile .speed ≡ pos 0)
+      × (start m .run .memory ≡ blank)
+  pub speed : m .settings .load .way ≡ Speed
+      → (start m .run .drive .mode ≡ Velocity)
+      × (start m .run .profile .aim ≡ signedBy (m .settings .load .reverse) (m .settings .rates .velocity))
+      × (start m .run .profile .acceleration ≡ m .settings .rates .acceleration)
       × Carries m (start m)
-  pub move : m .load .way ≡ Move
-      → (start m .drive .mode ≡ Trapezoid)
-      × (start m .profile .goal ≡ m .load .place)
-      × (start m .profile .acceleration ≡ m .rates .acceleration)
-      × (start m .profile .top ≡ m .rates .velocity)
+  pub move : m .settings .load .way ≡ Move
+      → (start m .run .drive .mode ≡ Trapezoid)
+      × (start m .run .profile .goal ≡ m .settings .load .place)
+      × (start m .run .profile .acceleration ≡ m .settings .rates .acceleration)
+      × (start m .run .profile .top ≡ m .settings .rates .velocity)
       × Carries m (start m)
-  pub fromOff : servoOff (m .drive .mode) ≡ true → beginning m ≡ setpointAt (position m)
-  pub fromOn : servoOff (m .drive .mode) ≡ false → beginning m ≡ m .profile .setpoint
+  pub fromOff : servoOff (m .run .drive .mode) ≡ true → beginning m ≡ setpointAt (position m)
+  pub fromOn : servoOff (m .run .drive .mode) ≡ false → beginning m ≡ m .run .profile .setpoint
 
 abbrev pub Begins : Type 0
 Begins = (m : Servo) → Begun m

@@ -6,21 +6,21 @@ use mathlib.Core.Bool.{Bool, true, false}
 use lib.IntN.{ℤ, pos}
 use Rattle.base_integers.specs.Whole.{difference}
 use Rattle.line_receiver.specs.Frames.{Frame}
+use Rattle.module_rules.specs.Rules.{wants}
 use Rattle.servo_motion.specs.declared.Profile.{Profile}
 use Rattle.servo_motion.specs.Setpoint.{whole}
 use Rattle.servo_motion.specs.Profile.{left}
-use Rattle.servo_parse.specs.declared.Halt.the-variants.{Here}
-use Rattle.servo_parse.specs.declared.Order.{Order}
-use Rattle.servo_parse.specs.declared.Order.the-variants.{Stop}
-use Rattle.servo_parse.specs.declared.Request.the-variants.{Wants}
-use Rattle.servo_parse.specs.Orders.{request}
+use Rattle.servo_rules.specs.declared.Halt.the-variants.{Here}
+use Rattle.servo_rules.specs.declared.Order.{Order}
+use Rattle.servo_rules.specs.declared.Order.the-variants.{Stop}
 use Rattle.servo_rules.specs.declared.Sample.{Sample}
 use Rattle.servo_rules.specs.declared.Mode.{Mode}
 use Rattle.servo_rules.specs.declared.Mode.the-variants.{Velocity, Trapezoid}
 use Rattle.servo_rules.specs.declared.Servo.{Servo}
-use Rattle.servo_rules.specs.Servo.{position, started, sampled}
-use Rattle.servo_rules.specs.Orders.{can, execute}
+use Rattle.servo_rules.specs.State.{position, started, sampled}
+use Rattle.servo_rules.specs.Perform.{can}
 use Rattle.servo_rules.specs.Tick.{ticked}
+use Rattle.servo_rules.specs.Answers.{request, execute}
 use Rattle.servo_rules.specs.LoadPromises.{Starting}
 use Rattle.servo_rules.specs.StopPromises.{Counted}
 
@@ -32,7 +32,7 @@ pub record Rests (p : Profile) (mode : Mode) (value : ℤ) : Type 0 where
   pub goal : mode ≡ Trapezoid → left p ≡ pos 0
 
 abbrev pub Resting : Servo → Type 0
-Resting m = Rests (m .profile) (m .drive .mode) (m .drive .pulse)
+Resting m = Rests (m .run .profile) (m .run .drive .mode) (m .run .drive .pulse)
 
 -- A servo at rest stays at rest, and its setpoint where it is, until a Start or a load with bit 7 is carried out.
 pub record StaysResting : Type 0 where
@@ -40,22 +40,22 @@ pub record StaysResting : Type 0 where
   pub frame : (f : Frame) (alone : Bool) (m : Servo)
       → Counted m
       → Resting m
-      → ((c : Order) → f .damaged ≡ false → request f alone ≡ Wants c → can c m ≡ true → Starting c → ⊥)
+      → ((c : Order) → f .damaged ≡ false → request f alone ≡ wants c → can c m ≡ true → Starting c → ⊥)
       → Resting (execute f alone m)
   pub sampling : (x : Sample) (m : Servo) → Resting m → Resting (sampled x m)
   pub tick : (m : Servo)
-      → m .profile .setpoint < 2 ^ 48
+      → m .run .profile .setpoint < 2 ^ 48
       → Resting m
-      → Resting (ticked m) × (ticked m .profile .setpoint ≡ m .profile .setpoint)
+      → Resting (ticked m) × (ticked m .run .profile .setpoint ≡ m .run .profile .setpoint)
 
 -- how far the setpoint is from the position
 abbrev pub following : Servo → ℤ
-following m = difference (whole (m .profile .setpoint)) (position m)
+following m = difference (whole (m .run .profile .setpoint)) (position m)
 
 -- No frame but an executed Stop Here puts the setpoint elsewhere: it stays as far from the position as it was, or is put at the position.
 abbrev pub OnlyHere : Type 0
 OnlyHere =
     (f : Frame) (alone : Bool) (m : Servo)
     → Counted m
-    → ((a : Bool) (x : ℕ) → f .damaged ≡ false → request f alone ≡ Wants (Stop a Here x) → can (Stop a Here x) m ≡ true → ⊥)
+    → ((a : Bool) (x : ℕ) → f .damaged ≡ false → request f alone ≡ wants (Stop a Here x) → can (Stop a Here x) m ≡ true → ⊥)
     → (following (execute f alone m) ≡ following m) ⊎ (following (execute f alone m) ≡ pos 0)

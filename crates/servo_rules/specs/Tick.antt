@@ -1,28 +1,22 @@
--- The servo's tick (document 01, "Tick" and "Filter"): samples are latched, then power, then the profile, then the filter.
+-- The servo's tick (document 01, "Tick" and "Filter"): the sample is latched, then power, then the profile, then the filter.
 use mathlib.Core.Path.{_≡_}
 use Prim.Native.Nat.{ℕ, _<_, _≤_}
-use mathlib.Core.Bool.{Bool, true, false, cond}
+use mathlib.Core.Bool.{true, false, cond}
 use lib.Dec.{eqb}
 use lib.IntN.{ℤ, pos, natAbs}
 use Rattle.base_integers.specs.Whole.{difference}
 use Rattle.servo_motion.specs.declared.Profile.{Profile}
 use Rattle.servo_motion.specs.Setpoint.{whole}
 use Rattle.servo_motion.specs.Profile.{Ranged, byTrapezoid, byVelocity}
+use Rattle.servo_filter.specs.declared.Gains.{Gains}
 use Rattle.servo_filter.specs.declared.Filtered.{Filtered}
 use Rattle.servo_filter.specs.declared.Filtered.the-variants as Filters
 use Rattle.servo_filter.specs.Filter.{Kept, held, filtered}
 use Rattle.servo_rules.specs.declared.Mode.{Mode}
 use Rattle.servo_rules.specs.declared.Mode.the-variants.{Off, Pwm, Hold, Velocity, Trapezoid}
+use Rattle.servo_rules.specs.declared.Run.{Run}
 use Rattle.servo_rules.specs.declared.Servo.{Servo}
-use Rattle.servo_rules.specs.Servo.{position, powered, withProfile, withDrive, running, putting, withError, withAmplifier, off}
-
--- 01 Tick: the samples are latched, and the position before the tick is kept
-abbrev pub latch : Servo → Servo
-latch m = record { station = m .station; waiting = m .waiting; latched = m .waiting; counts = record { offset = m .counts .offset; last = position m }; tuning = m .tuning; rates = m .rates; load = m .load; profile = m .profile; memory = m .memory; drive = m .drive }
-
--- 01 Tick: at power 0 servo and PWM go off, and the amplifier bit is cleared
-unfoldable pub unpowered : Servo → Servo
-unpowered m = withDrive (withAmplifier false (off m .drive)) (off m)
+use Rattle.servo_rules.specs.State.{positionAt, position, good, running, withProfile, withDrive, putting, erring, amplified, off}
 
 -- 01 Tick: the profile's step
 abbrev pub advancedBy : Mode → Profile → Profile
@@ -32,46 +26,60 @@ advancedBy Hold p = p
 advancedBy Velocity p = byVelocity p
 advancedBy Trapezoid p = byTrapezoid p
 
-unfoldable pub advanced : Servo → Profile
-advanced m = advancedBy (m .drive .mode) (m .profile)
+unfoldable pub advanced : Run → Profile
+advanced r = advancedBy (r .drive .mode) (r .profile)
+
+-- 01 Tick: at power 0 servo and PWM go off, and the amplifier bit is cleared
+unfoldable pub unpowered : Run → Run
+unpowered r = amplified false (off r)
 
 -- 01 Filter: at power 2 the output is 0, all else runs
-unfoldable pub putOut : ℤ → Servo → ℤ
-putOut u m = cond (powered m) u (pos 0)
+unfoldable pub putOut : ℕ → ℤ → ℤ
+putOut power u = cond (good power) u (pos 0)
 
 -- 01 Filter: an error above EL, after the profile's step to p, sets the error bit and ends in off
-unfoldable pub tripped : Profile → Servo → Servo
-tripped p m = withDrive (withError true (off (withProfile p m) .drive)) (off (withProfile p m))
+unfoldable pub tripped : Profile → Run → Run
+tripped p r = erring true (off (withProfile p r))
 
-abbrev pub filteredTo : Filtered → Profile → Servo → Servo
-filteredTo (Filters.Output y u) p m = running p y (putting (putOut u m) (m .drive)) m
-filteredTo Filters.Off p m = tripped p m
+abbrev pub filteredTo : Filtered → ℕ → Profile → Run → Run
+filteredTo (Filters.Output y u) power p r = running p y (putting (putOut power u) (r .drive))
+filteredTo Filters.Off power p r = tripped p r
 
--- 01 Filter: at the new setpoint and the new position
-unfoldable pub servoed : Servo → Servo
-servoed m =
-    filteredTo (filtered (m .tuning .gains) (m .memory) (difference (whole (advanced m .setpoint)) (position m))) (advanced m) m
+-- 01 Filter: the following error, at the new setpoint and the position here
+abbrev pub followedAt : ℕ → Run → ℤ
+followedAt here r = difference (whole (advanced r .setpoint)) here
+
+unfoldable pub servoed : ℕ → ℕ → Gains → Run → Run
+servoed power here g r = filteredTo (filtered g (r .memory) (followedAt here r)) power (advanced r) r
 
 -- 01 Filter: PWM puts out the loaded value, held to OL
-unfoldable pub pulsed : Servo → Servo
-pulsed m = withDrive (putting (putOut (held (m .tuning .gains .ol) (m .drive .pulse)) m) (m .drive)) m
+unfoldable pub pulsed : ℕ → ℕ → Run → Run
+pulsed power ol r = withDrive (putting (putOut power (held ol (r .drive .pulse))) (r .drive)) r
 
-abbrev pub drivenBy : Mode → Servo → Servo
-drivenBy Off m = m
-drivenBy Pwm m = pulsed m
-drivenBy Hold m = servoed m
-drivenBy Velocity m = servoed m
-drivenBy Trapezoid m = servoed m
+abbrev pub drivenBy : Mode → ℕ → ℕ → Gains → Run → Run
+drivenBy Off power here g r = r
+drivenBy Pwm power here g r = pulsed power (g .ol) r
+drivenBy Hold power here g r = servoed power here g r
+drivenBy Velocity power here g r = servoed power here g r
+drivenBy Trapezoid power here g r = servoed power here g r
 
-abbrev pub powerSeen : Servo → Servo
-powerSeen m = cond (eqb (m .latched .power) 0) (unpowered m) (drivenBy (m .drive .mode) m)
+-- what a tick makes of what runs, at the latched power and the position here, with these gains and limits
+unfoldable pub ran : ℕ → ℕ → Gains → Run → Run
+ran power here g r = cond (eqb power 0) (unpowered r) (drivenBy (r .drive .mode) power here g r)
 
+-- 01 Tick: the waiting sample is latched and the position before the tick kept; then what runs goes on, at the new power and position
 unfoldable pub ticked : Servo → Servo
-ticked m = powerSeen (latch m)
+ticked m = record {
+  station = m .station;
+  samples = record { waiting = m .samples .waiting; latched = m .samples .waiting };
+  counts = record { offset = m .counts .offset; last = position m };
+  settings = m .settings;
+  run = ran (m .samples .waiting .power) (positionAt (m .samples .waiting) (m .counts)) (m .settings .tuning .gains) (m .run);
+}
 
--- what every stored servo has, and a tick's arithmetic needs
-pub record Steady (m : Servo) : Type 0 where
-  pub profile : Ranged (m .profile)
-  pub memory : Kept (m .memory)
-  pub pulse : natAbs (m .drive .pulse) ≤ 255
-  pub force : m .drive .mode ≡ Trapezoid → 0 < m .profile .acceleration
+-- what every stored servo's run has, and a tick's arithmetic needs
+pub record Steady (r : Run) : Type 0 where
+  pub profile : Ranged (r .profile)
+  pub memory : Kept (r .memory)
+  pub pulse : natAbs (r .drive .pulse) ≤ 255
+  pub force : r .drive .mode ≡ Trapezoid → 0 < r .profile .acceleration

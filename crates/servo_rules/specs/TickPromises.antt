@@ -4,67 +4,78 @@ use mathlib.Core.Logic.{_⊎_}
 use Prim.Native.Nat.{_≤_, _<_}
 use mathlib.Core.Bool.{Bool, true, false}
 use lib.IntN.{ℤ, pos, natAbs}
-use Rattle.base_integers.specs.Whole.{difference}
 use Rattle.line_receiver.specs.Frames.{Frame}
-use Rattle.servo_motion.specs.Setpoint.{whole}
+use Rattle.module_rules.specs.Rules.{reset, wants}
 use Rattle.servo_filter.specs.declared.Memory.{Memory}
 use Rattle.servo_filter.specs.Filter.{held, summed, driven, output}
-use Rattle.servo_parse.specs.declared.Order.{Order}
-use Rattle.servo_parse.specs.declared.Order.the-variants.{Reset, ClearBits}
+use Rattle.servo_rules.specs.declared.Order.{Order}
+use Rattle.servo_rules.specs.declared.Order.the-variants.{ClearBits}
 use Rattle.servo_rules.specs.declared.Sample.{Sample}
 use Rattle.servo_rules.specs.declared.Mode.the-variants.{Off, Pwm}
 use Rattle.servo_rules.specs.declared.Servo.{Servo}
-use Rattle.servo_rules.specs.Servo.{position, servoOff, started, withDrive, sampled, withError}
-use Rattle.servo_rules.specs.Orders.{perform, execute}
-use Rattle.servo_rules.specs.Tick.{latch, advanced, ticked}
+use Rattle.servo_rules.specs.State.{positionAt, position, servoOff, started, withRun, sampled, erring}
+use Rattle.servo_rules.specs.Perform.{perform}
+use Rattle.servo_rules.specs.Tick.{advanced, followedAt, ticked}
+use Rattle.servo_rules.specs.Answers.{servo, request, execute}
 use Rattle.servo_rules.specs.StopPromises.{Released}
 
 -- the following error that a tick's filter sees: at the new setpoint and the new position
 abbrev pub followed : Servo → ℤ
-followed m = difference (whole (advanced (latch m) .setpoint)) (position (latch m))
+followed m = followedAt (positionAt (m .samples .waiting) (m .counts)) (m .run)
 
 -- the filter's memory after it, and what it works out
 abbrev pub remembered : Servo → Memory
-remembered m = record { integral = summed (m .tuning .gains) (m .memory) (followed m); previous = followed m }
+remembered m = record { integral = summed (m .settings .tuning .gains) (m .run .memory) (followed m); previous = followed m }
 
 abbrev pub worked : Servo → ℤ
-worked m = output (m .tuning .gains .ol) (driven (m .tuning .gains) (m .memory) (followed m))
+worked m = output (m .settings .tuning .gains .ol) (driven (m .settings .tuning .gains) (m .run .memory) (followed m))
 
 -- A tick latches what waited and keeps the position before it; station, tuning, rates and load never change in it (01 Tick).
 pub record Ticking (m : Servo) : Type 0 where
-  pub latched : ticked m .latched ≡ m .waiting
+  pub latched : ticked m .samples .latched ≡ m .samples .waiting
   pub last : ticked m .counts .last ≡ position m
   pub offset : ticked m .counts .offset ≡ m .counts .offset
   pub station : ticked m .station ≡ m .station
-  pub waiting : ticked m .waiting ≡ m .waiting
-  pub tuning : ticked m .tuning ≡ m .tuning
-  pub rates : ticked m .rates ≡ m .rates
-  pub load : ticked m .load ≡ m .load
+  pub waiting : ticked m .samples .waiting ≡ m .samples .waiting
+  pub tuning : ticked m .settings .tuning ≡ m .settings .tuning
+  pub rates : ticked m .settings .rates ≡ m .settings .rates
+  pub load : ticked m .settings .load ≡ m .settings .load
   -- power 0 ends in off with the amplifier bit clear
-  pub low : m .waiting .power ≡ 0 → Released (ticked m) × (ticked m .drive .amplifier ≡ false)
+  pub low : m .samples .waiting .power ≡ 0 → Released (ticked m .run) × (ticked m .run .drive .amplifier ≡ false)
   -- any other power leaves that bit
-  pub amplifier : (m .waiting .power ≡ 0 → ⊥) → ticked m .drive .amplifier ≡ m .drive .amplifier
+  pub amplifier : (m .samples .waiting .power ≡ 0 → ⊥) → ticked m .run .drive .amplifier ≡ m .run .drive .amplifier
   -- no power but 1 has an output
-  pub unpowered : (m .waiting .power ≡ 1 → ⊥) → (m .drive .mode ≡ Off → m .drive .output ≡ pos 0) → ticked m .drive .output ≡ pos 0
+  pub unpowered : (m .samples .waiting .power ≡ 1 → ⊥) → (m .run .drive .mode ≡ Off → m .run .drive .output ≡ pos 0)
+      → ticked m .run .drive .output ≡ pos 0
   -- off with any power but 0: only the samples and the last position change
-  pub off : (m .waiting .power ≡ 0 → ⊥) → m .drive .mode ≡ Off → ticked m ≡ latch m
+  pub off : (m .samples .waiting .power ≡ 0 → ⊥) → m .run .drive .mode ≡ Off
+      → ticked m
+      ≡ record {
+        station = m .station;
+        samples = record { waiting = m .samples .waiting; latched = m .samples .waiting };
+        counts = record { offset = m .counts .offset; last = position m };
+        settings = m .settings;
+        run = m .run;
+      }
   -- PWM stays as it is, and at power 1 the loaded value is put out, held to OL
-  pub pulse : (m .waiting .power ≡ 0 → ⊥) → m .drive .mode ≡ Pwm
-      → (ticked m .profile ≡ m .profile)
-      × (ticked m .memory ≡ m .memory)
-      × (ticked m .drive .mode ≡ Pwm)
-      × (ticked m .drive .pulse ≡ m .drive .pulse)
-      × (m .waiting .power ≡ 1 → ticked m .drive .output ≡ held (m .tuning .gains .ol) (m .drive .pulse))
+  pub pulse : (m .samples .waiting .power ≡ 0 → ⊥) → m .run .drive .mode ≡ Pwm
+      → (ticked m .run .profile ≡ m .run .profile)
+      × (ticked m .run .memory ≡ m .run .memory)
+      × (ticked m .run .drive .mode ≡ Pwm)
+      × (ticked m .run .drive .pulse ≡ m .run .drive .pulse)
+      × (m .samples .waiting .power ≡ 1 → ticked m .run .drive .output ≡ held (m .settings .tuning .gains .ol) (m .run .drive .pulse))
   -- a following error above EL sets the error bit and ends in off
-  pub trip : (m .waiting .power ≡ 0 → ⊥) → servoOff (m .drive .mode) ≡ false → m .tuning .gains .el < natAbs (followed m)
-      → Released (ticked m) × (ticked m .drive .error ≡ true)
+  pub trip : (m .samples .waiting .power ≡ 0 → ⊥) → servoOff (m .run .drive .mode) ≡ false
+      → m .settings .tuning .gains .el < natAbs (followed m)
+      → Released (ticked m .run) × (ticked m .run .drive .error ≡ true)
   -- with any other the profile makes its step, and the filter its own, which at power 1 is put out
-  pub runs : (m .waiting .power ≡ 0 → ⊥) → servoOff (m .drive .mode) ≡ false → natAbs (followed m) ≤ m .tuning .gains .el
-      → (ticked m .profile ≡ advanced (latch m))
-      × (ticked m .memory ≡ remembered m)
-      × (ticked m .drive .mode ≡ m .drive .mode)
-      × (ticked m .drive .error ≡ m .drive .error)
-      × (m .waiting .power ≡ 1 → ticked m .drive .output ≡ worked m)
+  pub runs : (m .samples .waiting .power ≡ 0 → ⊥) → servoOff (m .run .drive .mode) ≡ false
+      → natAbs (followed m) ≤ m .settings .tuning .gains .el
+      → (ticked m .run .profile ≡ advanced (m .run))
+      × (ticked m .run .memory ≡ remembered m)
+      × (ticked m .run .drive .mode ≡ m .run .drive .mode)
+      × (ticked m .run .drive .error ≡ m .run .drive .error)
+      × (m .samples .waiting .power ≡ 1 → ticked m .run .drive .output ≡ worked m)
 
 abbrev pub Ticks : Type 0
 Ticks = (m : Servo) → Ticking m
@@ -73,13 +84,13 @@ Ticks = (m : Servo) → Ticking m
 abbrev pub Between : Type 0
 Between =
     (f : Frame) (alone : Bool) (m : Servo)
-    → (execute f alone m .drive .output ≡ m .drive .output)
-    ⊎ ((execute f alone m .drive .output ≡ pos 0) × (servoOff (execute f alone m .drive .mode) ≡ true))
+    → (execute f alone m .run .drive .output ≡ m .run .drive .output)
+    ⊎ ((execute f alone m .run .drive .output ≡ pos 0) × (servoOff (execute f alone m .run .drive .mode) ≡ true))
 
 -- A motor is driven only at power 1 and not in off: so at power-up, and every frame, sample and tick keeps it.
 pub record Silent (m : Servo) : Type 0 where
-  pub off : m .drive .mode ≡ Off → m .drive .output ≡ pos 0
-  pub unpowered : (m .latched .power ≡ 1 → ⊥) → m .drive .output ≡ pos 0
+  pub off : m .run .drive .mode ≡ Off → m .run .drive .output ≡ pos 0
+  pub unpowered : (m .samples .latched .power ≡ 1 → ⊥) → m .run .drive .output ≡ pos 0
 
 pub record DrivenOnly : Type 0 where
   pub power : Silent started
@@ -89,8 +100,13 @@ pub record DrivenOnly : Type 0 where
 
 -- Only Hard Reset and a following error above EL set the error bit, and only Clear Bits clears it (01 Servo).
 pub record ErrorBit : Type 0 where
-  pub order : (c : Order) (m : Servo) → (c ≡ Reset → ⊥) → (c ≡ ClearBits → ⊥) → perform c m .drive .error ≡ m .drive .error
-  pub reset : (m : Servo) → perform Reset m .drive .error ≡ true
-  pub clear : (m : Servo) → perform ClearBits m ≡ withDrive (withError false (m .drive)) m
+  pub order : (c : Order) (m : Servo) → (c ≡ ClearBits → ⊥) → perform c m .run .drive .error ≡ m .run .drive .error
+  pub frame : (f : Frame) (alone : Bool) (m : Servo)
+      → (f .damaged ≡ false → request f alone ≡ reset → ⊥)
+      → (f .damaged ≡ false → request f alone ≡ wants ClearBits → ⊥)
+      → execute f alone m .run .drive .error ≡ m .run .drive .error
+  pub reset : (m : Servo) → servo .renewed m .run .drive .error ≡ true
+  pub clear : (m : Servo) → perform ClearBits m ≡ withRun (erring false (m .run)) m
   pub tick : (m : Servo)
-      → (ticked m .drive .error ≡ m .drive .error) ⊎ ((ticked m .drive .error ≡ true) × (m .tuning .gains .el < natAbs (followed m)))
+      → (ticked m .run .drive .error ≡ m .run .drive .error)
+      ⊎ ((ticked m .run .drive .error ≡ true) × (m .settings .tuning .gains .el < natAbs (followed m)))

@@ -1,8 +1,17 @@
-// The servo, type 0 version 10: what it consists of. What happens to it, and what it tells, is defined in specs/.
-use module_station::Station;
+// The servo, type 0 version 10: what it consists of, and what a frame asks of it. Types, definitions and promises; no function.
+use module_rules::Setting;
+use module_rules::Station;
+use servo_filter::Gains;
 use servo_filter::Memory;
 use servo_motion::Profile;
-use servo_parse::Tuning;
+
+pub const TYPE: u8 = 0;
+
+// How many bytes each item has.
+pub const SIZES: [u8; 8] = [4, 1, 2, 1, 4, 2, 2, 1];
+
+// The item of type and version: the type's number, and the version above it.
+pub const TYPE_AND_VERSION: u32 = 2560;
 
 // What the board measures: the raw count, power 0 low, 1 good, 2 high, and an A/D byte.
 pub struct Sample {
@@ -11,19 +20,31 @@ pub struct Sample {
     pub ad: u8,
 }
 
+// The sample that waits for the next tick, and the one that the last tick latched.
+pub struct Samples {
+    pub waiting: Sample,
+    pub latched: Sample,
+}
+
 // The position is the raw count less the offset; last is the position before the last tick.
 pub struct Counts {
     pub offset: u32,
     pub last: u32,
 }
 
-// What drives the motor.
-pub enum Mode {
-    Off,
-    Pwm,
-    Hold,
-    Velocity,
-    Trapezoid,
+// What Set Gain brings.
+pub struct Tuning {
+    pub gains: Gains,
+    pub cl: u8,
+    pub sm: u8,
+}
+
+// Velocity and acceleration of executed loads since power-up, and whether one carried them.
+pub struct Rates {
+    pub velocity: u32,
+    pub acceleration: u32,
+    pub paced: bool,
+    pub ramped: bool,
 }
 
 // What a load asks for: a PWM value, a speed, a move to a position.
@@ -44,12 +65,20 @@ pub struct Load {
     pub reverse: bool,
 }
 
-// Velocity and acceleration of executed loads since power-up, and whether one carried them.
-pub struct Rates {
-    pub velocity: u32,
-    pub acceleration: u32,
-    pub paced: bool,
-    pub ramped: bool,
+// What frames store for later.
+pub struct Settings {
+    pub tuning: Tuning,
+    pub rates: Rates,
+    pub load: Load,
+}
+
+// What drives the motor.
+pub enum Mode {
+    Off,
+    Pwm,
+    Hold,
+    Velocity,
+    Trapezoid,
 }
 
 // The mode, the PWM value, the motor output, the error bit and the amplifier bit.
@@ -61,15 +90,53 @@ pub struct Drive {
     pub amplifier: bool,
 }
 
-pub struct Servo {
-    pub station: Station,
-    pub waiting: Sample,
-    pub latched: Sample,
-    pub counts: Counts,
-    pub tuning: Tuning,
-    pub rates: Rates,
-    pub load: Load,
+// What runs: where the setpoint goes, what the filter remembers, and what drives the motor.
+pub struct Run {
     pub profile: Profile,
     pub memory: Memory,
     pub drive: Drive,
+}
+
+pub struct Servo {
+    pub station: Station,
+    pub samples: Samples,
+    pub counts: Counts,
+    pub settings: Settings,
+    pub run: Run,
+}
+
+// What a Load Trajectory carries; 0 for what it does not.
+pub struct Carried {
+    pub control: u8,
+    pub place: u32,
+    pub velocity: u32,
+    pub acceleration: u32,
+    pub pulse: u8,
+}
+
+// The kinds of Stop: none of bits 1 to 4, off, abrupt, smooth, Stop Here.
+pub enum Halt {
+    Keep,
+    Release,
+    Abrupt,
+    Smooth,
+    Here,
+}
+
+// The servo's own commands.
+pub enum Order {
+    ResetPosition,
+    LoadTrajectory(Carried),
+    Start,
+    SetGain(Tuning),
+    Stop(bool, Halt, u32),
+    ClearBits,
+}
+
+// What a frame asks.
+pub enum Request {
+    Malformed,
+    Set(Setting),
+    Reset,
+    Wants(Order),
 }

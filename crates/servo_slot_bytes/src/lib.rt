@@ -4,15 +4,21 @@ ghost use mathlib.Core.List.{[], _∷_, _++_};
 ghost use Rattle.base_integers.specs.Whole.{word};
 ghost use Rattle.base_layout.specs.Bytes.{le};
 ghost use Rattle.base_layout.specs.Codec.{bit};
-ghost use Rattle.servo_slot_rules.specs.Slot.{wayByte, modeByte, sample, tuning, rates, load, memory, drive};
+ghost use Rattle.servo_slot_rules.specs.Slot.{wayByte, modeByte, sample, counts, tuning, rates, load, memory, drive};
 use servo_filter::Memory;
-use servo_parse::Tuning;
+use servo_rules::Counts;
 use servo_rules::Drive;
 use servo_rules::Load;
 use servo_rules::Mode;
 use servo_rules::Rates;
 use servo_rules::Sample;
+use servo_rules::Tuning;
 use servo_rules::Way;
+
+// The setpoint of a profile, and what stands after it.
+const SETPOINT_LEN: usize = servo_slot_rules::SPEED_AT - servo_slot_rules::SETPOINT_AT;
+
+const COURSE_LEN: usize = servo_slot_rules::MEMORY_AT - servo_slot_rules::SPEED_AT;
 
 fn way_byte(w: Way) -> u8
     ensures { λ r. ⌜ r ≡ wayByte w ⌝ }
@@ -36,7 +42,7 @@ fn mode_byte(m: Mode) -> u8
     }
 }
 
-pub fn sample_bytes(x: Sample) -> [u8; 6]
+pub fn sample_bytes(x: Sample) -> [u8; servo_slot_rules::SAMPLE_LEN]
     ensures { λ r. ⌜ r ≡ sample .codec .enc x ⌝ }
 {
     [
@@ -50,7 +56,7 @@ pub fn sample_bytes(x: Sample) -> [u8; 6]
 }
 
 // Two numbers of four bytes.
-pub fn pair_bytes(a: u32, b: u32) -> [u8; 8]
+fn pair_bytes(a: u32, b: u32) -> [u8; 8]
     ensures { λ r. ⌜ r ≡ le 4 a ++ le 4 b ⌝ }
 {
     [
@@ -65,7 +71,13 @@ pub fn pair_bytes(a: u32, b: u32) -> [u8; 8]
     ]
 }
 
-pub fn tuning_bytes(t: Tuning) -> [u8; 13]
+pub fn counts_bytes(k: Counts) -> [u8; servo_slot_rules::COUNTS_LEN]
+    ensures { λ r. ⌜ r ≡ counts .codec .enc k ⌝ }
+{
+    pair_bytes(k.offset, k.last)
+}
+
+pub fn tuning_bytes(t: Tuning) -> [u8; servo_slot_rules::TUNING_LEN]
     ensures { λ r. ⌜ r ≡ tuning .codec .enc t ⌝ }
 {
     let g = t.gains;
@@ -86,7 +98,7 @@ pub fn tuning_bytes(t: Tuning) -> [u8; 13]
     ]
 }
 
-pub fn rates_bytes(r: Rates) -> [u8; 10]
+pub fn rates_bytes(r: Rates) -> [u8; servo_slot_rules::RATES_LEN]
     ensures { λ q. ⌜ q ≡ rates .codec .enc r ⌝ }
 {
     [
@@ -103,7 +115,7 @@ pub fn rates_bytes(r: Rates) -> [u8; 10]
     ]
 }
 
-pub fn load_bytes(l: Load) -> [u8; 10]
+pub fn load_bytes(l: Load) -> [u8; servo_slot_rules::LOAD_LEN]
     ensures { λ r. ⌜ r ≡ load .codec .enc l ⌝ }
 {
     let w = l.way;
@@ -122,7 +134,7 @@ pub fn load_bytes(l: Load) -> [u8; 10]
     ]
 }
 
-pub fn setpoint_bytes(x: u64) -> [u8; 6]
+pub fn setpoint_bytes(x: u64) -> [u8; SETPOINT_LEN]
     ensures { λ r. ⌜ r ≡ le 6 x ⌝ }
 {
     [
@@ -136,7 +148,13 @@ pub fn setpoint_bytes(x: u64) -> [u8; 6]
 }
 
 // What stands after the setpoint: five numbers of four bytes.
-pub fn course_bytes(speed: u32, goal: u32, aim: u32, acceleration: u32, top: u32) -> [u8; 20]
+pub fn course_bytes(
+    speed: u32,
+    goal: u32,
+    aim: u32,
+    acceleration: u32,
+    top: u32,
+) -> [u8; COURSE_LEN]
     ensures { λ r. ⌜ r ≡ le 4 speed ++ le 4 goal ++ le 4 aim ++ le 4 acceleration ++ le 4 top ⌝ }
 {
     [
@@ -163,7 +181,7 @@ pub fn course_bytes(speed: u32, goal: u32, aim: u32, acceleration: u32, top: u32
     ]
 }
 
-pub fn memory_bytes(y: Memory) -> [u8; 8]
+pub fn memory_bytes(y: Memory) -> [u8; servo_slot_rules::MEMORY_LEN]
     ensures { λ r. ⌜ r ≡ memory .codec .enc y ⌝ }
 {
     pair_bytes(
@@ -173,7 +191,13 @@ pub fn memory_bytes(y: Memory) -> [u8; 8]
 }
 
 // The mode's number, the two numbers as words and the two bits of a drive.
-fn drive_parts_bytes(mode: u8, pulse: u32, output: u32, error: bool, amplifier: bool) -> [u8; 11]
+fn drive_parts_bytes(
+    mode: u8,
+    pulse: u32,
+    output: u32,
+    error: bool,
+    amplifier: bool,
+) -> [u8; servo_slot_rules::DRIVE_LEN]
     ensures { λ r. ⌜ r ≡ mode ∷ le 4 pulse ++ le 4 output ++ bit error ∷ bit amplifier ∷ [] ⌝ }
 {
     [
@@ -191,7 +215,7 @@ fn drive_parts_bytes(mode: u8, pulse: u32, output: u32, error: bool, amplifier: 
     ]
 }
 
-pub fn drive_bytes(d: Drive) -> [u8; 11]
+pub fn drive_bytes(d: Drive) -> [u8; servo_slot_rules::DRIVE_LEN]
     ensures { λ r. ⌜ r ≡ drive .codec .enc d ⌝ }
 {
     let mode = d.mode;

@@ -5,13 +5,29 @@ ghost use lib.ListN.{length};
 ghost use Rattle.base_layout.specs.Every.{every, everyFrom};
 ghost use Rattle.servo_motion.specs.Profile.{Ranged};
 ghost use Rattle.servo_slot_rules.specs.List.{ratesFit, memoryFits, driveFits, emptied, silent, unpulsed, still, live, modeFits, soundAt};
-ghost use Rattle.servo_slot_rules.specs.Slot.{okOf};
-ghost use Rattle.servo_slot_rules.specs.Parts.{frontTests, loadTests, motionTests};
+ghost use Rattle.servo_slot_rules.specs.Slot.{servoSize, okOf};
+ghost use Rattle.servo_slot_rules.specs.Parts.{frontTests, loadTests, runTests};
 use servo_filter::Memory;
 use servo_motion::Profile;
 use servo_rules::Drive;
 use servo_rules::Mode;
 use servo_rules::Rates;
+use servo_rules::Run;
+
+// Power in either sample, and the upper bytes of gains and limits.
+const WAITING_POWER_AT: usize = servo_slot_rules::WAITING_AT + 4;
+
+const LATCHED_POWER_AT: usize = servo_slot_rules::LATCHED_AT + 4;
+
+const KP_TOP_AT: usize = servo_slot_rules::KP_AT + 1;
+
+const KD_TOP_AT: usize = servo_slot_rules::KD_AT + 1;
+
+const KI_TOP_AT: usize = servo_slot_rules::KI_AT + 1;
+
+const IL_TOP_AT: usize = servo_slot_rules::IL_AT + 1;
+
+const EL_TOP_AT: usize = servo_slot_rules::EL_AT + 1;
 
 fn do_rates_fit(r: Rates) -> bool
     ensures { λ q. ⌜ q ≡ ratesFit r ⌝ }
@@ -64,10 +80,13 @@ fn is_live(power: u8, d: Drive) -> bool
 }
 
 // What the mode asks.
-fn does_mode_fit(mode: Mode, power: u8, p: Profile, y: Memory, d: Drive) -> bool
-    requires { ⌜ Ranged p ⌝ }
-    ensures { λ r. ⌜ r ≡ modeFits mode power p y d ⌝ }
+fn does_mode_fit(mode: Mode, power: u8, r: Run) -> bool
+    requires { ⌜ Ranged (r .profile) ⌝ }
+    ensures { λ q. ⌜ q ≡ modeFits mode power r ⌝ }
 {
+    let p = r.profile;
+    let y = r.memory;
+    let d = r.drive;
     match mode {
         Mode::Off => is_still(p) & is_silent(d) & is_emptied(y) & is_unpulsed(d),
         Mode::Pwm => is_still(p) & is_emptied(y) & is_live(power, d),
@@ -77,75 +96,74 @@ fn does_mode_fit(mode: Mode, power: u8, p: Profile, y: Memory, d: Drive) -> bool
     }
 }
 
-fn is_sound(power: u8, p: Profile, y: Memory, d: Drive) -> bool
-    requires { ⌜ Ranged p ⌝ }
-    ensures { λ r. ⌜ r ≡ soundAt power p y d ⌝ }
+fn is_sound(power: u8, r: Run) -> bool
+    requires { ⌜ Ranged (r .profile) ⌝ }
+    ensures { λ q. ⌜ q ≡ soundAt power r ⌝ }
 {
+    let d = r.drive;
     let mode = d.mode;
-    ((power == 1) | is_silent(d)) & does_mode_fit(mode, power, p, y, d)
+    ((power == 1) | is_silent(d)) & does_mode_fit(mode, power, r)
 }
 
-// The tests of the bytes up to place 38: type, station, both powers, gains and limits.
+// The tests of the bytes before the rates: type, station, both powers, gains and limits.
 fn is_front_ok(s: &[u8]) -> bool
-    requires { ⌜ 106 ≤ length (now s) ⌝ }
+    requires { ⌜ servoSize ≤ length (now s) ⌝ }
     ensures { λ r. ⌜ r ≡ every (frontTests (now (s .entry))) ⌝ }
 {
-    (s[0] == 0)
-        & (s[3] <= 1)
-        & (s[4] <= 1)
-        & (s[5] <= 3)
-        & (s[12] <= 2)
-        & (s[18] <= 2)
-        & (s[29] <= 127)
-        & (s[31] <= 127)
-        & (s[33] <= 127)
-        & (s[35] <= 127)
-        & (s[38] <= 63)
+    (s[0] == servo_rules::TYPE)
+        & (s[module_rules::LEADER_AT] <= 1)
+        & (s[module_rules::LOW_AT] <= 1)
+        & (s[module_rules::CAUSE_AT] <= 3)
+        & (s[WAITING_POWER_AT] <= 2)
+        & (s[LATCHED_POWER_AT] <= 2)
+        & (s[KP_TOP_AT] <= 127)
+        & (s[KD_TOP_AT] <= 127)
+        & (s[KI_TOP_AT] <= 127)
+        & (s[IL_TOP_AT] <= 127)
+        & (s[EL_TOP_AT] <= 63)
 }
 
 // What was tested so far, and the tests of rates and load.
 fn is_load_ok(ok: bool, s: &[u8], r: Rates) -> bool
-    requires { ⌜ 106 ≤ length (now s) ⌝ }
+    requires { ⌜ servoSize ≤ length (now s) ⌝ }
     ensures { λ q. ⌜ q ≡ everyFrom ok (loadTests r (now (s .entry))) ⌝ }
 {
     ok
-        & (s[49] <= 1)
-        & (s[50] <= 1)
+        & (s[servo_slot_rules::PACED_AT] <= 1)
+        & (s[servo_slot_rules::RAMPED_AT] <= 1)
         & do_rates_fit(r)
-        & (s[51] <= 1)
-        & (s[52] <= 2)
-        & (s[53] <= 1)
-        & (s[58] <= 1)
-        & (s[60] <= 1)
+        & (s[servo_slot_rules::WAITS_AT] <= 1)
+        & (s[servo_slot_rules::WAY_AT] <= 2)
+        & (s[servo_slot_rules::PLACED_AT] <= 1)
+        & (s[servo_slot_rules::PULSED_AT] <= 1)
+        & (s[servo_slot_rules::REVERSE_AT] <= 1)
 }
 
 // What was tested so far, and the tests of what runs.
-fn is_motion_ok(ok: bool, s: &[u8], p: Profile, y: Memory, d: Drive) -> bool
-    requires { ⌜ 106 ≤ length (now s) ⌝ }
-    ensures { λ q. ⌜ q ≡ everyFrom ok (motionTests p y d (now (s .entry))) ⌝ }
+fn is_run_ok(ok: bool, s: &[u8], r: Run) -> bool
+    requires { ⌜ servoSize ≤ length (now s) ⌝ }
+    ensures { λ q. ⌜ q ≡ everyFrom ok (runTests r (now (s .entry))) ⌝ }
 {
     ok
-        & p.is_in_range()
-        & does_memory_fit(y)
-        & (s[95] <= 4)
-        & (s[104] <= 1)
-        & (s[105] <= 1)
-        & does_drive_fit(d)
+        & r.profile.is_in_range()
+        & does_memory_fit(r.memory)
+        & (s[servo_slot_rules::MODE_AT] <= 4)
+        & (s[servo_slot_rules::ERROR_AT] <= 1)
+        & (s[servo_slot_rules::AMPLIFIER_AT] <= 1)
+        & does_drive_fit(r.drive)
 }
 
 // Whether a slot holds a valid servo. Only what the tests ask for is read.
 pub fn is_ok(s: &[u8]) -> bool
-    requires { ⌜ 106 ≤ length (now s) ⌝ }
+    requires { ⌜ servoSize ≤ length (now s) ⌝ }
     ensures { λ r. ⌜ r ≡ okOf (now (s .entry)) ⌝ }
 {
-    let r = servo_slot_read::rates_in(s);
-    let p = servo_slot_read::profile_in(s);
-    let y = servo_slot_read::memory_in(s);
-    let d = servo_slot_read::drive_in(s);
+    let rates = servo_slot_read::rates_in(s);
+    let run = servo_slot_read::run_in(s);
     let front = is_front_ok(s);
-    let load = is_load_ok(front, s, r);
-    if is_motion_ok(load, s, p, y, d) {
-        return is_sound(s[18], p, y, d);
+    let load = is_load_ok(front, s, rates);
+    if is_run_ok(load, s, run) {
+        return is_sound(s[LATCHED_POWER_AT], run);
     }
     false
 }

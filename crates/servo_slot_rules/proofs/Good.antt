@@ -1,4 +1,4 @@
--- The servos that a slot can hold, in words: what is stored, and what drives with what is driven. Assumes nothing.
+-- The servos that a slot can hold, in words: what is stored, and what runs. Assumes nothing.
 use mathlib.Core.Path.{_≡_, refl, sym, ap, _∙_}
 use mathlib.Core.List.{[], _∷_}
 use mathlib.Core.Bool.{Bool, true, false, not, _||_}
@@ -11,7 +11,7 @@ use Rattle.base_integers.specs.Whole.{signed, word, same}
 use Rattle.base_integers.proofs.Words.{signed-word}
 use Rattle.base_integers.proofs.Same.{same-eq, eq-same}
 use Rattle.base_layout.proofs.Every.{every-hold, hold-every}
-use Rattle.module_station.specs.Slot.{station}
+use Rattle.module_rules.specs.Slot.{station}
 use Rattle.servo_motion.specs.declared.Profile.{Profile}
 use Rattle.servo_motion.specs.Profile.{fastest, Ranged, running}
 use Rattle.servo_motion.specs.Promises.{Running}
@@ -22,9 +22,10 @@ use Rattle.servo_rules.specs.declared.Rates.{Rates}
 use Rattle.servo_rules.specs.declared.Mode.{Mode}
 use Rattle.servo_rules.specs.declared.Mode.the-variants.{Off, Pwm, Hold, Velocity, Trapezoid}
 use Rattle.servo_rules.specs.declared.Drive.{Drive}
+use Rattle.servo_rules.specs.declared.Run.{Run}
 use Rattle.servo_rules.specs.declared.Servo.{Servo}
 use Rattle.servo_slot_rules.specs.List.{ratesFit, memoryFits, driveFits, emptied, silent, unpulsed, still, live, modeFits, soundAt, sound}
-use Rattle.servo_slot_rules.specs.Slot.{sample, counts, tuning, rates, load, profile, memory, drive}
+use Rattle.servo_slot_rules.specs.Slot.{samples, counts, rates, settings, profile, memory, drive, run}
 use Rattle.servo_slot_rules.specs.Promises.{Fits}
 
 pub record Rated (r : Rates) : Type 0 where
@@ -43,38 +44,35 @@ pub record Live (power : ℕ) (error : Bool) : Type 0 where
   pub clear : error ≡ false
   pub alive : power ≡ 0 → ⊥
 
-abbrev pub InMode : Mode → ℕ → Profile → Memory → Drive → Type 0
-InMode Off power p y d = Idle (p .speed) y × (d .output ≡ pos 0) × (d .pulse ≡ pos 0)
-InMode Pwm power p y d = Idle (p .speed) y × Live power (d .error)
-InMode Hold power p y d = (p .speed ≡ pos 0) × (d .pulse ≡ pos 0) × Live power (d .error)
-InMode Velocity power p y d = (d .pulse ≡ pos 0) × Live power (d .error)
-InMode Trapezoid power p y d = (d .pulse ≡ pos 0) × Live power (d .error) × Running p
+abbrev pub InMode : Mode → ℕ → Run → Type 0
+InMode Off power r = Idle (r .profile .speed) (r .memory) × (r .drive .output ≡ pos 0) × (r .drive .pulse ≡ pos 0)
+InMode Pwm power r = Idle (r .profile .speed) (r .memory) × Live power (r .drive .error)
+InMode Hold power r = (r .profile .speed ≡ pos 0) × (r .drive .pulse ≡ pos 0) × Live power (r .drive .error)
+InMode Velocity power r = (r .drive .pulse ≡ pos 0) × Live power (r .drive .error)
+InMode Trapezoid power r = (r .drive .pulse ≡ pos 0) × Live power (r .drive .error) × Running (r .profile)
 
--- what drives and what is driven, at a power
-pub record Sane (power : ℕ) (p : Profile) (y : Memory) (d : Drive) : Type 0 where
-  pub profile : Ranged p
-  pub memory : Kept y
-  pub pulse : natAbs (d .pulse) ≤ 255
-  pub output : natAbs (d .output) ≤ 255
-  pub powerless : (power ≡ 1 → ⊥) → d .output ≡ pos 0
-  pub mode : InMode (d .mode) power p y d
+-- what runs, at a power
+pub record Sane (power : ℕ) (r : Run) : Type 0 where
+  pub profile : Ranged (r .profile)
+  pub memory : Kept (r .memory)
+  pub pulse : natAbs (r .drive .pulse) ≤ 255
+  pub output : natAbs (r .drive .output) ≤ 255
+  pub powerless : (power ≡ 1 → ⊥) → r .drive .output ≡ pos 0
+  pub mode : InMode (r .drive .mode) power r
 
 pub record Good (m : Servo) : Type 0 where
   pub station : station .codec .fits (m .station)
-  pub waiting : sample .codec .fits (m .waiting)
-  pub latched : sample .codec .fits (m .latched)
+  pub samples : samples .codec .fits (m .samples)
   pub counts : counts .codec .fits (m .counts)
-  pub tuning : tuning .codec .fits (m .tuning)
-  pub rates : Rated (m .rates)
-  pub load : load .codec .fits (m .load)
-  pub sane : Sane (m .latched .power) (m .profile) (m .memory) (m .drive)
+  pub settings : settings .codec .fits (m .settings)
+  pub sane : Sane (m .samples .latched .power) (m .run)
 
 -- ---- each part's test
 
 small-fits : (z : ℤ) (n : ℕ) → n < 2 ^ 31 → natAbs z ≤ n → signed (word z) ≡ z
 small-fits z n k h = signed-word z (omega arith)
 
-rates-good : (r : Rates) → rates .codec .fits r → Rated r
+pub rates-good : (r : Rates) → rates .codec .fits r → Rated r
 unfolding ratesFit
 rates-good r t =
     let h = every-hold (leb (r .velocity) fastest ∷ leb (r .acceleration) fastest ∷ (not (r .ramped) || leb 1 (r .acceleration)) ∷ []) (t .1) in
@@ -137,77 +135,92 @@ drive-fits d p o = (
 
 -- ---- the list
 
-module _ (power : ℕ) (p : Profile) (y : Memory) (d : Drive) where
-  idle-good : still p ≡ true → emptied y ≡ true → Idle (p .speed) y
+module _ (power : ℕ) (r : Run) where
+  idle-good : still (r .profile) ≡ true → emptied (r .memory) ≡ true → Idle (r .profile .speed) (r .memory)
   unfolding emptied
-  idle-good r e =
-      let h = every-hold (same (y .integral) (pos 0) ∷ same (y .previous) (pos 0) ∷ []) e in
-      record { rest = same-eq _ _ r; integral = same-eq _ _ (h .0); previous = same-eq _ _ (h .1 .0) }
+  idle-good s e =
+      let h = every-hold (same (r .memory .integral) (pos 0) ∷ same (r .memory .previous) (pos 0) ∷ []) e in
+      record { rest = same-eq _ _ s; integral = same-eq _ _ (h .0); previous = same-eq _ _ (h .1 .0) }
 
-  live-good : live power d ≡ true → Live power (d .error)
+  live-good : live power (r .drive) ≡ true → Live power (r .drive .error)
   live-good e =
-      let h = every-hold (not (d .error) ∷ not (eqb power 0) ∷ []) e in
+      let h = every-hold (not (r .drive .error) ∷ not (eqb power 0) ∷ []) e in
       record { clear = not-true _ (h .0); alive = eqb-false _ _ (not-true _ (h .1 .0)) }
 
-  mode-good : (k : Mode) → modeFits k power p y d ≡ true → InMode k power p y d
+  mode-good : (k : Mode) → modeFits k power r ≡ true → InMode k power r
   mode-good Off e =
-      let h = every-hold (still p ∷ silent d ∷ emptied y ∷ unpulsed d ∷ []) e in
+      let h = every-hold (still (r .profile) ∷ silent (r .drive) ∷ emptied (r .memory) ∷ unpulsed (r .drive) ∷ []) e in
       (idle-good (h .0) (h .1 .1 .0), same-eq _ _ (h .1 .0), same-eq _ _ (h .1 .1 .1 .0))
   mode-good Pwm e =
-      let h = every-hold (still p ∷ emptied y ∷ live power d ∷ []) e in
+      let h = every-hold (still (r .profile) ∷ emptied (r .memory) ∷ live power (r .drive) ∷ []) e in
       (idle-good (h .0) (h .1 .0), live-good (h .1 .1 .0))
   mode-good Hold e =
-      let h = every-hold (still p ∷ unpulsed d ∷ live power d ∷ []) e in
+      let h = every-hold (still (r .profile) ∷ unpulsed (r .drive) ∷ live power (r .drive) ∷ []) e in
       (same-eq _ _ (h .0), same-eq _ _ (h .1 .0), live-good (h .1 .1 .0))
   mode-good Velocity e =
-      let h = every-hold (unpulsed d ∷ live power d ∷ []) e in
+      let h = every-hold (unpulsed (r .drive) ∷ live power (r .drive) ∷ []) e in
       (same-eq _ _ (h .0), live-good (h .1 .0))
   mode-good Trapezoid e =
-      let h = every-hold (unpulsed d ∷ live power d ∷ running p ∷ []) e in
-      (same-eq _ _ (h .0), live-good (h .1 .0), tested p .0 (h .1 .1 .0))
+      let h = every-hold (unpulsed (r .drive) ∷ live power (r .drive) ∷ running (r .profile) ∷ []) e in
+      (same-eq _ _ (h .0), live-good (h .1 .0), tested (r .profile) .0 (h .1 .1 .0))
 
-  powerless-good : (eqb power 1 || silent d) ≡ true → (power ≡ 1 → ⊥) → d .output ≡ pos 0
+  powerless-good : (eqb power 1 || silent (r .drive)) ≡ true → (power ≡ 1 → ⊥) → r .drive .output ≡ pos 0
   powerless-good h n = same-eq _ _ (rw (ne-eqb _ _ n) at h)
 
-  emptied-fits : Idle (p .speed) y → emptied y ≡ true
+  emptied-fits : Idle (r .profile .speed) (r .memory) → emptied (r .memory) ≡ true
   unfolding emptied
   emptied-fits i =
-      hold-every (same (y .integral) (pos 0) ∷ same (y .previous) (pos 0) ∷ [])
+      hold-every (same (r .memory .integral) (pos 0) ∷ same (r .memory .previous) (pos 0) ∷ [])
       (eq-same _ _ (i .integral), (eq-same _ _ (i .previous), tt))
 
-  live-fits : Live power (d .error) → live power d ≡ true
+  live-fits : Live power (r .drive .error) → live power (r .drive) ≡ true
   live-fits l =
-      hold-every (not (d .error) ∷ not (eqb power 0) ∷ []) (ap not (l .clear), (ap not (ne-eqb _ _ (l .alive)), tt))
+      hold-every (not (r .drive .error) ∷ not (eqb power 0) ∷ []) (ap not (l .clear), (ap not (ne-eqb _ _ (l .alive)), tt))
 
-  mode-fits : (k : Mode) → InMode k power p y d → modeFits k power p y d ≡ true
+  mode-fits : (k : Mode) → InMode k power r → modeFits k power r ≡ true
   mode-fits Off t =
-      hold-every (still p ∷ silent d ∷ emptied y ∷ unpulsed d ∷ [])
+      hold-every (still (r .profile) ∷ silent (r .drive) ∷ emptied (r .memory) ∷ unpulsed (r .drive) ∷ [])
       (eq-same _ _ (t .0 .rest), (eq-same _ _ (t .1), (emptied-fits (t .0), (eq-same _ _ (t .2), tt))))
   mode-fits Pwm t =
-      hold-every (still p ∷ emptied y ∷ live power d ∷ []) (eq-same _ _ (t .0 .rest), (emptied-fits (t .0), (live-fits (t .1), tt)))
+      hold-every (still (r .profile) ∷ emptied (r .memory) ∷ live power (r .drive) ∷ [])
+      (eq-same _ _ (t .0 .rest), (emptied-fits (t .0), (live-fits (t .1), tt)))
   mode-fits Hold t =
-      hold-every (still p ∷ unpulsed d ∷ live power d ∷ []) (eq-same _ _ (t .0), (eq-same _ _ (t .1), (live-fits (t .2), tt)))
-  mode-fits Velocity t = hold-every (unpulsed d ∷ live power d ∷ []) (eq-same _ _ (t .0), (live-fits (t .1), tt))
+      hold-every (still (r .profile) ∷ unpulsed (r .drive) ∷ live power (r .drive) ∷ [])
+      (eq-same _ _ (t .0), (eq-same _ _ (t .1), (live-fits (t .2), tt)))
+  mode-fits Velocity t = hold-every (unpulsed (r .drive) ∷ live power (r .drive) ∷ []) (eq-same _ _ (t .0), (live-fits (t .1), tt))
   mode-fits Trapezoid t =
-      hold-every (unpulsed d ∷ live power d ∷ running p ∷ []) (eq-same _ _ (t .0), (live-fits (t .1), (tested p .1 (t .2), tt)))
+      hold-every (unpulsed (r .drive) ∷ live power (r .drive) ∷ running (r .profile) ∷ [])
+      (eq-same _ _ (t .0), (live-fits (t .1), (tested (r .profile) .1 (t .2), tt)))
 
-  powerless-fits : ((power ≡ 1 → ⊥) → d .output ≡ pos 0) → (eqb power 1 || silent d) ≡ true
+  powerless-fits : ((power ≡ 1 → ⊥) → r .drive .output ≡ pos 0) → (eqb power 1 || silent (r .drive)) ≡ true
   powerless-fits h = at (eqb power 1) refl
     where
-      at : (s : Bool) → eqb power 1 ≡ s → (s || silent d) ≡ true
+      at : (s : Bool) → eqb power 1 ≡ s → (s || silent (r .drive)) ≡ true
       at true e = refl
       at false e = eq-same _ _ (h (eqb-false _ _ e))
 
-  sound-good : soundAt power p y d ≡ true → ((power ≡ 1 → ⊥) → d .output ≡ pos 0) × InMode (d .mode) power p y d
+  run-good : run .codec .fits r → soundAt power r ≡ true → Sane power r
   unfolding soundAt
-  sound-good e =
-      let h = every-hold ((eqb power 1 || silent d) ∷ modeFits (d .mode) power p y d ∷ []) e in
-      (powerless-good (h .0), mode-good (d .mode) (h .1 .0))
+  run-good t e =
+      let h = every-hold ((eqb power 1 || silent (r .drive)) ∷ modeFits (r .drive .mode) power r ∷ []) e in
+      let d = drive-good (r .drive) (t .1 .1) in
+      record {
+        profile = profile-good (r .profile) (t .0);
+        memory = memory-good (r .memory) (t .1 .0);
+        pulse = d .0;
+        output = d .1;
+        powerless = powerless-good (h .0);
+        mode = mode-good (r .drive .mode) (h .1 .0);
+      }
 
-  pub sound-fits : ((power ≡ 1 → ⊥) → d .output ≡ pos 0) → InMode (d .mode) power p y d → soundAt power p y d ≡ true
+  run-fits : Sane power r → run .codec .fits r
+  run-fits s =
+      (profile-fits (r .profile) (s .profile), (memory-fits (r .memory) (s .memory), drive-fits (r .drive) (s .pulse) (s .output)))
+
+  pub sound-fits : ((power ≡ 1 → ⊥) → r .drive .output ≡ pos 0) → InMode (r .drive .mode) power r → soundAt power r ≡ true
   unfolding soundAt
   sound-fits h t =
-      hold-every ((eqb power 1 || silent d) ∷ modeFits (d .mode) power p y d ∷ []) (powerless-fits h, (mode-fits (d .mode) t, tt))
+      hold-every ((eqb power 1 || silent (r .drive)) ∷ modeFits (r .drive .mode) power r ∷ []) (powerless-fits h, (mode-fits (r .drive .mode) t, tt))
 
 -- ---- the whole
 
@@ -216,38 +229,18 @@ module _ (m : Servo) where
   unfolding sound
   good t =
       let x = t .0 .1 in
-      let run = x .1 .1 .1 .1 .1 .1 .1 in
-      let h = sound-good (m .latched .power) (m .profile) (m .memory) (m .drive) (t .1) in
-      let d = drive-good (m .drive) (run .1 .1) in
       record {
         station = x .0;
-        waiting = x .1 .0;
-        latched = x .1 .1 .0;
-        counts = x .1 .1 .1 .0;
-        tuning = x .1 .1 .1 .1 .0;
-        rates = rates-good (m .rates) (x .1 .1 .1 .1 .1 .0);
-        load = x .1 .1 .1 .1 .1 .1 .0;
-        sane =
-            record {
-              profile = profile-good (m .profile) (run .0);
-              memory = memory-good (m .memory) (run .1 .0);
-              pulse = d .0;
-              output = d .1;
-              powerless = h .0;
-              mode = h .1;
-            };
+        samples = x .1 .0;
+        counts = x .1 .1 .0;
+        settings = x .1 .1 .1 .0;
+        sane = run-good (m .samples .latched .power) (m .run) (x .1 .1 .1 .1) (t .1);
       }
 
   pub fits : Good m → Fits m
   unfolding sound
   fits g =
-      let s = g .sane in
-      let p = profile-fits (m .profile) (s .profile) in
-      let y = memory-fits (m .memory) (s .memory) in
-      let d = drive-fits (m .drive) (s .pulse) (s .output) in (
-        (
-          tt,
-          (g .station, (g .waiting, (g .latched, (g .counts, (g .tuning, (rates-fit (m .rates) (g .rates), (g .load, (p, (y, d))))))))),
-        ),
-        sound-fits (m .latched .power) (m .profile) (m .memory) (m .drive) (s .powerless) (s .mode),
+      let power : ℕ = m .samples .latched .power in (
+        (tt, (g .station, (g .samples, (g .counts, (g .settings, run-fits power (m .run) (g .sane)))))),
+        sound-fits power (m .run) (g .sane .powerless) (g .sane .mode),
       )

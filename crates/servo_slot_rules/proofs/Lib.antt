@@ -3,6 +3,7 @@ pub mod Replaced
 pub mod Starts
 pub mod Orders
 pub mod Ticks
+pub mod Owed
 pub mod Within
 pub mod Passed
 pub mod Listed

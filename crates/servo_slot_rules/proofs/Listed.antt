@@ -8,27 +8,25 @@ use lib.IntN.{pos}
 use Rattle.base_layout.specs.Bytes.{Bytes}
 use Rattle.base_layout.proofs.Every.{every-hold}
 use Rattle.base_layout.proofs.Codec.{head-sound}
-use Rattle.servo_motion.specs.declared.Profile.{Profile}
-use Rattle.servo_filter.specs.declared.Memory.{Memory}
 use Rattle.servo_rules.specs.declared.Mode.{Mode}
 use Rattle.servo_rules.specs.declared.Mode.the-variants.{Off, Pwm, Hold, Velocity, Trapezoid}
-use Rattle.servo_rules.specs.declared.Drive.{Drive}
+use Rattle.servo_rules.specs.declared.Run.{Run}
 use Rattle.servo_rules.specs.declared.Servo.{Servo}
 use Rattle.servo_slot_rules.specs.Slot.{slot, decodeOf, okOf}
 use Rattle.servo_slot_rules.specs.Promises.{Fits, Lines, Listed}
-use Rattle.servo_slot_rules.proofs.Good.{Live, InMode, good}
+use Rattle.servo_slot_rules.proofs.Good.{Live, InMode, rates-good, good}
 use Rattle.servo_slot_rules.proofs.Ticks.{gains-ranged}
 use Rattle.servo_slot_rules.proofs.Passed.{passed}
 
-module _ (power : ℕ) (p : Profile) (y : Memory) (d : Drive) where
-  no-pulse : (k : Mode) → (k ≡ Pwm → ⊥) → InMode k power p y d → d .pulse ≡ pos 0
+module _ (power : ℕ) (r : Run) where
+  no-pulse : (k : Mode) → (k ≡ Pwm → ⊥) → InMode k power r → r .drive .pulse ≡ pos 0
   no-pulse Off n t = t .2
   no-pulse Pwm n t = absurd (n refl)
   no-pulse Hold n t = t .1
   no-pulse Velocity n t = t .0
   no-pulse Trapezoid n t = t .0
 
-  is-live : (k : Mode) → (k ≡ Off → ⊥) → InMode k power p y d → Live power (d .error)
+  is-live : (k : Mode) → (k ≡ Off → ⊥) → InMode k power r → Live power (r .drive .error)
   is-live Off n t = absurd (n refl)
   is-live Pwm n t = t .1
   is-live Hold n t = t .2
@@ -41,7 +39,8 @@ lines s b v =
     let m : Servo = decodeOf s in
     let t : Fits m = head-sound (slot .lawful) s b v in
     let g = good m t in
-    let i : InMode (m .drive .mode) (m .latched .power) (m .profile) (m .memory) (m .drive) = g .sane .mode in
+    let rates = rates-good (m .settings .rates) (g .settings .1 .0) in
+    let i : InMode (m .run .drive .mode) (m .samples .latched .power) (m .run) = g .sane .mode in
     let first = every-hold (slot .codec .tests 0 s) v in
     let flags = first .1 .1 .1 .1 .1 .1 .1 .1 .1 .1 .1 in
     let loads = flags .1 .1 .1 in
@@ -51,14 +50,14 @@ lines s b v =
       leader = leb-true _ _ (first .1 .0);
       low = leb-true _ _ (first .1 .1 .0);
       cause = g .station .1 .0 .1;
-      waitingPower = g .waiting .1 .0 .1;
-      latchedPower = g .latched .1 .0 .1;
-      gains = gains-ranged _ (g .tuning .0);
+      waitingPower = g .samples .0 .1 .0 .1;
+      latchedPower = g .samples .1 .1 .0 .1;
+      gains = gains-ranged _ (g .settings .0 .0);
       paced = leb-true _ _ (flags .0);
       ramped = leb-true _ _ (flags .1 .0);
-      velocity = g .rates .velocity;
-      acceleration = g .rates .acceleration;
-      loadedForce = g .rates .force;
+      velocity = rates .velocity;
+      acceleration = rates .acceleration;
+      loadedForce = rates .force;
       waits = leb-true _ _ (loads .0);
       way = leb-true _ _ (loads .1 .0);
       placed = leb-true _ _ (loads .1 .1 .0);
@@ -82,9 +81,9 @@ lines s b v =
       pwmEmpty = λ e. let x = rw e at i in (x .0 .integral, x .0 .previous);
       hold = λ e. (rw e at i) .0;
       trapezoid = λ e. (rw e at i) .2;
-      unpulsed = λ k. no-pulse _ _ _ _ (m .drive .mode) k i;
-      clear = λ k. is-live _ _ _ _ (m .drive .mode) k i .clear;
-      alive = λ k. is-live _ _ _ _ (m .drive .mode) k i .alive;
+      unpulsed = λ k. no-pulse _ _ (m .run .drive .mode) k i;
+      clear = λ k. is-live _ _ (m .run .drive .mode) k i .clear;
+      alive = λ k. is-live _ _ (m .run .drive .mode) k i .alive;
     }
 
 pub listed : Listed

@@ -11,29 +11,25 @@ use Rattle.base_layout.specs.Bytes.{Bytes}
 use Rattle.servo_motion.specs.declared.Profile.{Profile}
 use Rattle.servo_motion.specs.Profile.{Ranged}
 use Rattle.servo_motion.proofs.Runs.{rest}
-use Rattle.servo_parse.specs.declared.Halt.{Halt}
-use Rattle.servo_parse.specs.declared.Halt.the-variants.{Keep, Release, Abrupt, Smooth, Here}
-use Rattle.servo_parse.specs.Orders.{gainsIn, tuningIn, gainsFit}
-use Rattle.servo_parse.proofs.Bounds.{gain-range, fit}
+use Rattle.servo_rules.specs.declared.Halt.{Halt}
+use Rattle.servo_rules.specs.declared.Halt.the-variants.{Keep, Release, Abrupt, Smooth, Here}
+use Rattle.servo_rules.specs.declared.Order.the-variants.{SetGain, ClearBits}
 use Rattle.servo_rules.specs.declared.Mode.{Mode}
 use Rattle.servo_rules.specs.declared.Mode.the-variants.{Off, Pwm, Hold, Velocity, Trapezoid}
+use Rattle.servo_rules.specs.declared.Run.{Run}
 use Rattle.servo_rules.specs.declared.Servo.{Servo}
-use Rattle.servo_rules.specs.Servo.{position, setpointAt, servoOff, withTuning, withDrive, withError, withAmplifier, idled, off}
+use Rattle.servo_rules.specs.Asks.{gainsIn, tuningIn, gainsFit}
+use Rattle.servo_rules.specs.State.{position, setpointAt, servoOff, dropped, withProfile, erring, amplified, off}
 use Rattle.servo_rules.specs.Loads.{atRest, toSpeed}
-use Rattle.servo_rules.specs.Orders.{shifted, resetPosition, holding, smooth, halted, stopped, canHalt}
-use Rattle.servo_slot_rules.proofs.Good.{Live, InMode, Good}
-use Rattle.servo_slot_rules.proofs.Replaced.{counts-good, tuning-good, running-good, dropped-good, blank-kept, resting-ranged, off-sane, ready-live}
-use Rattle.servo_slot_rules.proofs.Starts.{toSpeed-good}
+use Rattle.servo_rules.specs.Perform.{shifted, resetPosition, holding, smooth, haltedBy, drops, stopped, canHalt, perform}
+use Rattle.servo_rules.proofs.Bounds.{gain-range, fit}
+use Rattle.servo_rules.proofs.Keeping.{either}
+use Rattle.servo_slot_rules.specs.Slot.{gains, settings}
+use Rattle.servo_slot_rules.proofs.Good.{Live, InMode, Sane, Good}
+use Rattle.servo_slot_rules.proofs.Replaced.{counts-good, settings-good, run-good, dropped-fits, blank-kept, resting-ranged, off-sane, ready-live}
+use Rattle.servo_slot_rules.proofs.Starts.{toSpeed-sane}
 
-module _ {m : Servo} (g : Good m) (ds : List ℕ) (b : Bytes ds) where
-  pub gain-good : gainsFit (gainsIn ds) ≡ true → Good (withTuning (tuningIn ds) m)
-  gain-good e =
-      let f = fit ds b in
-      let r = gain-range (gainsIn ds) .0 e in
-      tuning-good g (tuningIn ds) (
-        ((f .kp, omega arith), ((f .kd, omega arith), ((f .ki, omega arith), ((f .il, omega arith), (f .ol, (f .el, omega arith)))))),
-        (f .cl, f .sm),
-      )
+-- ---- what runs
 
 shifted-ranged : (x : ℕ) (p : Profile) → Ranged p → Ranged (shifted x p)
 unfolding shifted
@@ -46,100 +42,101 @@ shifted-ranged x p r = record {
   top = r .top;
 }
 
-module _ {m : Servo} (g : Good m) where
-  off-good : Good (off m)
-  unfolding off idled
-  off-good = running-good g _ _ _ (off-sane (m .latched .power) (m .profile) (m .drive) (g .sane .profile))
-
-  holding-good : (x : ℕ) → x < 2 ^ 32 → Live (m .latched .power) (m .drive .error) → Good (holding x m)
-  unfolding holding
-  holding-good x h l =
-      running-good g _ _ _
-      (record {
-        profile = resting-ranged (setpointAt x) (m .profile) (omega arith) (g .sane .profile);
-        memory = blank-kept;
-        pulse = omega arith;
-        output = g .sane .output;
-        powerless = g .sane .powerless;
-        mode = (refl, refl, l);
-      })
-
-  pub reset-good : atRest m ≡ true → Good (resetPosition m)
-  unfolding resetPosition shifted
-  reset-good e =
-      let s = g .sane in
-      dropped-good
-      (counts-good
-      (running-good g _ _ _
-      (record {
-        profile = shifted-ranged (position m) (m .profile) (s .profile);
-        memory = s .memory;
-        pulse = s .pulse;
-        output = s .output;
-        powerless = s .powerless;
-        mode = at (m .drive .mode) (s .mode);
-      }))
-      (record { offset = m .latched .raw; last = less (m .counts .last) (position m) })
-      (g .latched .0, omega arith))
+module _ {power : ℕ} {r : Run} (s : Sane power r) where
+  shifted-sane : (x : ℕ) → atRest r ≡ true → Sane power (withProfile (shifted x (r .profile)) r)
+  unfolding shifted
+  shifted-sane x e = record {
+    profile = shifted-ranged x (r .profile) (s .profile);
+    memory = s .memory;
+    pulse = s .pulse;
+    output = s .output;
+    powerless = s .powerless;
+    mode = at (r .drive .mode) (s .mode);
+  }
     where
-      at : (k : Mode) → InMode k (m .latched .power) (m .profile) (m .memory) (m .drive)
-          → InMode k (m .latched .power) (shifted (position m) (m .profile)) (m .memory) (m .drive)
+      at : (k : Mode) → InMode k power r → InMode k power (withProfile (shifted x (r .profile)) r)
       at Off t = t
       at Pwm t = t
       at Hold t = t
       at Velocity t = t
       at Trapezoid t = (t .0, t .1, rest _ (t .2 .force) (same-eq _ _ e))
 
-  smooth-good : Good (smooth m)
-  unfolding smooth
-  smooth-good = at (m .drive .mode) (g .sane .mode)
-    where
-      slowed : Live (m .latched .power) (m .drive .error) → Good (toSpeed (m .profile .setpoint) (pos 0) (m .profile .acceleration) m)
-      slowed l = toSpeed-good g l _ _ _ (g .sane .profile .setpoint) (omega arith) (g .sane .profile .acceleration)
+  holding-sane : (x : ℕ) → x < 2 ^ 32 → Live power (r .drive .error) → Sane power (holding x r)
+  unfolding holding
+  holding-sane x h l = record {
+    profile = resting-ranged (setpointAt x) (r .profile) (omega arith) (s .profile);
+    memory = blank-kept;
+    pulse = omega arith;
+    output = s .output;
+    powerless = s .powerless;
+    mode = (refl, refl, l);
+  }
 
-      at : (k : Mode) → InMode k (m .latched .power) (m .profile) (m .memory) (m .drive)
-          → Good (cond (servoOff k) (off m) (toSpeed (m .profile .setpoint) (pos 0) (m .profile .acceleration) m))
-      at Off t = off-good
-      at Pwm t = off-good
+  smooth-sane : Sane power (smooth r)
+  unfolding smooth
+  smooth-sane = at (r .drive .mode) (s .mode)
+    where
+      slowed : Live power (r .drive .error) → Sane power (toSpeed (r .profile .setpoint) (pos 0) (r .profile .acceleration) r)
+      slowed l = toSpeed-sane s l _ _ _ (s .profile .setpoint) (omega arith) (s .profile .acceleration)
+
+      at : (k : Mode) → InMode k power r → Sane power (cond (servoOff k) (off r) (toSpeed (r .profile .setpoint) (pos 0) (r .profile .acceleration) r))
+      at Off t = off-sane power r (s .profile)
+      at Pwm t = off-sane power r (s .profile)
       at Hold t = slowed (t .2)
       at Velocity t = slowed (t .1)
       at Trapezoid t = slowed (t .1)
 
-  halted-good : (h : Halt) (x : ℕ) → x < 2 ^ 32 → canHalt h m ≡ true → Good (halted h x m)
-  halted-good Keep x l e = g
-  halted-good Release x l e = dropped-good off-good
-  halted-good Abrupt x l e = dropped-good (holding-good (position m) (omega arith) (ready-live m e))
-  halted-good Smooth x l e = dropped-good smooth-good
-  halted-good Here x l e = dropped-good (holding-good x l (ready-live m e))
-
   -- the drive's two bits: what was clear of errors stays so
-  bits-good : (e a : Bool) → (m .drive .error ≡ false → e ≡ false) → Good (withDrive (withError e (withAmplifier a (m .drive))) m)
-  bits-good e a h =
-      let s = g .sane in
-      running-good g _ _ _
-      (record {
-        profile = s .profile;
-        memory = s .memory;
-        pulse = s .pulse;
-        output = s .output;
-        powerless = s .powerless;
-        mode = at (m .drive .mode) (s .mode);
-      })
+  bits-sane : (e a : Bool) → (r .drive .error ≡ false → e ≡ false) → Sane power (erring e (amplified a r))
+  bits-sane e a h = record {
+    profile = s .profile;
+    memory = s .memory;
+    pulse = s .pulse;
+    output = s .output;
+    powerless = s .powerless;
+    mode = at (r .drive .mode) (s .mode);
+  }
     where
-      clear : Live (m .latched .power) (m .drive .error) → Live (m .latched .power) e
+      clear : Live power (r .drive .error) → Live power e
       clear l = record { clear = h (l .clear); alive = l .alive }
 
-      at : (k : Mode) → InMode k (m .latched .power) (m .profile) (m .memory) (m .drive)
-          → InMode k (m .latched .power) (m .profile) (m .memory) (withError e (withAmplifier a (m .drive)))
+      at : (k : Mode) → InMode k power r → InMode k power (erring e (amplified a r))
       at Off t = t
       at Pwm t = (t .0, clear (t .1))
       at Hold t = (t .0, t .1, clear (t .2))
       at Velocity t = (t .0, clear (t .1))
       at Trapezoid t = (t .0, clear (t .1), t .2)
 
-  pub clear-good : Good (withDrive (withError false (m .drive)) m)
-  clear-good = bits-good false (m .drive .amplifier) (λ e. refl)
+-- ---- the orders
 
-pub stop-good : {m : Servo} → Good m → (a : Bool) (h : Halt) (x : ℕ) → x < 2 ^ 32 → canHalt h m ≡ true → Good (stopped a h x m)
-unfolding stopped
-stop-good {m} g a h x l e = bits-good (halted-good g h x l e) (halted h x m .drive .error) a (λ z. z)
+module _ {m : Servo} (g : Good m) where
+  pub gain-good : (ds : List ℕ) → Bytes ds → gainsFit (gainsIn ds) ≡ true → Good (perform (SetGain (tuningIn ds)) m)
+  gain-good ds b e =
+      let f = fit ds b in
+      let r = gain-range (gainsIn ds) .0 e in
+      let told : gains .codec .fits (gainsIn ds) = ((f .kp, omega arith), ((f .kd, omega arith), ((f .ki, omega arith), ((f .il, omega arith), (f .ol, (f .el, omega arith)))))) in
+      settings-good g _ ((told, (f .cl, f .sm)), g .settings .1)
+
+  pub reset-good : atRest (m .run) ≡ true → Good (resetPosition m)
+  unfolding resetPosition
+  reset-good e =
+      counts-good
+      (settings-good (run-good g _ (shifted-sane (g .sane) (position m) e)) _ (dropped-fits (m .settings) (g .settings)))
+      (record { offset = m .samples .latched .raw; last = less (m .counts .last) (position m) })
+      (g .samples .1 .0, omega arith)
+
+  halted-sane : (h : Halt) (x : ℕ) → x < 2 ^ 32 → canHalt h m ≡ true → Sane (m .samples .latched .power) (haltedBy h (position m) x (m .run))
+  halted-sane Keep x l e = g .sane
+  halted-sane Release x l e = off-sane (m .samples .latched .power) (m .run) (g .sane .profile)
+  halted-sane Abrupt x l e = holding-sane (g .sane) (position m) (omega arith) (ready-live m e)
+  halted-sane Smooth x l e = smooth-sane (g .sane)
+  halted-sane Here x l e = holding-sane (g .sane) x l (ready-live m e)
+
+  pub stop-good : (a : Bool) (h : Halt) (x : ℕ) → x < 2 ^ 32 → canHalt h m ≡ true → Good (stopped a h x m)
+  unfolding stopped
+  stop-good a h x l e =
+      settings-good (run-good g _ (bits-sane (halted-sane h x l e) (haltedBy h (position m) x (m .run) .drive .error) a (λ z. z)))
+      _ (either (settings .codec .fits) (drops h) (dropped (m .settings)) (m .settings) (dropped-fits (m .settings) (g .settings)) (g .settings))
+
+  pub clear-good : Good (perform ClearBits m)
+  clear-good = run-good g _ (bits-sane (g .sane) false (m .run .drive .amplifier) (λ e. refl))

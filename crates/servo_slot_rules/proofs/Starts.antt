@@ -14,22 +14,26 @@ use Rattle.base_layout.proofs.Every.{every-hold}
 use Rattle.servo_motion.specs.Profile.{fastest}
 use Rattle.servo_motion.specs.Setpoint.{whole}
 use Rattle.servo_motion.proofs.Runs.{rest}
-use Rattle.servo_parse.specs.declared.Carried.{Carried}
-use Rattle.servo_parse.specs.declared.Order.the-variants.{LoadTrajectory}
-use Rattle.servo_parse.specs.Loads.{isSet, carriedIn, inRange}
-use Rattle.servo_parse.specs.Promises.{LoadRanged}
-use Rattle.servo_parse.proofs.Bounds.{load-range, fit}
+use Rattle.servo_rules.specs.declared.Carried.{Carried}
+use Rattle.servo_rules.specs.declared.Order.the-variants.{LoadTrajectory}
 use Rattle.servo_rules.specs.declared.Rates.{Rates}
 use Rattle.servo_rules.specs.declared.Way.{Way}
 use Rattle.servo_rules.specs.declared.Way.the-variants.{Pulse, Speed, Move}
 use Rattle.servo_rules.specs.declared.Mode.the-variants.{Pwm}
+use Rattle.servo_rules.specs.declared.Settings.{Settings}
+use Rattle.servo_rules.specs.declared.Run.{Run}
 use Rattle.servo_rules.specs.declared.Servo.{Servo}
-use Rattle.servo_rules.specs.Servo.{ready, idled}
+use Rattle.servo_rules.specs.Carried.{isSet, carriedIn, inRange}
+use Rattle.servo_rules.specs.AskPromises.{LoadRanged}
+use Rattle.servo_rules.specs.State.{position, ready, idled}
 use Rattle.servo_rules.specs.Loads.{loadOf, ratesOf, loaded, startsNow, beginning, atRest, movable, completeBy, complete, startable, signedBy, toSpeed, toPlace, startedBy, start}
-use Rattle.servo_rules.specs.Orders.{can, perform}
+use Rattle.servo_rules.specs.Perform.{can, perform}
+use Rattle.servo_rules.proofs.Bounds.{load-range, fit}
+use Rattle.servo_rules.proofs.Keeping.{either}
 use Rattle.servo_rules.proofs.Ranges.{beginning-small}
-use Rattle.servo_slot_rules.proofs.Good.{Rated, Live, Good}
-use Rattle.servo_slot_rules.proofs.Replaced.{load-good, running-good, dropped-good, idle, idled-sane, ready-live}
+use Rattle.servo_slot_rules.proofs.Good as Fit
+use Rattle.servo_slot_rules.proofs.Good.{Rated, Live, Sane, Good, rates-fit}
+use Rattle.servo_slot_rules.proofs.Replaced.{settings-good, run-good, dropped-fits, idle, idled-sane, ready-live}
 
 -- ---- starts
 
@@ -38,57 +42,63 @@ unfolding signedBy
 signed-size true n = abs-neg (pos n)
 signed-size false n = refl
 
-module _ {m : Servo} (g : Good m) (l : Live (m .latched .power) (m .drive .error)) where
-  pub toSpeed-good : (x : ℕ) (aim : ℤ) (a : ℕ) → x < 2 ^ 48 → natAbs aim ≤ fastest → a ≤ fastest → Good (toSpeed x aim a m)
+module _ {power : ℕ} {r : Run} (s : Sane power r) (l : Live power (r .drive .error)) where
+  pub toSpeed-sane : (x : ℕ) (aim : ℤ) (a : ℕ) → x < 2 ^ 48 → natAbs aim ≤ fastest → a ≤ fastest → Sane power (toSpeed x aim a r)
   unfolding toSpeed
-  toSpeed-good x aim a h i k =
-      let r = g .sane .profile in
-      running-good g _ _ _
-      (record {
-        profile = record { setpoint = h; speed = r .speed; goal = r .goal; aim = i; acceleration = k; top = r .top };
-        memory = g .sane .memory;
+  toSpeed-sane x aim a h i k =
+      let p = s .profile in
+      record {
+        profile = record { setpoint = h; speed = p .speed; goal = p .goal; aim = i; acceleration = k; top = p .top };
+        memory = s .memory;
         pulse = omega arith;
-        output = g .sane .output;
-        powerless = g .sane .powerless;
+        output = s .output;
+        powerless = s .powerless;
         mode = (refl, l);
-      })
+      }
 
-  toPlace-good : (x goal a top : ℕ) → x < 2 ^ 48 → goal < 2 ^ 32 → 0 < a → a ≤ fastest → top ≤ fastest → m .profile .speed ≡ pos 0 → Good (toPlace x goal a top m)
+  toPlace-sane : (x goal a top : ℕ) → x < 2 ^ 48 → goal < 2 ^ 32 → 0 < a → a ≤ fastest → top ≤ fastest → r .profile .speed ≡ pos 0
+      → Sane power (toPlace x goal a top r)
   unfolding toPlace
-  toPlace-good x goal a top h i f k j e =
-      let r = g .sane .profile in
-      running-good g _ _ _
-      (record {
-        profile = record { setpoint = h; speed = r .speed; goal = i; aim = r .aim; acceleration = k; top = j };
-        memory = g .sane .memory;
+  toPlace-sane x goal a top h i f k j e =
+      let p = s .profile in
+      record {
+        profile = record { setpoint = h; speed = p .speed; goal = i; aim = p .aim; acceleration = k; top = j };
+        memory = s .memory;
         pulse = omega arith;
-        output = g .sane .output;
-        powerless = g .sane .powerless;
+        output = s .output;
+        powerless = s .powerless;
         mode = (refl, l, rest _ f e);
-      })
-
-  started-good : (w : Way) → completeBy w m ≡ true → Good (startedBy w m)
-  unfolding idled movable
-  started-good Pulse c =
-      let h = g .load .1 .1 .1 .1 .1 .0 in
-      running-good g _ _ _
-      (idled-sane (m .latched .power) (m .profile) (m .drive) (g .sane .profile) Pwm _ (omega (arith, signed-size (m .load .reverse) (m .load .pulse))) (idle, l))
-  started-good Speed c =
-      let h = g .rates .velocity in
-      toSpeed-good (beginning m) _ _ (beginning-small m (g .sane .profile)) (omega (arith, signed-size (m .load .reverse) (m .rates .velocity)))
-      (g .rates .acceleration)
-  started-good Move c =
-      let away : Bool = not (eqb (less (m .load .place) (whole (beginning m))) (2 ^ 31)) in
-      let h = every-hold (m .rates .paced ∷ m .rates .ramped ∷ m .load .placed ∷ ltb 0 (m .rates .velocity) ∷ atRest m ∷ away ∷ []) c in
-      toPlace-good (beginning m) (m .load .place) _ _ (beginning-small m (g .sane .profile)) (g .load .1 .1 .1 .0)
-      (g .rates .force (h .1 .0)) (g .rates .acceleration) (g .rates .velocity) (same-eq _ _ (h .1 .1 .1 .1 .0))
+      }
 
 module _ {m : Servo} (g : Good m) where
+  rated : Rated (m .settings .rates)
+  rated = Fit.rates-good (m .settings .rates) (g .settings .1 .0)
+
+  started-sane : Live (m .samples .latched .power) (m .run .drive .error) → (w : Way) → completeBy w m ≡ true
+      → Sane (m .samples .latched .power) (startedBy w (position m) (m .settings) (m .run))
+  unfolding idled movable
+  started-sane l Pulse c =
+      let x : Settings = m .settings in
+      let h = g .settings .1 .1 .1 .1 .1 .1 .1 .0 in
+      idled-sane (m .samples .latched .power) (m .run) (g .sane .profile) Pwm _ (omega (arith, signed-size (x .load .reverse) (x .load .pulse))) (idle, l)
+  started-sane l Speed c =
+      let x : Settings = m .settings in
+      let h = rated .velocity in
+      toSpeed-sane (g .sane) l (beginning m) _ _ (beginning-small m (g .sane .profile)) (omega (arith, signed-size (x .load .reverse) (x .rates .velocity)))
+      (rated .acceleration)
+  started-sane l Move c =
+      let x : Settings = m .settings in
+      let away : Bool = not (eqb (less (x .load .place) (whole (beginning m))) (2 ^ 31)) in
+      let h = every-hold (x .rates .paced ∷ x .rates .ramped ∷ x .load .placed ∷ ltb 0 (x .rates .velocity) ∷ atRest (m .run) ∷ away ∷ []) c in
+      toPlace-sane (g .sane) l (beginning m) (x .load .place) _ _ (beginning-small m (g .sane .profile)) (g .settings .1 .1 .1 .1 .1 .0)
+      (rated .force (h .1 .0)) (rated .acceleration) (rated .velocity) (same-eq _ _ (h .1 .1 .1 .1 .0))
+
   pub start-good : startable m ≡ true → Good (start m)
   unfolding startable complete start
   start-good e =
-      let h = every-hold (m .load .waits ∷ complete m ∷ ready m ∷ []) e in
-      dropped-good (started-good g (ready-live m (h .1 .1 .0)) (m .load .way) (h .1 .0))
+      let h = every-hold (m .settings .load .waits ∷ complete m ∷ ready m ∷ []) e in
+      settings-good (run-good g _ (started-sane (ready-live m (h .1 .1 .0)) (m .settings .load .way) (h .1 .0)))
+      _ (dropped-fits (m .settings) (g .settings))
 
 -- ---- loads
 
@@ -96,14 +106,13 @@ module _ {m : Servo} (g : Good m) where
 rates-good : (c : Carried) (r : Rates) → LoadRanged c → Rated r → Rated (ratesOf c r)
 unfolding ratesOf
 rates-good c r h k = record {
-  velocity = either (isSet 1 (c .control)) (h .0) (k .velocity);
-  acceleration = either (isSet 2 (c .control)) (h .1) (k .acceleration);
+  velocity = either Slow (isSet 1 (c .control)) (c .velocity) (r .velocity) (h .0) (k .velocity);
+  acceleration = either Slow (isSet 2 (c .control)) (c .acceleration) (r .acceleration) (h .1) (k .acceleration);
   force = forced (isSet 2 (c .control)) (h .2);
 }
   where
-    either : (t : Bool) {x y : ℕ} → x ≤ fastest → y ≤ fastest → cond t x y ≤ fastest
-    either true i j = i
-    either false i j = j
+    Slow : ℕ → Type 0
+    Slow n = n ≤ fastest
 
     forced : (t : Bool) → (t ≡ true → 1 ≤ c .acceleration) → (t || r .ramped) ≡ true → 1 ≤ cond t (c .acceleration) (r .acceleration)
     forced true i e = i refl
@@ -115,7 +124,8 @@ module _ {m : Servo} (g : Good m) (ds : List ℕ) (b : Bytes ds) where
   loaded-good e =
       let c : Carried = carriedIn ds in
       let f = fit ds b in
-      load-good g _ _ (rates-good c (m .rates) (load-range c .0 e) (g .rates)) (tt, (tt, (tt, (f .place, (tt, (f .pulse, tt))))))
+      let r = rates-fit _ (rates-good c (m .settings .rates) (load-range c .0 e) (rated g)) in
+      settings-good g _ (g .settings .0, (r, (tt, (tt, (tt, (f .place, (tt, (f .pulse, tt))))))))
 
   pub trajectory-good : inRange (carriedIn ds) ≡ true → can (LoadTrajectory (carriedIn ds)) m ≡ true → Good (perform (LoadTrajectory (carriedIn ds)) m)
   trajectory-good e = at (startsNow (carriedIn ds))

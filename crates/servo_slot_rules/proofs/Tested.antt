@@ -11,45 +11,43 @@ use Rattle.base_layout.specs.Every.{every, everyFrom}
 use Rattle.base_layout.proofs.Codec.{head-sound}
 use Rattle.base_layout.proofs.Every.{every-hold}
 use Rattle.line_receiver.specs.Frames.{Frame}
-use Rattle.servo_motion.specs.declared.Profile.{Profile}
 use Rattle.servo_motion.specs.Profile.{Ranged, inRange}
 use Rattle.servo_motion.proofs.Tests.{in-ranges}
-use Rattle.servo_filter.specs.declared.Memory.{Memory}
 use Rattle.servo_rules.specs.declared.Rates.{Rates}
-use Rattle.servo_rules.specs.declared.Drive.{Drive}
-use Rattle.servo_rules.specs.Orders.{execute}
+use Rattle.servo_rules.specs.declared.Run.{Run}
 use Rattle.servo_rules.specs.Tick.{Steady}
+use Rattle.servo_rules.specs.Answers.{execute}
 use Rattle.servo_slot_rules.specs.List.{soundAt, sound}
-use Rattle.servo_slot_rules.specs.Slot.{slot, rates, profile, memory, drive, decodeOf, okOf}
-use Rattle.servo_slot_rules.specs.Parts.{frontTests, loadTests, motionTests}
+use Rattle.servo_slot_rules.specs.Slot.{slot, rates, profile, run, latchedAt, ratesAt, profileAt, powerIn, decodeOf, okOf}
+use Rattle.servo_slot_rules.specs.Parts.{frontTests, loadTests, runTests}
 use Rattle.servo_slot_rules.specs.Promises.{Fits}
 use Rattle.servo_slot_rules.proofs.Good.{good}
 use Rattle.servo_slot_rules.proofs.Within.{kept, defined}
 
-module _ (s : List ℕ) {r : Rates} {p : Profile} {y : Memory} {d : Drive} {front load run : Bool} (er : r ≡ rates .codec .dec 41 s)
-    (ep : p ≡ profile .codec .dec 61 s) (ey : y ≡ memory .codec .dec 87 s) (ed : d ≡ drive .codec .dec 95 s) (ef : front ≡ every (frontTests s))
-    (el : load ≡ everyFrom front (loadTests r s)) (eu : run ≡ everyFrom load (motionTests p y d s)) where
-  pub ok-is : okOf s ≡ (run && soundAt (getD s 18 0) p y d)
+module _ (s : List ℕ) {r : Rates} {u : Run} {front load runs : Bool} (er : r ≡ rates .codec .dec ratesAt s)
+    (eu : u ≡ run .codec .dec profileAt s) (ef : front ≡ every (frontTests s)) (el : load ≡ everyFrom front (loadTests r s))
+    (es : runs ≡ everyFrom load (runTests u s)) where
+  pub ok-is : okOf s ≡ (runs && soundAt (getD s (powerIn latchedAt) 0) u)
   unfolding okOf sound
-  ok-is = rw (eu, el, ef, ed, ey, ep, er)
+  ok-is = rw (es, el, ef, eu, er)
 
   -- the last test is only made where the profile is in range
-  pub ranged-in : Bytes s → run ≡ true → Ranged p
+  pub ranged-in : Bytes s → runs ≡ true → Ranged (u .profile)
   ranged-in bytes e =
-      let h = every-hold (load ∷ motionTests p y d s) (sym eu ∙ e) .1 .0 in
-      let t = profile .lawful .sound 61 s bytes (ap inRange (sym ep) ∙ h, tt) in
-      rw ep (in-ranges (profile .codec .dec 61 s) (t .0 .0) (t .0 .1 .1 .0) .0 (t .1))
+      let h = every-hold (load ∷ runTests u s) (sym es ∙ e) .1 .0 in
+      let t = profile .lawful .sound profileAt s bytes (ap (λ (u : Run). inRange (u .profile)) (sym eu) ∙ h, tt) in
+      rw eu (in-ranges (profile .codec .dec profileAt s) (t .0 .0) (t .0 .1 .1 .0) .0 (t .1))
 
 module _ (s : List ℕ) (bytes : Bytes s) (ok : okOf s ≡ true) where
   fits-in : Fits (decodeOf s)
   unfolding decodeOf okOf
   fits-in = head-sound (slot .lawful) s bytes ok
 
-  pub steady-in : Steady (decodeOf s)
+  pub steady-in : Steady (decodeOf s .run)
   steady-in = defined (decodeOf s) fits-in
 
-  pub output-in : natAbs (decodeOf s .drive .output) < 256
+  pub output-in : natAbs (decodeOf s .run .drive .output) < 256
   output-in = omega (arith, good (decodeOf s) fits-in .sane .output)
 
-  pub ranged-after : (f : Frame) (alone : Bool) → Bytes (f .content) → Ranged (execute f alone (decodeOf s) .profile)
+  pub ranged-after : (f : Frame) (alone : Bool) → Bytes (f .content) → Ranged (execute f alone (decodeOf s) .run .profile)
   ranged-after f alone b = defined (execute f alone (decodeOf s)) (kept .frame f alone (decodeOf s) b fits-in) .profile

@@ -1,14 +1,11 @@
 -- A tick leaves a servo such as a slot can hold. Assumes nothing.
 use mathlib.Core.Path.{_≡_, refl}
-use mathlib.Core.Bool.{Bool, true, false, cond}
-use Prim.Native.Nat.{_≤_}
+use mathlib.Core.Bool.{true, false}
+use Prim.Native.Nat.{ℕ, _≤_}
 use native.Mathlib.Omega.{arith}
 use borrow.Author.Tests.{eqb-false, ne-eqb}
 use lib.Dec.{eqb}
 use lib.IntN.{ℤ, pos, natAbs}
-use Rattle.base_integers.specs.Whole.{difference}
-use Rattle.servo_motion.specs.declared.Profile.{Profile}
-use Rattle.servo_motion.specs.Setpoint.{whole}
 use Rattle.servo_motion.proofs.Runs.{runs}
 use Rattle.servo_filter.specs.declared.Gains.{Gains}
 use Rattle.servo_filter.specs.declared.Memory.{Memory}
@@ -20,10 +17,11 @@ use Rattle.servo_filter.proofs.Held.{held-most}
 use Rattle.servo_filter.proofs.Answers.{within, keeps}
 use Rattle.servo_rules.specs.declared.Mode.{Mode}
 use Rattle.servo_rules.specs.declared.Mode.the-variants.{Off, Pwm, Hold, Velocity, Trapezoid}
-use Rattle.servo_rules.specs.declared.Drive.{Drive}
+use Rattle.servo_rules.specs.declared.Run.{Run}
 use Rattle.servo_rules.specs.declared.Servo.{Servo}
-use Rattle.servo_rules.specs.Servo.{position, powered, running, putting, withError, withAmplifier, idled, off}
-use Rattle.servo_rules.specs.Tick.{latch, unpowered, advanced, putOut, tripped, filteredTo, servoed, pulsed, drivenBy, ticked}
+use Rattle.servo_rules.specs.State.{positionAt, good, running, putting, withProfile, erring, amplified, idled, off}
+use Rattle.servo_rules.specs.Tick.{unpowered, advanced, putOut, tripped, filteredTo, followedAt, servoed, pulsed, drivenBy, ran, ticked}
+use Rattle.servo_rules.proofs.Keeping.{by-test, either}
 use Rattle.servo_rules.proofs.Ranges.{advanced-ranged}
 use Rattle.servo_slot_rules.specs.Slot.{gains}
 use Rattle.servo_slot_rules.proofs.Good.{InMode, Sane, Good}
@@ -33,93 +31,84 @@ pub gains-ranged : (g : Gains) → gains .codec .fits g → Ranged g
 gains-ranged g t = record { kp = omega arith; kd = omega arith; ki = omega arith; il = omega arith; el = omega arith }
 
 -- what is put out is no larger, and nothing without good power
-module _ (m : Servo) (u : ℤ) where
-  put-most : natAbs u ≤ 255 → natAbs (putOut u m) ≤ 255
+module _ (power : ℕ) (u : ℤ) where
+  put-most : natAbs u ≤ 255 → natAbs (putOut power u) ≤ 255
   unfolding putOut
-  put-most h = at (powered m)
-    where
-      at : (t : Bool) → natAbs (cond t u (pos 0)) ≤ 255
-      at true = h
-      at false = omega arith
+  put-most h = either (λ (z : ℤ). natAbs z ≤ 255) (good power) u (pos 0) h (omega arith)
 
-  put-powerless : (m .latched .power ≡ 1 → ⊥) → putOut u m ≡ pos 0
+  put-powerless : (power ≡ 1 → ⊥) → putOut power u ≡ pos 0
   unfolding putOut
   put-powerless n = rw (ne-eqb _ _ n)
 
-module _ {m : Servo} (g : Good m) where
-  latch-good : (p : Profile) (y : Memory) (d : Drive) → Sane (m .waiting .power) p y d → Good (running p y d (latch m))
-  latch-good p y d s = record {
-    station = g .station;
-    waiting = g .waiting;
-    latched = g .waiting;
-    counts = (g .counts .0, omega arith);
-    tuning = g .tuning;
-    rates = g .rates;
-    load = g .load;
-    sane = s;
-  }
-
-  unpowered-good : Good (unpowered (latch m))
+-- what ran at one power runs on at another
+module _ {before : ℕ} (power here : ℕ) (g : Gains) (h : gains .codec .fits g) {r : Run} (s : Sane before r) where
+  unpowered-sane : Sane power (unpowered r)
   unfolding unpowered off idled
-  unpowered-good = latch-good _ _ _ (off-sane (m .waiting .power) (m .profile) (withAmplifier false (m .drive)) (g .sane .profile))
+  unpowered-sane = off-sane power (amplified false r) (s .profile)
 
-  tripped-good : Good (tripped (advanced (latch m)) (latch m))
+  tripped-sane : Sane power (tripped (advanced r) r)
   unfolding tripped off idled
-  tripped-good =
-      latch-good _ _ _ (off-sane (m .waiting .power) (advanced (latch m)) (withError true (m .drive)) (advanced-ranged (latch m) (g .sane .profile)))
+  tripped-sane = off-sane power (erring true (withProfile (advanced r) r)) (advanced-ranged r (s .profile))
 
   -- the mode's own conditions are asked for at any memory and output
-  module _ (k : (y : Memory) (u : ℤ) → InMode (m .drive .mode) (m .waiting .power) (advanced (latch m)) y (putting u (m .drive))) where
-    filtered-good : (f : Filtered) → Kept (told f .memory) → natAbs (told f .output) ≤ 255 → Good (filteredTo f (advanced (latch m)) (latch m))
-    filtered-good (Filters.Output y u) h l =
-        latch-good _ _ _
-        (record {
-          profile = advanced-ranged (latch m) (g .sane .profile);
-          memory = h;
-          pulse = g .sane .pulse;
-          output = put-most (latch m) u l;
-          powerless = put-powerless (latch m) u;
-          mode = k y (putOut u (latch m));
-        })
-    filtered-good Filters.Off h l = tripped-good
+  module _ (k : (y : Memory) (u : ℤ) → InMode (r .drive .mode) power (running (advanced r) y (putting u (r .drive)))) where
+    filtered-sane : (f : Filtered) → Kept (told f .memory) → natAbs (told f .output) ≤ 255 → Sane power (filteredTo f power (advanced r) r)
+    filtered-sane (Filters.Output y u) m l = record {
+      profile = advanced-ranged r (s .profile);
+      memory = m;
+      pulse = s .pulse;
+      output = put-most power u l;
+      powerless = put-powerless power u;
+      mode = k y (putOut power u);
+    }
+    filtered-sane Filters.Off m l = tripped-sane
 
-    servoed-good : Good (servoed (latch m))
+    servoed-sane : Sane power (servoed power here g r)
     unfolding servoed
-    servoed-good =
-        let e : ℤ = difference (whole (advanced (latch m) .setpoint)) (position (latch m)) in
-        let ol = g .tuning .0 .1 .1 .1 .1 .0 in
-        filtered-good (filtered (m .tuning .gains) (m .memory) e) (keeps _ _ e (gains-ranged (m .tuning .gains) (g .tuning .0)))
-        (omega (arith, within (m .tuning .gains) (m .memory) e))
+    servoed-sane =
+        let e : ℤ = followedAt here r in
+        let ol = h .1 .1 .1 .1 .0 in
+        filtered-sane (filtered g (r .memory) e) (keeps _ _ e (gains-ranged g h)) (omega (arith, within g (r .memory) e))
 
-  driven-good : (k : Mode) → m .drive .mode ≡ k → InMode k (m .latched .power) (m .profile) (m .memory) (m .drive) → (m .waiting .power ≡ 0 → ⊥)
-      → Good (drivenBy k (latch m))
+  driven-sane : (k : Mode) → r .drive .mode ≡ k → InMode k before r → (power ≡ 0 → ⊥) → Sane power (drivenBy k power here g r)
   unfolding pulsed advanced
-  driven-good Off e t n =
-      let s = g .sane in
-      latch-good _ _ _
-      (record { profile = s .profile; memory = s .memory; pulse = s .pulse; output = s .output; powerless = λ z. t .1; mode = rw e t })
-  driven-good Pwm e t n =
-      let s = g .sane in
-      let u : ℤ = held (m .tuning .gains .ol) (m .drive .pulse) in
-      let ol = g .tuning .0 .1 .1 .1 .1 .0 in
-      latch-good _ _ _
-      (record {
+  driven-sane Off e t n = record {
+    profile = s .profile;
+    memory = s .memory;
+    pulse = s .pulse;
+    output = s .output;
+    powerless = λ z. t .1;
+    mode = rw e t;
+  }
+  driven-sane Pwm e t n =
+      let u : ℤ = held (g .ol) (r .drive .pulse) in
+      let ol = h .1 .1 .1 .1 .0 in
+      record {
         profile = s .profile;
         memory = s .memory;
         pulse = s .pulse;
-        output = put-most (latch m) u (omega (arith, held-most (m .tuning .gains .ol) (m .drive .pulse)));
-        powerless = put-powerless (latch m) u;
+        output = put-most power u (omega (arith, held-most (g .ol) (r .drive .pulse)));
+        powerless = put-powerless power u;
         mode = rw e (t .0, record { clear = t .1 .clear; alive = n });
-      })
-  driven-good Hold e t n = servoed-good (λ y u. rw e (t .0, t .1, record { clear = t .2 .clear; alive = n }))
-  driven-good Velocity e t n = servoed-good (λ y u. rw e (t .0, record { clear = t .1 .clear; alive = n }))
-  driven-good Trapezoid e t n =
-      servoed-good (λ y u. rw e (t .0, record { clear = t .1 .clear; alive = n }, runs (m .profile) (g .sane .profile) (t .2)))
+      }
+  driven-sane Hold e t n = servoed-sane (λ y u. rw e (t .0, t .1, record { clear = t .2 .clear; alive = n }))
+  driven-sane Velocity e t n = servoed-sane (λ y u. rw e (t .0, record { clear = t .1 .clear; alive = n }))
+  driven-sane Trapezoid e t n =
+      servoed-sane (λ y u. rw e (t .0, record { clear = t .1 .clear; alive = n }, runs (r .profile) (s .profile) (t .2)))
 
-  pub tick-good : Good (ticked m)
-  unfolding ticked
-  tick-good = at (eqb (m .waiting .power) 0) refl
-    where
-      at : (t : Bool) → eqb (m .waiting .power) 0 ≡ t → Good (cond t (unpowered (latch m)) (drivenBy (m .drive .mode) (latch m)))
-      at true e = unpowered-good
-      at false e = driven-good (m .drive .mode) refl (g .sane .mode) (eqb-false _ _ e)
+  ran-sane : Sane power (ran power here g r)
+  unfolding ran
+  ran-sane =
+      by-test (Sane power) (eqb power 0) (unpowered r) (drivenBy (r .drive .mode) power here g r) (λ e. unpowered-sane)
+      (λ e. driven-sane (r .drive .mode) refl (s .mode) (eqb-false _ _ e))
+
+pub tick-good : {m : Servo} → Good m → Good (ticked m)
+unfolding ticked
+tick-good {m} g = record {
+  station = g .station;
+  samples = (g .samples .0, g .samples .0);
+  counts = (g .counts .0, omega arith);
+  settings = g .settings;
+  sane =
+      ran-sane (m .samples .waiting .power) (positionAt (m .samples .waiting) (m .counts)) (m .settings .tuning .gains) (g .settings .0 .0) (g .sane);
+}

@@ -11,6 +11,7 @@ use Rattle.servo_rules.specs.declared.Rates.{Rates}
 use Rattle.servo_rules.specs.declared.Mode.{Mode}
 use Rattle.servo_rules.specs.declared.Mode.the-variants.{Off, Pwm, Hold, Velocity, Trapezoid}
 use Rattle.servo_rules.specs.declared.Drive.{Drive}
+use Rattle.servo_rules.specs.declared.Run.{Run}
 use Rattle.servo_rules.specs.declared.Servo.{Servo}
 
 -- loaded velocity and acceleration are at most the greatest; an acceleration that was loaded is not 0
@@ -43,16 +44,16 @@ abbrev pub live : ℕ → Drive → Bool
 live power d = not (d .error) && not (eqb power 0)
 
 -- each mode's own conditions; a trapezoid goes toward its goal and can still stop within the distance left
-abbrev pub modeFits : Mode → ℕ → Profile → Memory → Drive → Bool
-modeFits Off power p y d = still p && silent d && emptied y && unpulsed d
-modeFits Pwm power p y d = still p && emptied y && live power d
-modeFits Hold power p y d = still p && unpulsed d && live power d
-modeFits Velocity power p y d = unpulsed d && live power d
-modeFits Trapezoid power p y d = unpulsed d && live power d && running p
+abbrev pub modeFits : Mode → ℕ → Run → Bool
+modeFits Off power r = still (r .profile) && silent (r .drive) && emptied (r .memory) && unpulsed (r .drive)
+modeFits Pwm power r = still (r .profile) && emptied (r .memory) && live power (r .drive)
+modeFits Hold power r = still (r .profile) && unpulsed (r .drive) && live power (r .drive)
+modeFits Velocity power r = unpulsed (r .drive) && live power (r .drive)
+modeFits Trapezoid power r = unpulsed (r .drive) && live power (r .drive) && running (r .profile)
 
 -- without good power there is no output
-unfoldable pub soundAt : ℕ → Profile → Memory → Drive → Bool
-soundAt power p y d = (eqb power 1 || silent d) && modeFits (d .mode) power p y d
+unfoldable pub soundAt : ℕ → Run → Bool
+soundAt power r = (eqb power 1 || silent (r .drive)) && modeFits (r .drive .mode) power r
 
 unfoldable pub sound : Servo → Bool
-sound m = soundAt (m .latched .power) (m .profile) (m .memory) (m .drive)
+sound m = soundAt (m .samples .latched .power) (m .run)

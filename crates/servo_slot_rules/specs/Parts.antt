@@ -1,4 +1,4 @@
--- The parts in which the code writes and tests a slot, one after another; what a slot is stands in Slot.
+-- A reader of the meaning may skip this file: in which parts the code writes and tests a slot, one after another. What a slot is stands in Slot.
 use Prim.Native.Nat.{ℕ}
 use mathlib.Core.List.{List, [], _∷_, _++_}
 use mathlib.Core.Bool.{Bool}
@@ -6,78 +6,79 @@ use lib.ListN.{getD}
 use lib.Dec.{eqb, leb}
 use Rattle.base_integers.specs.Whole.{word}
 use Rattle.base_layout.specs.Bytes.{le, pasted}
-use Rattle.module_station.specs.Slot.{station}
-use Rattle.servo_motion.specs.declared.Profile.{Profile}
+use Rattle.module_rules.specs.Slot.{station}
+use Rattle.module_rules.specs.Slots.{leaderAt, lowAt, causeAt}
 use Rattle.servo_motion.specs.Profile.{inRange}
-use Rattle.servo_filter.specs.declared.Memory.{Memory}
+use Rattle.servo_rules.specs.declared.Sample.{Sample}
 use Rattle.servo_rules.specs.declared.Rates.{Rates}
-use Rattle.servo_rules.specs.declared.Drive.{Drive}
+use Rattle.servo_rules.specs.declared.Run.{Run}
 use Rattle.servo_rules.specs.declared.Servo.{Servo}
+use Rattle.servo_rules.specs.Answers.{typeNumber}
 use Rattle.servo_slot_rules.specs.List.{ratesFit, memoryFits, driveFits}
-use Rattle.servo_slot_rules.specs.Slot.{typeByte, sample, counts, tuning, rates, load, profile, memory, drive}
+use Rattle.servo_slot_rules.specs.Slot.{sample, counts, tuning, rates, load, profile, memory, drive, waitingAt, latchedAt, profileAt, memoryAt, driveAt, powerIn, kpTopAt, kdTopAt, kiTopAt, ilTopAt, elTopAt, pacedAt, rampedAt, waitsAt, wayAt, placedAt, pulsedAt, reverseAt, modeAt, errorAt, amplifierAt, lastAt, speedAt}
 
--- the bytes before and after place 41, one struct after another
+-- the bytes before and after the place of the rates, one part after another
 unfoldable pub frontOf : Servo → List ℕ
 frontOf m =
-    typeByte
+    typeNumber
     ∷ station .codec .enc (m .station)
-    ++ sample .codec .enc (m .waiting)
-    ++ sample .codec .enc (m .latched)
+    ++ sample .codec .enc (m .samples .waiting)
+    ++ sample .codec .enc (m .samples .latched)
     ++ counts .codec .enc (m .counts)
-    ++ tuning .codec .enc (m .tuning)
+    ++ tuning .codec .enc (m .settings .tuning)
 
 unfoldable pub backOf : Servo → List ℕ
 backOf m =
-    rates .codec .enc (m .rates)
-    ++ load .codec .enc (m .load)
-    ++ profile .codec .enc (m .profile)
-    ++ memory .codec .enc (m .memory)
-    ++ drive .codec .enc (m .drive)
+    rates .codec .enc (m .settings .rates)
+    ++ load .codec .enc (m .settings .load)
+    ++ profile .codec .enc (m .run .profile)
+    ++ memory .codec .enc (m .run .memory)
+    ++ drive .codec .enc (m .run .drive)
 
 -- a slot over which only what a tick changes is put: the latched sample, the last position, setpoint and speed, memory and drive
-unfoldable pub tickedOver : Servo → List ℕ → List ℕ
-tickedOver m s =
-    pasted 95 (drive .codec .enc (m .drive))
-    (pasted 87 (memory .codec .enc (m .memory))
-    (pasted 67 (le 4 (word (m .profile .speed)))
-    (pasted 61 (le 6 (m .profile .setpoint))
-    (pasted 24 (le 4 (m .counts .last))
-    (pasted 14 (sample .codec .enc (m .latched)) s)))))
+unfoldable pub tickedOver : Sample → ℕ → Run → List ℕ → List ℕ
+tickedOver x last r s =
+    pasted driveAt (drive .codec .enc (r .drive))
+    (pasted memoryAt (memory .codec .enc (r .memory))
+    (pasted speedAt (le 4 (word (r .profile .speed)))
+    (pasted profileAt (le 6 (r .profile .setpoint))
+    (pasted lastAt (le 4 last)
+    (pasted latchedAt (sample .codec .enc x) s)))))
 
 -- the tests of a slot in its order, but for the last one, which is `sound`
 abbrev pub frontTests : List ℕ → List Bool
 frontTests s =
-    eqb (getD s 0 0) typeByte
-    ∷ leb (getD s 3 0) 1
-    ∷ leb (getD s 4 0) 1
-    ∷ leb (getD s 5 0) 3
-    ∷ leb (getD s 12 0) 2
-    ∷ leb (getD s 18 0) 2
-    ∷ leb (getD s 29 0) 127
-    ∷ leb (getD s 31 0) 127
-    ∷ leb (getD s 33 0) 127
-    ∷ leb (getD s 35 0) 127
-    ∷ leb (getD s 38 0) 63
+    eqb (getD s 0 0) typeNumber
+    ∷ leb (getD s leaderAt 0) 1
+    ∷ leb (getD s lowAt 0) 1
+    ∷ leb (getD s causeAt 0) 3
+    ∷ leb (getD s (powerIn waitingAt) 0) 2
+    ∷ leb (getD s (powerIn latchedAt) 0) 2
+    ∷ leb (getD s kpTopAt 0) 127
+    ∷ leb (getD s kdTopAt 0) 127
+    ∷ leb (getD s kiTopAt 0) 127
+    ∷ leb (getD s ilTopAt 0) 127
+    ∷ leb (getD s elTopAt 0) 63
     ∷ []
 
 abbrev pub loadTests : Rates → List ℕ → List Bool
 loadTests r s =
-    leb (getD s 49 0) 1
-    ∷ leb (getD s 50 0) 1
+    leb (getD s pacedAt 0) 1
+    ∷ leb (getD s rampedAt 0) 1
     ∷ ratesFit r
-    ∷ leb (getD s 51 0) 1
-    ∷ leb (getD s 52 0) 2
-    ∷ leb (getD s 53 0) 1
-    ∷ leb (getD s 58 0) 1
-    ∷ leb (getD s 60 0) 1
+    ∷ leb (getD s waitsAt 0) 1
+    ∷ leb (getD s wayAt 0) 2
+    ∷ leb (getD s placedAt 0) 1
+    ∷ leb (getD s pulsedAt 0) 1
+    ∷ leb (getD s reverseAt 0) 1
     ∷ []
 
-abbrev pub motionTests : Profile → Memory → Drive → List ℕ → List Bool
-motionTests p y d s =
-    inRange p
-    ∷ memoryFits y
-    ∷ leb (getD s 95 0) 4
-    ∷ leb (getD s 104 0) 1
-    ∷ leb (getD s 105 0) 1
-    ∷ driveFits d
+abbrev pub runTests : Run → List ℕ → List Bool
+runTests r s =
+    inRange (r .profile)
+    ∷ memoryFits (r .memory)
+    ∷ leb (getD s modeAt 0) 4
+    ∷ leb (getD s errorAt 0) 1
+    ∷ leb (getD s amplifierAt 0) 1
+    ∷ driveFits (r .drive)
     ∷ []

@@ -1,20 +1,22 @@
--- How a servo stands in a slot: 106 bytes, of which the first is its type.
+-- How a servo stands in a slot: its parts one after another, of which the first is its type.
 use mathlib.Core.Path.{_≡_, refl}
-use Prim.Native.Nat.{ℕ, zero, suc, _≤_}
+use Prim.Native.Nat.{ℕ, zero, suc, _+_, _≤_}
 use native.Mathlib.Omega.{arith}
 use mathlib.Core.List.{List}
 use mathlib.Core.Bool.{Bool}
 use lib.IntN.{ℤ}
 use Rattle.base_layout.specs.Codec.{okIn}
 use Rattle.base_layout.proofs.Shape.{Shape, byte, number, capped, topped, whole, flag, oneOf, stamp, such, _then_, shaped}
-use Rattle.module_station.specs.declared.Station.{Station}
-use Rattle.module_station.specs.Slot.{station}
+use Rattle.module_rules.specs.declared.Station.{Station}
+use Rattle.module_rules.specs.Slot.{station}
+use Rattle.module_rules.specs.Slots.{Slots, ownAt}
 use Rattle.servo_motion.specs.declared.Profile.{Profile}
 use Rattle.servo_motion.specs.Profile.{inRange}
 use Rattle.servo_filter.specs.declared.Gains.{Gains}
 use Rattle.servo_filter.specs.declared.Memory.{Memory}
-use Rattle.servo_parse.specs.declared.Tuning.{Tuning}
+use Rattle.servo_rules.specs.declared.Tuning.{Tuning}
 use Rattle.servo_rules.specs.declared.Sample.{Sample}
+use Rattle.servo_rules.specs.declared.Samples.{Samples}
 use Rattle.servo_rules.specs.declared.Counts.{Counts}
 use Rattle.servo_rules.specs.declared.Way.{Way}
 use Rattle.servo_rules.specs.declared.Way.the-variants.{Pulse, Speed, Move}
@@ -23,11 +25,11 @@ use Rattle.servo_rules.specs.declared.Rates.{Rates}
 use Rattle.servo_rules.specs.declared.Mode.{Mode}
 use Rattle.servo_rules.specs.declared.Mode.the-variants.{Off, Pwm, Hold, Velocity, Trapezoid}
 use Rattle.servo_rules.specs.declared.Drive.{Drive}
+use Rattle.servo_rules.specs.declared.Settings.{Settings}
+use Rattle.servo_rules.specs.declared.Run.{Run}
 use Rattle.servo_rules.specs.declared.Servo.{Servo}
+use Rattle.servo_rules.specs.Answers.{typeNumber}
 use Rattle.servo_slot_rules.specs.List.{ratesFit, memoryFits, driveFits, sound}
-
-abbrev pub typeByte : ℕ
-typeByte = 0
 
 -- the numbers of the ways and of the modes
 abbrev pub wayByte : Way → ℕ
@@ -105,6 +107,12 @@ sampleParts x = (x .raw, (x .power, x .ad))
 abbrev pub sampleOf : ℕ × (ℕ × ℕ) → Sample
 sampleOf t = record { raw = t .0; power = t .1 .0; ad = t .1 .1 }
 
+abbrev pub samplesParts : Samples → Sample × Sample
+samplesParts x = (x .waiting, x .latched)
+
+abbrev pub samplesOf : Sample × Sample → Samples
+samplesOf t = record { waiting = t .0; latched = t .1 }
+
 abbrev pub countsParts : Counts → ℕ × ℕ
 countsParts x = (x .offset, x .last)
 
@@ -143,6 +151,12 @@ loadOf t = record {
   reverse = t .1 .1 .1 .1 .1 .1;
 }
 
+abbrev pub settingsParts : Settings → Tuning × (Rates × Load)
+settingsParts x = (x .tuning, (x .rates, x .load))
+
+abbrev pub settingsOf : Tuning × (Rates × Load) → Settings
+settingsOf t = record { tuning = t .0; rates = t .1 .0; load = t .1 .1 }
+
 abbrev pub profileParts : Profile → ℕ × (ℤ × (ℕ × (ℤ × (ℕ × ℕ))))
 profileParts p = (p .setpoint, (p .speed, (p .goal, (p .aim, (p .acceleration, p .top)))))
 
@@ -161,29 +175,27 @@ driveParts d = (d .mode, (d .pulse, (d .output, (d .error, d .amplifier))))
 abbrev pub driveOf : Mode × (ℤ × (ℤ × (Bool × Bool))) → Drive
 driveOf t = record { mode = t .0; pulse = t .1 .0; output = t .1 .1 .0; error = t .1 .1 .1 .0; amplifier = t .1 .1 .1 .1 }
 
+abbrev pub runParts : Run → Profile × (Memory × Drive)
+runParts r = (r .profile, (r .memory, r .drive))
+
+abbrev pub runOf : Profile × (Memory × Drive) → Run
+runOf t = record { profile = t .0; memory = t .1 .0; drive = t .1 .1 }
+
 abbrev pub Parts : Type 0
-Parts = Unit {0} × (Station × (Sample × (Sample × (Counts × (Tuning × (Rates × (Load × (Profile × (Memory × Drive)))))))))
+Parts = Unit {0} × (Station × (Samples × (Counts × (Settings × Run))))
 
 abbrev pub servoParts : Servo → Parts
-servoParts m = (tt, (m .station, (m .waiting, (m .latched, (m .counts, (m .tuning, (m .rates, (m .load, (m .profile, (m .memory, m .drive))))))))))
+servoParts m = (tt, (m .station, (m .samples, (m .counts, (m .settings, m .run)))))
 
 abbrev pub servoOf : Parts → Servo
-servoOf t = record {
-  station = t .1 .0;
-  waiting = t .1 .1 .0;
-  latched = t .1 .1 .1 .0;
-  counts = t .1 .1 .1 .1 .0;
-  tuning = t .1 .1 .1 .1 .1 .0;
-  rates = t .1 .1 .1 .1 .1 .1 .0;
-  load = t .1 .1 .1 .1 .1 .1 .1 .0;
-  profile = t .1 .1 .1 .1 .1 .1 .1 .1 .0;
-  memory = t .1 .1 .1 .1 .1 .1 .1 .1 .1 .0;
-  drive = t .1 .1 .1 .1 .1 .1 .1 .1 .1 .1;
-}
+servoOf t = record { station = t .1 .0; samples = t .1 .1 .0; counts = t .1 .1 .1 .0; settings = t .1 .1 .1 .1 .0; run = t .1 .1 .1 .1 .1 }
 
 -- power is 0 to 2
 abbrev pub sample : Shape Sample
 sample = shaped sampleOf sampleParts (λ t. refl) (λ x. refl) (number 4 then capped 2 then byte)
+
+abbrev pub samples : Shape Samples
+samples = shaped samplesOf samplesParts (λ t. refl) (λ x. refl) (sample then sample)
 
 abbrev pub counts : Shape Counts
 counts = shaped countsOf countsParts (λ t. refl) (λ x. refl) (number 4 then number 4)
@@ -201,6 +213,9 @@ rates = such ratesFit (shaped ratesOf ratesParts (λ t. refl) (λ r. refl) (numb
 abbrev pub load : Shape Load
 load = shaped loadOf loadParts (λ t. refl) (λ l. refl) (flag then way then flag then number 4 then flag then byte then flag)
 
+abbrev pub settings : Shape Settings
+settings = shaped settingsOf settingsParts (λ t. refl) (λ x. refl) (tuning then rates then load)
+
 abbrev pub profile : Shape Profile
 profile = such inRange (shaped profileOf profileParts (λ t. refl) (λ p. refl) (number 6 then whole then number 4 then whole then number 4 then number 4))
 
@@ -210,11 +225,100 @@ memory = such memoryFits (shaped memoryOf memoryParts (λ t. refl) (λ y. refl) 
 abbrev pub drive : Shape Drive
 drive = such driveFits (shaped driveOf driveParts (λ t. refl) (λ d. refl) (mode then whole then whole then flag then flag))
 
+abbrev pub run : Shape Run
+run = shaped runOf runParts (λ t. refl) (λ r. refl) (profile then memory then drive)
+
 abbrev pub slot : Shape Servo
 slot =
     such sound
-    (shaped servoOf servoParts (λ t. refl) (λ m. refl)
-    (stamp typeByte (omega arith) then station then sample then sample then counts then tuning then rates then load then profile then memory then drive))
+    (shaped servoOf servoParts (λ t. refl) (λ m. refl) (stamp typeNumber (omega arith) then station then samples then counts then settings then run))
+
+-- where each part begins: after the parts before it
+abbrev pub waitingAt : ℕ
+waitingAt = ownAt
+
+abbrev pub latchedAt : ℕ
+latchedAt = waitingAt + sample .codec .size
+
+abbrev pub countsAt : ℕ
+countsAt = latchedAt + sample .codec .size
+
+abbrev pub tuningAt : ℕ
+tuningAt = countsAt + counts .codec .size
+
+abbrev pub ratesAt : ℕ
+ratesAt = tuningAt + tuning .codec .size
+
+abbrev pub loadAt : ℕ
+loadAt = ratesAt + rates .codec .size
+
+abbrev pub profileAt : ℕ
+profileAt = loadAt + load .codec .size
+
+abbrev pub memoryAt : ℕ
+memoryAt = profileAt + profile .codec .size
+
+abbrev pub driveAt : ℕ
+driveAt = memoryAt + memory .codec .size
+
+-- the places of single fields: power in a sample; the upper bytes of gains and limits; flags, way and mode; what a tick changes of a profile
+abbrev pub powerIn : ℕ → ℕ
+powerIn at = at + 4
+
+abbrev pub kpTopAt : ℕ
+kpTopAt = tuningAt + 1
+
+abbrev pub kdTopAt : ℕ
+kdTopAt = kpTopAt + 2
+
+abbrev pub kiTopAt : ℕ
+kiTopAt = kdTopAt + 2
+
+abbrev pub ilTopAt : ℕ
+ilTopAt = kiTopAt + 2
+
+abbrev pub elTopAt : ℕ
+elTopAt = ilTopAt + 3
+
+abbrev pub pacedAt : ℕ
+pacedAt = ratesAt + 8
+
+abbrev pub rampedAt : ℕ
+rampedAt = pacedAt + 1
+
+abbrev pub waitsAt : ℕ
+waitsAt = loadAt
+
+abbrev pub wayAt : ℕ
+wayAt = waitsAt + 1
+
+abbrev pub placedAt : ℕ
+placedAt = wayAt + 1
+
+abbrev pub pulsedAt : ℕ
+pulsedAt = placedAt + 5
+
+abbrev pub reverseAt : ℕ
+reverseAt = pulsedAt + 2
+
+abbrev pub modeAt : ℕ
+modeAt = driveAt
+
+abbrev pub errorAt : ℕ
+errorAt = modeAt + 9
+
+abbrev pub amplifierAt : ℕ
+amplifierAt = errorAt + 1
+
+abbrev pub lastAt : ℕ
+lastAt = countsAt + 4
+
+abbrev pub speedAt : ℕ
+speedAt = profileAt + 6
+
+-- how many bytes of a slot a servo has
+abbrev pub servoSize : ℕ
+servoSize = driveAt + drive .codec .size
 
 -- a servo's bytes, the servo in a slot, and whether a slot is valid
 unfoldable pub encodeOf : Servo → List ℕ
@@ -225,3 +329,6 @@ decodeOf s = slot .codec .dec 0 s
 
 unfoldable pub okOf : List ℕ → Bool
 okOf s = okIn (slot .codec) s
+
+abbrev pub slots : Slots Servo
+slots = record { enc = encodeOf; dec = decodeOf; ok = okOf; fits = slot .codec .fits }

@@ -2,39 +2,18 @@
 ghost use mathlib.Core.Path.{_≡_};
 ghost use mathlib.Core.Bool.{cond};
 ghost use Rattle.servo_motion.specs.Profile.{Ranged};
-ghost use Rattle.servo_rules.specs.Servo.{setpointAt, ready, servoOff, noLoad, dropped};
-ghost use Rattle.servo_rules.specs.Loads.{wayOf, loadOf, ratesOf, loaded, beginning, movable, complete, startable, signedBy, servoing, aimed, sent, toSpeed, toPlace, startedBy, start};
-ghost use Rattle.servo_rules.specs.Orders.{can, perform};
+ghost use Rattle.servo_rules.specs.Loads.{wayOf, loadOf, ratesOf, loaded, beginningAt, movable, complete, startable, signedBy, sent, toPlace, startedBy, start};
+ghost use Rattle.servo_rules.specs.Perform.{can, perform};
 use servo_motion::Profile;
-use servo_parse::Carried;
-use servo_parse::Order;
-use servo_rules::Drive;
+use servo_rules::Carried;
 use servo_rules::Load;
 use servo_rules::Mode;
+use servo_rules::Order;
 use servo_rules::Rates;
+use servo_rules::Run;
 use servo_rules::Servo;
+use servo_rules::Settings;
 use servo_rules::Way;
-
-pub fn no_load() -> Load
-    ensures { λ r. ⌜ r ≡ noLoad ⌝ }
-{
-    Load {
-        waits: false,
-        way: Way::Pulse,
-        placed: false,
-        place: 0,
-        pulsed: false,
-        pulse: 0,
-        reverse: false,
-    }
-}
-
-pub fn dropped(mut m: Servo) -> Servo
-    ensures { λ r. ⌜ r ≡ dropped m ⌝ }
-{
-    m.load = no_load();
-    m
-}
 
 fn way_of(control: u8) -> Way
     ensures { λ r. ⌜ r ≡ wayOf control ⌝ }
@@ -85,88 +64,69 @@ fn rates_of(c: Carried, r: Rates) -> Rates
 fn loaded(mut m: Servo, c: Carried) -> Servo
     ensures { λ r. ⌜ r ≡ loaded c m ⌝ }
 {
-    let rates = m.rates;
-    m.rates = rates_of(c, rates);
-    m.load = load_of(c);
+    let mut s = m.settings;
+    let earlier = s.rates;
+    s.rates = rates_of(c, earlier);
+    s.load = load_of(c);
+    m.settings = s;
     m
 }
 
-// The setpoint at a position, without a fraction.
-pub fn setpoint_at(x: u32) -> u64
-    ensures { λ r. ⌜ r ≡ setpointAt x ⌝ }
+// The setpoint that a start begins with, at a position.
+fn beginning_at(here: u32, r: Run) -> u64
+    ensures { λ q. ⌜ q ≡ beginningAt here r ⌝ }
 {
-    65536 * (x as u64)
-}
-
-// PWM counts as servo off.
-pub fn is_servo_off(mode: Mode) -> bool
-    ensures { λ r. ⌜ r ≡ servoOff mode ⌝ }
-{
-    match mode {
-        Mode::Off => true,
-        Mode::Pwm => true,
-        Mode::Hold => false,
-        Mode::Velocity => false,
-        Mode::Trapezoid => false,
-    }
-}
-
-// The setpoint that a start begins with.
-fn beginning(m: Servo) -> u64
-    ensures { λ r. ⌜ r ≡ beginning m ⌝ }
-{
-    let d = m.drive;
+    let d = r.drive;
     let mode = d.mode;
-    if is_servo_off(mode) {
-        return setpoint_at(servo_tick::position(m));
+    if servo_run::is_servo_off(mode) {
+        return servo_run::setpoint_at(here);
     }
-    m.profile.setpoint
-}
-
-pub fn is_ready(m: Servo) -> bool
-    ensures { λ r. ⌜ r ≡ ready m ⌝ }
-{
-    (m.latched.power == 1) & !m.drive.error
+    r.profile.setpoint
 }
 
 fn is_movable(m: Servo) -> bool
-    requires { ⌜ Ranged (m .profile) ⌝ }
+    requires { ⌜ Ranged (m .run .profile) ⌝ }
     ensures { λ r. ⌜ r ≡ movable m ⌝ }
 {
-    let whole = servo_motion::whole(beginning(m));
-    let still = servo_tick::is_at_rest(m);
-    let away = base_integers::less(m.load.place, whole);
-    m.rates.paced
-        & m.rates.ramped
-        & m.load.placed
-        & (0 < m.rates.velocity)
+    let s = m.settings;
+    let here = servo_run::position(m.samples.latched, m.counts);
+    let whole = servo_motion::whole(beginning_at(here, m.run));
+    let still = servo_run::is_at_rest(m.run);
+    let away = base_integers::less(s.load.place, whole);
+    s.rates.paced
+        & s.rates.ramped
+        & s.load.placed
+        & (0 < s.rates.velocity)
         & still
         & (away != 0x8000_0000)
 }
 
 fn is_complete(m: Servo) -> bool
-    requires { ⌜ Ranged (m .profile) ⌝ }
+    requires { ⌜ Ranged (m .run .profile) ⌝ }
     ensures { λ r. ⌜ r ≡ complete m ⌝ }
 {
-    let l = m.load;
+    let s = m.settings;
+    let l = s.load;
     let way = l.way;
     match way {
-        Way::Pulse => m.load.pulsed,
-        Way::Speed => m.rates.paced & m.rates.ramped,
+        Way::Pulse => l.pulsed,
+        Way::Speed => s.rates.paced & s.rates.ramped,
         Way::Move => is_movable(m),
     }
 }
 
 pub fn is_startable(m: Servo) -> bool
-    requires { ⌜ Ranged (m .profile) ⌝ }
+    requires { ⌜ Ranged (m .run .profile) ⌝ }
     ensures { λ r. ⌜ r ≡ startable m ⌝ }
 {
-    m.load.waits & is_complete(m) & is_ready(m)
+    m.settings.load.waits
+        & is_complete(m)
+        & servo_run::is_ready(m.samples.latched.power, m.run.drive)
 }
 
 // Whether a load can be taken now: where it starts now, whether it could start if it waited.
 pub fn can_load(m: Servo, c: Carried) -> bool
-    requires { ⌜ Ranged (m .profile) ⌝ }
+    requires { ⌜ Ranged (m .run .profile) ⌝ }
     ensures { λ r. ⌜ r ≡ can (Order.LoadTrajectory c) m ⌝ }
 {
     !servo_parse::is_set(7, c.control) | is_startable(loaded(m, c))
@@ -180,34 +140,7 @@ fn signed_by(reverse: bool, n: u32) -> i64
     if reverse { 0 - z } else { z }
 }
 
-// On: the output stays until the tick.
-pub fn servoing(d: Drive, mode: Mode) -> Drive
-    ensures { λ r. ⌜ r ≡ servoing mode d ⌝ }
-{
-    Drive {
-        mode,
-        pulse: 0,
-        output: d.output,
-        error: d.error,
-        amplifier: d.amplifier,
-    }
-}
-
-// Toward a goal speed, from the speed that it has.
-fn aimed(p: Profile, setpoint: u64, aim: i64, a: u32) -> Profile
-    ensures { λ r. ⌜ r ≡ aimed setpoint aim a p ⌝ }
-{
-    Profile {
-        setpoint,
-        speed: p.speed,
-        goal: p.goal,
-        aim,
-        acceleration: a,
-        top: p.top,
-    }
-}
-
-// Toward a position.
+// Toward a position, from the speed that it has.
 fn sent(p: Profile, setpoint: u64, goal: u32, a: u32, top: u32) -> Profile
     ensures { λ r. ⌜ r ≡ sent setpoint goal a top p ⌝ }
 {
@@ -221,57 +154,51 @@ fn sent(p: Profile, setpoint: u64, goal: u32, a: u32, top: u32) -> Profile
     }
 }
 
-pub fn to_speed(m: Servo, setpoint: u64, aim: i64, a: u32) -> Servo
-    ensures { λ r. ⌜ r ≡ toSpeed setpoint aim a m ⌝ }
+// A trapezoid.
+fn to_place(r: Run, setpoint: u64, goal: u32, a: u32, top: u32) -> Run
+    ensures { λ q. ⌜ q ≡ toPlace setpoint goal a top r ⌝ }
 {
-    let p = m.profile;
-    let d = m.drive;
-    servo_tick::running(
-        m,
-        aimed(p, setpoint, aim, a),
-        m.memory,
-        servoing(d, Mode::Velocity),
-    )
+    let p = r.profile;
+    let y = r.memory;
+    let d = r.drive;
+    Run {
+        profile: sent(p, setpoint, goal, a, top),
+        memory: y,
+        drive: servo_run::servoing(d, Mode::Trapezoid),
+    }
 }
 
-fn to_place(m: Servo, setpoint: u64, goal: u32, a: u32, top: u32) -> Servo
-    ensures { λ r. ⌜ r ≡ toPlace setpoint goal a top m ⌝ }
+// What a start of this mode, at a position, makes of what runs.
+fn started_by(way: Way, here: u32, s: Settings, r: Run) -> Run
+    ensures { λ q. ⌜ q ≡ startedBy way here s r ⌝ }
 {
-    let p = m.profile;
-    let d = m.drive;
-    servo_tick::running(
-        m,
-        sent(p, setpoint, goal, a, top),
-        m.memory,
-        servoing(d, Mode::Trapezoid),
-    )
-}
-
-fn started_by(m: Servo, way: Way) -> Servo
-    ensures { λ r. ⌜ r ≡ startedBy way m ⌝ }
-{
-    let setpoint = beginning(m);
-    let r = m.rates;
-    let l = m.load;
+    let setpoint = beginning_at(here, r);
+    let n = s.rates;
+    let l = s.load;
     match way {
-        Way::Pulse => servo_tick::idled(m, Mode::Pwm, signed_by(l.reverse, l.pulse as u32)),
-        Way::Speed => to_speed(
-            m,
+        Way::Pulse => servo_run::idled(r, Mode::Pwm, signed_by(l.reverse, l.pulse as u32)),
+        Way::Speed => servo_run::to_speed(
+            r,
             setpoint,
-            signed_by(l.reverse, r.velocity),
-            r.acceleration,
+            signed_by(l.reverse, n.velocity),
+            n.acceleration,
         ),
-        Way::Move => to_place(m, setpoint, l.place, r.acceleration, r.velocity),
+        Way::Move => to_place(r, setpoint, l.place, n.acceleration, n.velocity),
     }
 }
 
 // Starting uses the load up.
-pub fn start(m: Servo) -> Servo
+pub fn start(mut m: Servo) -> Servo
     ensures { λ r. ⌜ r ≡ start m ⌝ }
 {
-    let l = m.load;
+    let s = m.settings;
+    let l = s.load;
     let way = l.way;
-    dropped(started_by(m, way))
+    let here = servo_run::position(m.samples.latched, m.counts);
+    let r = m.run;
+    m.run = started_by(way, here, s, r);
+    m.settings = servo_run::dropped(s);
+    m
 }
 
 pub fn with_load(m: Servo, c: Carried) -> Servo

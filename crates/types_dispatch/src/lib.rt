@@ -1,40 +1,35 @@
-// The calls on a slot of either type: each goes to the crate of its type, by the first byte.
+// The calls on a slot of any type: each goes to the crate of its type, by the first byte. A further type is an arm in each.
 ghost use mathlib.Core.Path.{_≡_};
 ghost use mathlib.Core.Bool.{true};
-ghost use mathlib.Core.Logic.{inl, inr};
 ghost use Prim.Native.Nat.{_+_, _≤_};
 ghost use lib.ListN.{length};
 ghost use Rattle.base_layout.specs.Bytes.{pasted};
-ghost use Rattle.module_station.specs.Touch.{frameOf};
-ghost use Rattle.chain_rules.specs.Chain.{executed, replied};
-ghost use Rattle.chain_rules.specs.Slots.{slotSize};
-ghost use Rattle.types_rules.specs.Types.{kind, slots, known, powered, measured, outputs};
-use module_station::Head;
+ghost use Rattle.module_rules.specs.Touch.{frameOf};
+ghost use Rattle.module_rules.specs.Kind.{executed, replied};
+ghost use Rattle.module_rules.specs.Slots.{slotSize};
+ghost use Rattle.module_rules.specs.Owes.{replySize};
+ghost use Rattle.types_rules.specs.Table.{ModuleType, servo, inout, measured};
+ghost use Rattle.types_rules.specs.Types.{kind, slots, powered, outputs};
+use module_rules::Head;
 use types_rules::Measured;
-
-pub fn is_known(t: u8) -> bool
-    ensures { λ r. ⌜ r ≡ known t ⌝ }
-{
-    (t == 0) | (t == 2)
-}
 
 // Whether a slot holds a valid module.
 pub fn is_ok(s: &[u8]) -> bool
     requires { ⌜ length (now s) ≡ slotSize ⌝ }
     ensures { λ r. ⌜ r ≡ slots .ok (now (s .entry)) ⌝ }
 {
-    if s[0] == 0 {
+    if s[0] == servo_rules::TYPE {
         return servo_slot_list::is_ok(s);
     }
     inout_slot::is_ok(s)
 }
 
-// A module of a known type at power-up, put into a slot.
+// A module of a type at power-up, put into a slot.
 pub fn power_up(s: &mut [u8], t: u8)
-    requires { ⌜ (length (now s) ≡ slotSize) × (known t ≡ true) ⌝ }
+    requires { ⌜ length (now s) ≡ slotSize ⌝ }
     ensures { λ _. ⌜ now (s .exit) ≡ pasted 0 (slots .enc (powered t)) (now (s .entry)) ⌝ }
 {
-    if t == 0 {
+    if t == servo_rules::TYPE {
         servo_slot_put::put(s, servo_perform::power_up());
     } else {
         inout_slot::put(s, inout_perform::power_up());
@@ -43,12 +38,12 @@ pub fn power_up(s: &mut [u8], t: u8)
 
 // A frame that touches the module in a slot: the module after it, and its reply in the room from place from on; how many bytes that has.
 pub fn touch(s: &mut [u8], f: Head, ds: &[u8], room: &mut [u8], from: usize) -> usize
-    requires { ⌜ (length (now s) ≡ slotSize) × (slots .ok (now s) ≡ true) × (from + 19 ≤ length (now room)) ⌝ }
+    requires { ⌜ (length (now s) ≡ slotSize) × (slots .ok (now s) ≡ true) × (from + replySize ≤ length (now room)) ⌝ }
     ensures { λ r. ⌜ r ≡ length (replied kind (frameOf f (now (ds .entry))) (slots .dec (now (s .entry)))) ⌝ }
     ensures { λ _. ⌜ now (s .exit) ≡ pasted 0 (slots .enc (executed kind (frameOf f (now (ds .entry))) (slots .dec (now (s .entry))))) (now (s .entry)) ⌝ }
     ensures { λ _. ⌜ now (room .exit) ≡ pasted from (replied kind (frameOf f (now (ds .entry))) (slots .dec (now (s .entry)))) (now (room .entry)) ⌝ }
 {
-    if s[0] == 0 {
+    if s[0] == servo_rules::TYPE {
         return servo_calls::touch(s, f, ds, room, from);
     }
     inout_calls::touch(s, f, ds, room, from)
@@ -59,7 +54,7 @@ pub fn tick(s: &mut [u8])
     requires { ⌜ (length (now s) ≡ slotSize) × (slots .ok (now s) ≡ true) ⌝ }
     ensures { λ _. ⌜ now (s .exit) ≡ pasted 0 (slots .enc (kind .tick (slots .dec (now (s .entry))))) (now (s .entry)) ⌝ }
 {
-    if s[0] == 0 {
+    if s[0] == servo_rules::TYPE {
         servo_calls::tick(s);
     } else {
         inout_calls::tick(s);
@@ -69,9 +64,9 @@ pub fn tick(s: &mut [u8])
 // A sample for a servo; a module of another type is left as it is.
 fn put_servo_sample(s: &mut [u8], x: servo_rules::Sample)
     requires { ⌜ (length (now s) ≡ slotSize) × (slots .ok (now s) ≡ true) ⌝ }
-    ensures { λ _. ⌜ now (s .exit) ≡ pasted 0 (slots .enc (kind .sample (inl x) (slots .dec (now (s .entry))))) (now (s .entry)) ⌝ }
+    ensures { λ _. ⌜ now (s .exit) ≡ pasted 0 (slots .enc (kind .sample (servo, x) (slots .dec (now (s .entry))))) (now (s .entry)) ⌝ }
 {
-    if s[0] == 0 {
+    if s[0] == servo_rules::TYPE {
         servo_calls::put_sample(s, x);
     }
 }
@@ -79,9 +74,9 @@ fn put_servo_sample(s: &mut [u8], x: servo_rules::Sample)
 // A sample for an I/O module.
 fn put_io_sample(s: &mut [u8], x: inout_rules::Sample)
     requires { ⌜ (length (now s) ≡ slotSize) × (slots .ok (now s) ≡ true) ⌝ }
-    ensures { λ _. ⌜ now (s .exit) ≡ pasted 0 (slots .enc (kind .sample (inr x) (slots .dec (now (s .entry))))) (now (s .entry)) ⌝ }
+    ensures { λ _. ⌜ now (s .exit) ≡ pasted 0 (slots .enc (kind .sample (inout, x) (slots .dec (now (s .entry))))) (now (s .entry)) ⌝ }
 {
-    if s[0] != 0 {
+    if s[0] != servo_rules::TYPE {
         inout_calls::put_sample(s, x);
     }
 }
@@ -102,8 +97,8 @@ pub fn outputs(s: &[u8]) -> [u8; 8]
     requires { ⌜ (length (now s) ≡ slotSize) × (slots .ok (now s) ≡ true) ⌝ }
     ensures { λ r. ⌜ r ≡ outputs (slots .dec (now (s .entry))) ⌝ }
 {
-    if s[0] == 0 {
+    if s[0] == servo_rules::TYPE {
         return servo_calls::outputs(s);
     }
-    inout_perform::outputs(inout_slot::decode(s))
+    inout_calls::outputs(s)
 }

@@ -1,34 +1,33 @@
 -- A module of any type that can be written stays one, from power-up on. Assumes nothing.
-use mathlib.Core.Path.{_≡_}
-use mathlib.Core.Bool.{Bool, true, false, cond}
-use mathlib.Core.Logic.{inl, inr}
+use mathlib.Core.Path.{_≡_, refl}
+use mathlib.Core.Bool.{Bool}
 use Prim.Native.Nat.{ℕ}
-use lib.Dec.{eqb}
-use Rattle.chain_rules.specs.Slots.{Preserves}
-use Rattle.chain_rules.proofs.Either.{either-preserves}
-use Rattle.inout_rules.specs.Module as Inout
-use Rattle.inout_rules.specs.Slot as InoutSlot
-use Rattle.inout_rules.proofs.Within as Inouts
-use Rattle.servo_rules.specs.Servo as ServoState
-use Rattle.servo_rules.specs.Answers as ServoAnswers
-use Rattle.servo_slot_rules.specs.Slot as ServoSlot
-use Rattle.servo_slot_rules.proofs.Within as Servos
-use Rattle.types_rules.specs.Types.{kind, servoSlots, inoutSlots, slots, known, powered, Good}
+use Rattle.module_rules.specs.Slots.{Preserves}
+use Rattle.module_rules.proofs.Kept as Any
+use Rattle.types_rules.specs.Table.{ModuleType, servo, inout, Of, SampleOf, rulesOf, slotsOf, GoodOf, given}
+use Rattle.types_rules.specs.Types.{kind, typeIn, slots, powered, Good}
+use Rattle.types_rules.proofs.Owed.{owes}
 
-servo-preserves : Preserves ServoAnswers.servo servoSlots (ServoSlot.sample .codec .fits)
-servo-preserves = record { execute = Servos.kept .frame; sample = Servos.kept .sampling; tick = Servos.kept .tick }
-
-inout-preserves : Preserves Inout.inout inoutSlots (InoutSlot.sample .codec .fits)
-inout-preserves = record { execute = Inouts.kept .frame; sample = Inouts.kept .sampling; tick = Inouts.kept .tick }
+given-fits : (t u : ModuleType) (x : SampleOf t) (m : Of u) → GoodOf t x → slotsOf u .fits m → slotsOf u .fits (given t u x m)
+given-fits servo servo x m g h = owes servo .sample x m g h
+given-fits servo inout x m g h = h
+given-fits inout servo x m g h = h
+given-fits inout inout x m g h = owes inout .sample x m g h
 
 pub preserves : Preserves kind slots Good
-preserves =
-    either-preserves 0 ServoAnswers.servo Inout.inout servoSlots inoutSlots (ServoSlot.sample .codec .fits) (InoutSlot.sample .codec .fits) servo-preserves
-    inout-preserves
+preserves = record {
+  execute = λ f alone m b h.
+      Any.preserves (rulesOf (m .0)) (slotsOf (m .0)) (GoodOf (m .0)) (owes (m .0)) .execute f alone (m .1) b h;
+  sample = λ x m g h. given-fits (x .0) (m .0) (x .1) (m .1) g h;
+  tick = λ m h. owes (m .0) .tick (m .1) h;
+}
 
-pub powered-fits : (t : ℕ) → known t ≡ true → slots .fits (powered t)
-powered-fits t e = at (eqb t 0)
-  where
-    at : (k : Bool) → slots .fits (cond k (inl ServoState.started) (inr Inout.started))
-    at true = Servos.kept .power
-    at false = Inouts.kept .power
+pub powered-fits : (n : ℕ) → slots .fits (powered n)
+powered-fits n = owes (typeIn n) .power
+
+-- a sample of whatever type leaves who a module is
+pub given-address : (t u : ModuleType) (x : SampleOf t) (m : Of u) → rulesOf u .station (given t u x m) ≡ rulesOf u .station m
+given-address servo servo x m = owes servo .apart .sample x m
+given-address servo inout x m = refl
+given-address inout servo x m = refl
+given-address inout inout x m = owes inout .apart .sample x m

@@ -1,97 +1,53 @@
--- The slots of every module type are lawful. Assumes nothing.
-use mathlib.Core.Path.{_≡_, refl, sym, ap, _∙_}
-use mathlib.Core.List.{List, _++_}
-use mathlib.Core.Bool.{Bool, true, false, cond}
-use mathlib.Core.Logic.{_⊎_, inl, inr}
+-- The slots of every module type are lawful, and what can be told of a slot without decoding it. Assumes nothing.
+use mathlib.Core.Path.{_≡_, refl, ap, subst⁻¹, _∙_}
+use mathlib.Core.List.{List}
+use mathlib.Core.Bool.{true}
 use Prim.Native.Nat.{ℕ, _≤_}
-use native.Mathlib.Omega.{arith}
-use borrow.Author.Tests.{eqb-true}
-use lib.Dec.{eqb}
-use lib.ListN.{length, getD, take, drop, take-append-drop}
-use lib.Seq.{length-take-le}
+use lib.ListN.{length, getD}
 use Rattle.base_layout.specs.Bytes.{pasted}
-use Rattle.base_layout.specs.Codec.{okIn}
-use Rattle.base_layout.proofs.Codec.{head-there, head-sound, head-back, head-valid}
-use Rattle.base_layout.proofs.Every.{every-hold}
-use Rattle.base_layout.proofs.Pasted.{pasted-start}
-use Rattle.base_layout.proofs.Shape.{Shape}
 use Rattle.line_receiver.specs.Frames.{Frame}
-use Rattle.module_station.specs.Slot.{address}
-use Rattle.chain_rules.specs.Chain.{replied}
-use Rattle.chain_rules.specs.Slots.{Slots, Lawful, slotSize}
+use Rattle.module_rules.specs.declared.Station.{Station}
+use Rattle.module_rules.specs.Slot.{address}
+use Rattle.module_rules.specs.Slots.{Lawful, stationAt}
+use Rattle.module_rules.specs.Kind.{replied}
+use Rattle.module_rules.specs.Owes.{replySize}
+use Rattle.module_rules.proofs.Kept.{reply-most}
 use Rattle.chain_rules.proofs.Along.{replied-short}
-use Rattle.chain_rules.proofs.Either.{either-lawful}
-use Rattle.inout_rules.specs.declared.Io.{Io}
-use Rattle.inout_rules.specs.Slot as Inout
-use Rattle.inout_rules.proofs.Reply as Inouts
-use Rattle.servo_rules.specs.declared.Servo.{Servo}
-use Rattle.servo_rules.proofs.Reply as Servos
-use Rattle.servo_slot_rules.specs.Slot as ServoSlot
-use Rattle.types_rules.specs.Types.{Module, kind, servoSlots, inoutSlots, slots, typeOf}
+use Rattle.types_rules.specs.Table.{ModuleType, servo, inout, Of, rulesOf, slotsOf, GoodOf}
+use Rattle.types_rules.specs.Types.{Module, kind, typeIn, typeOfSlot, slots, typeOf}
+use Rattle.types_rules.proofs.Owed.{owes}
 
--- a list's own beginning put at its start
-put-back : (n : ℕ) (x s : List ℕ) → n ≤ length s → x ≡ take n s → pasted 0 x s ≡ s
-put-back n x s h e =
-    rw (pasted-start x s, e, length-take-le n s h) (take-append-drop n s)
+-- a type's number leads back to it
+pub type-back : (t : ModuleType) → typeIn (rulesOf t .number) ≡ t
+type-back servo = refl
+type-back inout = refl
 
--- a layout that a slot has room for makes lawful slots
-module _ {M : Type 0} (a : Shape M) (room : a .codec .size ≤ slotSize) where
-  abbrev slotted : Slots M
-  slotted = record { enc = a .codec .enc; dec = a .codec .dec 0; ok = okIn (a .codec); fits = a .codec .fits }
-
-  slotted-lawful : Lawful slotted
-  slotted-lawful = record {
-    short = λ m. omega (arith, a .lawful .length-enc m);
-    bytes = λ m f. a .lawful .bytes m f;
-    there = λ s e h v.
-        put-back (a .codec .size) (a .codec .enc (a .codec .dec 0 s)) s (omega arith) (head-there (a .lawful) s (omega arith) h v);
-    sound = λ s e h v. head-sound (a .lawful) s h v;
-    back = λ m s e f. ap (a .codec .dec 0) (pasted-start (a .codec .enc m) s) ∙ head-back (a .lawful) m (drop (length (a .codec .enc m)) s) f;
-    valid = λ m s e f. ap (okIn (a .codec)) (pasted-start (a .codec .enc m) s) ∙ head-valid (a .lawful) m (drop (length (a .codec .enc m)) s) f;
-  }
-
-servo-lawful : Lawful servoSlots
-unfolding ServoSlot.encodeOf ServoSlot.decodeOf ServoSlot.okOf
-servo-lawful = slotted-lawful ServoSlot.slot (omega arith)
-
-inout-lawful : Lawful inoutSlots
-unfolding Inout.encodeOf Inout.decodeOf Inout.okOf
-inout-lawful = slotted-lawful Inout.slot (omega arith)
-
--- the first byte of a slot is the module's type
-servo-first : (m : Servo) (s : List ℕ) → getD (pasted 0 (servoSlots .enc m) s) 0 0 ≡ 0
-unfolding ServoSlot.encodeOf
-servo-first m s = ap (λ (l : List ℕ). getD l 0 0) (pasted-start (servoSlots .enc m) s)
-
-inout-first : (m : Io) (s : List ℕ) → eqb (getD (pasted 0 (inoutSlots .enc m) s) 0 0) 0 ≡ false
-unfolding Inout.encodeOf
-inout-first m s = ap (λ (l : List ℕ). eqb (getD l 0 0) 0) (pasted-start (inoutSlots .enc m) s)
+-- so does a slot that it was put into
+put-type : (t : ModuleType) (x : Of t) (s : List ℕ) → typeOfSlot (pasted 0 (slotsOf t .enc x) s) ≡ t
+put-type t x s = ap typeIn (owes t .begins x s) ∙ type-back t
 
 pub lawful : Lawful slots
-lawful = either-lawful 0 servoSlots inoutSlots servo-lawful inout-lawful servo-first inout-first
+lawful = record {
+  short = λ m. owes (m .0) .lawful .short (m .1);
+  bytes = λ m f. owes (m .0) .lawful .bytes (m .1) f;
+  there = λ s e h v. owes (typeOfSlot s) .lawful .there s e h v;
+  sound = λ s e h v. owes (typeOfSlot s) .lawful .sound s e h v;
+  back = λ m s e f.
+      let p : List ℕ = pasted 0 (slots .enc m) s in
+      ap (λ (t : ModuleType). let n : Module = (t, slotsOf t .dec p) in n) (put-type (m .0) (m .1) s)
+      ∙ ap (λ (x : Of (m .0)). let n : Module = (m .0, x) in n) (owes (m .0) .lawful .back (m .1) s e f);
+  valid = λ m s e f.
+      let p : List ℕ = pasted 0 (slots .enc m) s in
+      ap (λ (t : ModuleType). slotsOf t .ok p) (put-type (m .0) (m .1) s) ∙ owes (m .0) .lawful .valid (m .1) s e f;
+}
 
 -- who the module in a slot is can be told without decoding it
-pub address-is : (t : List ℕ) → kind .address (slots .dec t) ≡ address .codec .dec 1 t
-unfolding ServoSlot.decodeOf Inout.decodeOf
-address-is t = at (eqb (getD t 0 0) 0)
-  where
-    at : (k : Bool) → kind .address (cond k (inl (servoSlots .dec t)) (inr (inoutSlots .dec t))) ≡ address .codec .dec 1 t
-    at true = refl
-    at false = refl
+pub address-is : (s : List ℕ) → kind .address (slots .dec s) ≡ address .codec .dec stationAt s
+address-is s = ap (λ (x : Station). x .address) (owes (typeOfSlot s) .stationed s)
 
 -- its type too, in a valid slot
-pub type-is : (t : List ℕ) → slots .ok t ≡ true → getD t 0 0 ≡ typeOf (slots .dec t)
-unfolding Inout.okOf
-type-is t v = at (eqb (getD t 0 0) 0) refl v
-  where
-    at : (k : Bool) → eqb (getD t 0 0) 0 ≡ k → cond k (servoSlots .ok t) (inoutSlots .ok t) ≡ true
-        → getD t 0 0 ≡ typeOf (cond k (inl (servoSlots .dec t)) (inr (inoutSlots .dec t)))
-    at true e v = eqb-true _ _ e
-    at false e v = eqb-true _ _ (every-hold (Inout.slot .codec .tests 0 t) v .0)
+pub type-is : (s : List ℕ) → slots .ok s ≡ true → getD s 0 0 ≡ typeOf (slots .dec s)
+type-is s v = owes (typeOfSlot s) .typed s v
 
-pub said-short : (f : Frame) (m : Module) → length (replied kind f m) ≤ 19
-said-short f m = replied-short kind f 19 short m
-  where
-    short : (m : Module) → length (kind .reply f m) ≤ 19
-    short (inl a) = Servos.short f a
-    short (inr b) = Inouts.short f b
+pub said-short : (f : Frame) (m : Module) → length (replied kind f m) ≤ replySize
+said-short f m = replied-short kind f replySize (λ m. reply-most (rulesOf (m .0)) (slotsOf (m .0)) (GoodOf (m .0)) (owes (m .0)) f (m .1)) m

@@ -1,2 +1,5 @@
+pub mod Owed
 pub mod Laws
 pub mod Kept
+pub mod Promised
+pub mod Dispatch

@@ -1,1 +1,3 @@
+pub mod Table
 pub mod Types
+pub mod Promises

@@ -1,62 +1,72 @@
--- The module types that a chain can have, one line each: this file is all that changes in the chain and the record when a type is added.
+-- A module of a chain: a type of the table with that type's record. What the chain and the record need of it is said once, over the table.
 use Prim.Native.Nat.{ℕ}
-use mathlib.Core.List.{List}
+use mathlib.Core.List.{List, [], _∷_}
 use mathlib.Core.Bool.{Bool, cond, _||_}
-use mathlib.Core.Logic.{_⊎_, inl, inr}
+use lib.ListN.{getD}
 use lib.Dec.{eqb}
-use Rattle.chain_rules.specs.Chain.{Kind}
-use Rattle.chain_rules.specs.Slots.{Slots}
-use Rattle.chain_rules.specs.Either.{either, eitherIs, eitherSlots}
-use Rattle.inout_rules.specs.declared.Io.{Io}
-use Rattle.inout_rules.specs.declared.Sample as Inouts
-use Rattle.inout_rules.specs.Module as Inout
-use Rattle.inout_rules.specs.Slot as InoutSlot
-use Rattle.servo_rules.specs.declared.Servo.{Servo}
-use Rattle.servo_rules.specs.declared.Sample as Servos
-use Rattle.servo_rules.specs.Servo as ServoState
-use Rattle.servo_rules.specs.Answers as ServoAnswers
-use Rattle.servo_slot_rules.specs.Slot as ServoSlot
-use Rattle.types_rules.specs.declared.Measured.{Measured}
+use Rattle.module_rules.specs.Kind.{Kind}
+use Rattle.module_rules.specs.Slots.{Slots}
+use Rattle.module_rules.specs.Rules.{execute, reply}
+use Rattle.types_rules.specs.Table.{ModuleType, firstType, otherTypes, Of, SampleOf, rulesOf, slotsOf, GoodOf, given}
 
--- a module of any type, and a sample for it
 abbrev pub Module : Type 0
-Module = Servo ⊎ Io
+Module = (t : ModuleType) × Of t
 
 abbrev pub AnySample : Type 0
-AnySample = Servos.Sample ⊎ Inouts.Sample
-
-abbrev pub measured : Measured → AnySample
-measured (Measured.Servo x) = inl x
-measured (Measured.Io x) = inr x
+AnySample = (t : ModuleType) × SampleOf t
 
 abbrev pub kind : Kind Module AnySample
-kind = either ServoAnswers.servo Inout.inout
+kind = record {
+  address = λ m. rulesOf (m .0) .station (m .1) .address;
+  execute = λ f alone m. (m .0, execute (rulesOf (m .0)) f alone (m .1));
+  reply = λ f m. reply (rulesOf (m .0)) f (m .1);
+  sample = λ x m. (m .0, given (x .0) (m .0) (x .1) (m .1));
+  tick = λ m. (m .0, rulesOf (m .0) .tick (m .1));
+}
 
-abbrev pub servoSlots : Slots Servo
-servoSlots = record { enc = ServoSlot.encodeOf; dec = ServoSlot.decodeOf; ok = ServoSlot.okOf; fits = ServoSlot.slot .codec .fits }
+-- 01 Numbers given back, 12: the type numbers that there are
+abbrev pub numbered : ModuleType → List ModuleType → ℕ → Bool
+numbered t [] n = eqb n (rulesOf t .number)
+numbered t (u ∷ us) n = eqb n (rulesOf t .number) || numbered u us n
 
-abbrev pub inoutSlots : Slots Io
-inoutSlots = record { enc = InoutSlot.encodeOf; dec = InoutSlot.decodeOf; ok = InoutSlot.okOf; fits = InoutSlot.slot .codec .fits }
+abbrev pub known : ℕ → Bool
+known n = numbered firstType otherTypes n
+
+-- the type with a number: the first of some types that has it, and the last of them where none has
+abbrev pub typeFrom : ModuleType → List ModuleType → ℕ → ModuleType
+typeFrom t [] n = t
+typeFrom t (u ∷ us) n = cond (eqb n (rulesOf t .number)) t (typeFrom u us n)
+
+abbrev pub typeIn : ℕ → ModuleType
+typeIn n = typeFrom firstType otherTypes n
+
+-- the first byte of a slot is the type's number
+abbrev pub typeOfSlot : List ℕ → ModuleType
+typeOfSlot s = typeIn (getD s 0 0)
 
 abbrev pub slots : Slots Module
-slots = eitherSlots 0 servoSlots inoutSlots
+slots = record {
+  enc = λ m. slotsOf (m .0) .enc (m .1);
+  dec = λ s. (typeOfSlot s, slotsOf (typeOfSlot s) .dec s);
+  ok = λ s. slotsOf (typeOfSlot s) .ok s;
+  fits = λ m. slotsOf (m .0) .fits (m .1);
+}
 
--- the type numbers that there are, the number of a module's type, and the module that each is at power-up
-abbrev pub known : ℕ → Bool
-known t = eqb t 0 || eqb t 2
-
+-- the number of a module's type, and the module that a number's type is at power-up
 abbrev pub typeOf : Module → ℕ
-typeOf (inl m) = 0
-typeOf (inr m) = 2
+typeOf m = rulesOf (m .0) .number
 
 abbrev pub powered : ℕ → Module
-powered t = cond (eqb t 0) (inl ServoState.started) (inr Inout.started)
+powered n = (typeIn n, rulesOf (typeIn n) .started)
+
+-- how many bytes each item of a number's type has
+abbrev pub sizesOf : ℕ → List ℕ
+sizesOf n = rulesOf (typeIn n) .sizes
 
 -- what the board drives for a module, in eight bytes
 abbrev pub outputs : Module → List ℕ
-outputs (inl m) = ServoAnswers.outputsOf m
-outputs (inr m) = Inout.outputsOf m
+outputs m = rulesOf (m .0) .outputs (m .1)
 
 -- the samples that can be given
 abbrev pub Good : AnySample → Type 0
-Good = eitherIs (ServoSlot.sample .codec .fits) (InoutSlot.sample .codec .fits)
+Good x = GoodOf (x .0) (x .1)

@@ -1,5 +1,5 @@
 -- `doljurven::nmc_write_frame` meets its contract. Assumes nothing.
-use Rattle.host_status.specs.declared.Written.{Written}
+use Rattle.host_rules.specs.declared.Written.{Written}
 use mathlib.Core.Path.{sym, ap, _∙_}
 use borrow.Author.Needs.{needs}
 use Rattle.doljurven.proofs.nmc_write_frame.Statement.{statement}

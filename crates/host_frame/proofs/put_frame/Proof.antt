@@ -7,7 +7,7 @@ use borrow.Author.Needs.{needs}
 use lib.ListN.{set, length, length-set}
 use Rattle.base_layout.specs.Bytes.{pasted}
 use Rattle.line_receiver.specs.Receive.{sum8}
-use Rattle.host_status.proofs.Framed.{framed}
+use Rattle.host_rules.proofs.Framed.{framed}
 use Rattle.host_frame.proofs.put_frame.Statement.{statement}
 use Rattle.host_frame.proofs.put_frame.Tie as tie
 

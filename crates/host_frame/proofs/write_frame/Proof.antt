@@ -6,8 +6,8 @@ use native.Mathlib.Omega.{arith}
 use borrow.Author.Tests.{lt-ltb, le-ltb}
 use borrow.Author.Needs.{needs}
 use lib.ListN.{length}
-use Rattle.host_status.specs.Writing.{unfit, writtenOf, roomAfter}
-use Rattle.host_status.proofs.Tests.{fit}
+use Rattle.host_rules.specs.Writing.{unfit, writtenOf, roomAfter}
+use Rattle.host_rules.proofs.Tests.{fit}
 use Rattle.host_frame.proofs.write_frame.Statement.{statement}
 use Rattle.host_frame.proofs.write_frame.Tie as tie
 

@@ -6,7 +6,7 @@ use native.Mathlib.Omega.{arith}
 use borrow.Author.Needs.{needs}
 use lib.ListN.{length}
 use lib.Seq.{length-take-le}
-use Rattle.host_status.specs.Reading.{summed}
+use Rattle.host_rules.specs.Reading.{summed}
 use Rattle.host_status.proofs.is_summed.Statement.{statement}
 use Rattle.host_status.proofs.is_summed.Tie as tie
 

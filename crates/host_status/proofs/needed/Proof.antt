@@ -5,8 +5,8 @@ use Prim.Native.Nat.{_+_, _*_, _-_, _≤_}
 use native.Mathlib.Omega.{arith}
 use borrow.Author.Needs.{needs}
 use lib.ListN.{length, drop, drop-of-length-le}
-use Rattle.host_status.specs.Reading.{chosenSize, neededFor}
-use Rattle.host_status.proofs.Turns.{size-turn}
+use Rattle.host_rules.specs.Reading.{chosenSize, neededFor}
+use Rattle.host_rules.proofs.Turns.{size-turn}
 use Rattle.host_status.proofs.needed.Statement.{statement}
 use Rattle.host_status.proofs.needed.Tie as tie
 

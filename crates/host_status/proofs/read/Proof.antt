@@ -6,8 +6,8 @@ use native.Mathlib.Omega.{arith}
 use borrow.Author.Needs.{needs}
 use lib.ListN.{length, getD, take, drop, length-set, drop-of-length-le}
 use lib.Seq.{take-all}
-use Rattle.host_status.specs.Reading.{chosenSize, numbersIn, readingOf}
-use Rattle.host_status.proofs.Turns.{size-least, size-turn, number-turn}
+use Rattle.host_rules.specs.Reading.{chosenSize, numbersIn, readingOf}
+use Rattle.host_rules.proofs.Turns.{size-least, size-turn, number-turn}
 use Rattle.host_status.proofs.read.Statement.{statement}
 use Rattle.host_status.proofs.read.Tie as tie
 

@@ -1,25 +1,24 @@
--- `inout_calls::touch` meets its contract. What its calls give is put together by the chain's `Slotted`. Assumes nothing.
-use Rattle.chain_rules.proofs.Slotted.{spoken, silent}
-use Rattle.inout_rules.specs.Module.{inout}
-use Rattle.inout_rules.specs.Slot.{encodeOf, decodeOf}
-use Rattle.module_station.specs.Touch.{frameOf}
+-- `inout_calls::touch` meets its contract. Assumes nothing.
+use native.Mathlib.Omega.{arith}
+use Rattle.module_rules.specs.Touch.{frameOf}
+use Rattle.inout_calls.proofs.Touching.{spoken, silent}
 use borrow.Author.Needs.{needs}
 use Rattle.inout_calls.proofs.touch.Statement.{statement}
 use Rattle.inout_calls.proofs.touch.Tie as tie
 
+put-reply-requires : tie.Need-put-reply-requires
+put-reply-requires c κs = omega (arith, c .before .before .before .before .before .before .before .before .before .before .before .before .before .before .before .pre .2)
+
 returns : tie.Need-returns
-returns c =
-    let p = c .before .before .before .before .before in
-    let q = p .before .before .before .before .before in
-    let a = q .before .before .before .before .before .before .before .before .args in
-    spoken inout encodeOf decodeOf (frameOf (a .f) (a .ds .now)) (a .s .now) (a .room .now) (a .from) (q .before .before .before .decode .ensures) (q .before .is-individually .ensures) (q .execute .ensures) (p .before .before .before .put .ensures) (p .is-speaking .ensures) (c .before .before .before .before .if1 .taken) (c .before .before .put-reply .ensures)
+returns c = let q = c .before .before .before .before .before .before .before in
+    let k = q .before .before .before .before .before .before .before .before .before in
+    let a = k .before .before in
+    spoken (frameOf (a .args .f) (a .args .ds .now)) (a .args .s .now) (a .args .room .now) (a .args .from) (q .before .before .before .before .before .before .address-in .ensures) (q .before .before .before .before .is-individually .ensures) (q .before .before .before .settle .ensures) (q .is-speaking .ensures) (λ i. omega (arith, k .shared-slice-known .given i)) (λ i. omega (arith, k .before .slice-known .given i)) (a .pre .1) (c .before .before .before .before .before .before .if1 .taken) (c .before .before .before .before .decode .ensures) (c .before .before .put-reply .ensures)
 
 returns-2 : tie.Need-returns-2
-returns-2 c =
-    let p = c .before in
-    let q = p .before .before .before .before .before in
-    let a = q .before .before .before .before .before .before .before .before .args in
-    silent inout encodeOf decodeOf (frameOf (a .f) (a .ds .now)) (a .s .now) (a .room .now) (a .from) (q .before .before .before .decode .ensures) (q .before .is-individually .ensures) (q .execute .ensures) (p .before .before .before .put .ensures) (p .is-speaking .ensures) (c .if1 .left)
+returns-2 c = let q = c .before in
+    let a = q .before .before .before .before .before .before .before .before .before .before .before .args in
+    silent (frameOf (a .f) (a .ds .now)) (a .s .now) (a .room .now) (a .from) (q .before .before .before .before .before .before .address-in .ensures) (q .before .before .before .before .is-individually .ensures) (q .before .before .before .settle .ensures) (q .is-speaking .ensures) (c .if1 .left)
 
 pub touch-spec : {M : Type 1} → statement M
 touch-spec =
@@ -30,7 +29,7 @@ touch-spec =
     (λ c κs. search needs)
     (λ c κs. search needs)
     (λ c κs. search needs)
-    (λ c κs. search needs)
+    put-reply-requires
     (λ c. search needs)
     (λ c. search needs)
     returns

@@ -1,11 +1,16 @@
--- `inout_slot::put` meets its contract: its parts stand one after another. Assumes nothing.
-use Rattle.inout_rules.proofs.Putting.{put-is}
+-- `inout_slot::put` meets its contract. Its parts stand one after another. Assumes nothing.
+use Rattle.inout_slot_rules.proofs.Putting.{put-is}
 use borrow.Author.Needs.{needs}
 use Rattle.inout_slot.proofs.put.Statement.{statement}
 use Rattle.inout_slot.proofs.put.Tie as tie
 
 returns : tie.Need-returns
-returns c = let a = c .before .before .before .before .before .before .before .before .before .before .before .before .before .before .before .before .before .before .before .before .before .before .before .before .before .before .before .before .before .before .before in put-is (a .args .m) (a .args .s .now) (a .pre) (c .before .before .before .before .before .before .before .before .before .before .before .before .before .before .before .before .before .before .before .before .before .before .before .before .before .before .before .before .before .head-bytes .ensures) (c .before .before .before .before .before .before .before .before .before .before .before .before .before .before .before .before .before .before .before .before .before .before .before .before .before .before .before .before .sample-bytes .ensures) (c .before .before .before .before .before .before .before .before .before .before .before .before .before .before .before .before .before .before .before .before .before .before .before .before .before .before .before .sample-bytes2 .ensures) (c .before .before .before .before .before .before .before .before .before .before .before .before .before .before .before .before .before .before .before .before .before .before .before .before .before .before .outputs-bytes .ensures) (c .before .before .before .before .before .before .before .before .before .before .before .before .before .before .before .before .before .before .before .before .before .before .before .before .before .capture-bytes .ensures) (c .before .before .before .before .before .before .before .before .before .before .before .before .before .before .before .before .before .before .before .before .before .before .put-all .ensures) (c .before .before .before .before .before .before .before .before .before .before .before .before .before .before .before .before .before .put-all2 .ensures) (c .before .before .before .before .before .before .before .before .before .before .before .before .put-all3 .ensures) (c .before .before .before .before .before .before .before .put-all4 .ensures) (c .before .before .put-all5 .ensures)
+returns c = let l = c .before .before .before .before .before .before .before in
+    let w = l .before .before .before .before .before .before .before .before .before in
+    let p = w .before .before .before .before in
+    let h = p .before .before .before .before .before in
+    let a = h .before .before in
+    put-is (a .args .m) (a .args .s .now) (a .pre) (h .head-bytes .ensures) (p .before .before .before .before .outputs-bytes .ensures) (p .before .before .before .tail-bytes .ensures) (p .put-all .ensures) (w .put-sample .ensures) (l .before .before .before .before .before .put-latched .ensures) (l .put-all2 .ensures) (c .before .before .put-all3 .ensures)
 
 pub put-spec : {M : Type 1} → statement M
 put-spec =
@@ -14,13 +19,9 @@ put-spec =
     (λ c κs. search needs)
     (λ c κs. search needs)
     (λ c κs. search needs)
-    (λ c κs. search needs)
-    (λ c κs. search needs)
     (λ c. search needs)
     (λ c κs. search needs)
-    (λ c. search needs)
     (λ c κs. search needs)
-    (λ c. search needs)
     (λ c κs. search needs)
     (λ c. search needs)
     (λ c κs. search needs)

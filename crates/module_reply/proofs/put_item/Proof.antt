@@ -2,7 +2,6 @@
 use Rattle.base_layout.proofs.Pasted.{pasted-none}
 use Rattle.base_layout.proofs.Laws.{length-le}
 use mathlib.Core.Path.{refl, sym}
-use mathlib.Core.Path.{refl}
 use borrow.Author.Needs.{needs}
 use Rattle.module_reply.proofs.put_item.Statement.{statement}
 use Rattle.module_reply.proofs.put_item.Tie as tie

@@ -1,5 +1,5 @@
 -- `module_reply::put_items` meets its contract. The invariant: the items left, put where the loop is, give the whole. Assumes nothing.
-use Rattle.module_station.proofs.Items.{turn, total-drop}
+use Rattle.module_rules.proofs.Items.{turn, total-drop}
 use mathlib.Core.Path.{_≡_, refl, sym, _∙_}
 use mathlib.Core.List.{[]}
 use Prim.Native.Nat.{_+_, _-_, _≤_}
@@ -8,7 +8,7 @@ use lib.ListN.{length, drop, drop-of-length-le}
 use Rattle.base_layout.specs.Bytes.{pasted}
 use Rattle.base_layout.proofs.Pasted.{pasted-none}
 use Rattle.line_receiver.specs.Receive.{total}
-use Rattle.module_station.specs.Report.{chosen}
+use Rattle.module_rules.specs.Report.{chosen}
 use Rattle.module_reply.proofs.put_items.Statement.{statement}
 use Rattle.module_reply.proofs.put_items.Tie as tie
 

@@ -1,5 +1,5 @@
 -- `module_reply::put_reply` meets its contract. Assumes nothing.
-use Rattle.module_station.specs.Report.{replyOf}
+use Rattle.module_rules.specs.Report.{replyOf}
 use Rattle.base_layout.proofs.Pasted.{pasted-none}
 use mathlib.Core.Path.{refl, sym}
 use borrow.Author.Needs.{needs}

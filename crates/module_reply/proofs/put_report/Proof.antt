@@ -1,9 +1,8 @@
 -- `module_reply::put_report` meets its contract. Assumes nothing.
 use mathlib.Core.Path.{_≡_}
 use Prim.Native.Nat.{_<_, _≤_}
-use lib.ListN.{length}
-use Rattle.module_station.proofs.Items.{end-is, report-is}
-use lib.ListN.{length-set}
+use lib.ListN.{length, length-set}
+use Rattle.module_rules.proofs.Items.{end-is, report-is}
 use native.Mathlib.Omega.{arith}
 use borrow.Author.Needs.{needs}
 use Rattle.module_reply.proofs.put_report.Statement.{statement}

@@ -1,6 +1,6 @@
 -- `module_station::asked_by` meets its contract. Assumes nothing.
 use borrow.Author.Tests.{ne-eqb}
-use Rattle.module_station.specs.Commands.{asked}
+use Rattle.module_rules.specs.Commands.{asked}
 use borrow.Author.Needs.{needs}
 use Rattle.module_station.proofs.asked_by.Statement.{statement}
 use Rattle.module_station.proofs.asked_by.Tie as tie

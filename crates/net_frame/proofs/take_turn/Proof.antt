@@ -1,7 +1,7 @@
 -- `net_frame::take_turn` meets its contract. Assumes nothing.
 use Rattle.net_rules.proofs.OneTurn.{touched-turn, passed-turn}
-use Rattle.module_station.specs.Touch.{frameOf}
-use Rattle.chain_rules.specs.Slots.{slotSize}
+use Rattle.module_rules.specs.Touch.{frameOf}
+use Rattle.module_rules.specs.Slots.{slotSize}
 use Prim.Native.Nat.{_+_, _-_}
 use mathlib.Core.Path.{_≡_}
 use native.Mathlib.Omega.{arith}
@@ -19,13 +19,13 @@ returns : tie.Need-returns
 returns c =
     let p = c .before .before .before .before .before .before .before .before in
     let a = p .before .before .before .before .before .before .before .args in
-    touched-turn (frameOf (a .f) (a .ds .now)) (a .enabled) (a .at) (a .from) (a .net .now) (a .room .now) (p .before .before .before .before .before .before .before .pre .0) (p .before .in-slot .ensures) (p .is-named .ensures) (c .before .before .before .before .before .before .before .if1 .taken) (c .before .before .before .before .touch .ensures)
+    touched-turn (frameOf (a .f) (a .ds .now)) (a .enabled) (a .at) (a .from) (a .net .now) (a .room .now) (p .before .before .before .before .before .before .before .pre .0) (p .before .address-in .ensures) (p .is-named .ensures) (c .before .before .before .before .before .before .before .if1 .taken) (c .before .before .before .before .touch .ensures)
 
 returns-2 : tie.Need-returns-2
 returns-2 c =
     let p = c .before in
     let a = p .before .before .before .before .before .before .before .args in
-    passed-turn (frameOf (a .f) (a .ds .now)) (a .enabled) (a .at) (a .from) (a .net .now) (a .room .now) (p .before .before .before .before .before .before .before .pre .0) (p .before .in-slot .ensures) (p .is-named .ensures) (c .if1 .left)
+    passed-turn (frameOf (a .f) (a .ds .now)) (a .enabled) (a .at) (a .from) (a .net .now) (a .room .now) (p .before .before .before .before .before .before .before .pre .0) (p .before .address-in .ensures) (p .is-named .ensures) (c .if1 .left)
 
 pub take-turn-spec : {M : Type 1} → statement M
 take-turn-spec =

@@ -6,14 +6,14 @@ use Prim.Native.Nat.{ℕ, _+_, _*_, _≤_}
 use native.Mathlib.Omega.{arith}
 use lib.ListN.{length, drop, replicate}
 use Rattle.base_layout.specs.Bytes.{pasted}
-use Rattle.module_station.specs.Touch.{frameOf}
+use Rattle.module_rules.specs.Touch.{frameOf}
 use Rattle.chain_rules.specs.Chain.{join}
 use Rattle.types_rules.specs.Types.{kind, slots}
 use Rattle.types_rules.proofs.Laws.{lawful}
 use Rattle.net_rules.specs.declared.Turn.{Turn}
-use Rattle.net_rules.specs.Record.{okSlots}
-use Rattle.net_rules.specs.Walk.{turned, walked, speech, noted, wordsAt}
-use Rattle.net_rules.specs.Calls.{turnOf, walkOf}
+use Rattle.net_rules.specs.Record.{okSlots, slotsAt, chainMost}
+use Rattle.net_rules.specs.Walk.{turned, walked, speech, wordsAt, turnOf, walkOf}
+use Rattle.net_rules.specs.Calls.{noted}
 use Rattle.net_rules.proofs.Ahead.{turn-ok, ahead-ok, turned-after}
 use Rattle.net_rules.proofs.Rounds.{Round, round, done, word-short}
 use Rattle.net_frame.proofs.walk.Statement.{statement}
@@ -21,18 +21,20 @@ use Rattle.net_frame.proofs.walk.Tie as tie
 use Rattle.net_frame.proofs.walk.Reads as reads
 use Rattle.net_frame.proofs.walk.Lts as lts
 use Rattle.net_frame.proofs.take_turn.Reads as take-turn-reads
+use Rattle.module_rules.specs.Slots.{slotSize}
+use Rattle.module_rules.specs.Owes.{replySize}
 
 abbrev Inv-loop : tie.InvT-loop
 Inv-loop net₀ n f ds room₀ lengths₀ enabled₀ at₀ place₀ written₀ left₀ net room lengths enabled at place written left =
-    (at + 128 * left ≡ 20 + 128 * n)
+    (at + slotSize * left ≡ slotsAt + slotSize * n)
     × (place + left ≡ n)
     × (length net ≡ length net₀)
     × (length room ≡ length room₀)
-    × (written + 19 * left ≤ length room₀)
-    × (walked kind slots (frameOf f ds) enabled left at net ≡ walked kind slots (frameOf f ds) true n 20 net₀)
-    × (pasted written (join (speech kind slots (frameOf f ds) enabled left at net)) room ≡ pasted 0 (join (speech kind slots (frameOf f ds) true n 20 net₀)) room₀)
-    × (written + length (join (speech kind slots (frameOf f ds) enabled left at net)) ≡ length (join (speech kind slots (frameOf f ds) true n 20 net₀)))
-    × (noted (speech kind slots (frameOf f ds) enabled left at net) place lengths ≡ noted (speech kind slots (frameOf f ds) true n 20 net₀) 0 (replicate 32 0))
+    × (written + replySize * left ≤ length room₀)
+    × (walked kind slots (frameOf f ds) enabled left at net ≡ walked kind slots (frameOf f ds) true n slotsAt net₀)
+    × (pasted written (join (speech kind slots (frameOf f ds) enabled left at net)) room ≡ pasted 0 (join (speech kind slots (frameOf f ds) true n slotsAt net₀)) room₀)
+    × (written + length (join (speech kind slots (frameOf f ds) enabled left at net)) ≡ length (join (speech kind slots (frameOf f ds) true n slotsAt net₀)))
+    × (noted (speech kind slots (frameOf f ds) enabled left at net) place lengths ≡ noted (speech kind slots (frameOf f ds) true n slotsAt net₀) 0 (replicate chainMost 0))
     × (okSlots slots left (drop at net) ≡ true)
 
 abbrev μ-loop : tie.MeasureT-loop
@@ -50,7 +52,7 @@ module _ (c : lts.After-take-turn (take-turn-reads.Asked, take-turn-reads.Learnt
   unfolding turnOf
   said-is = ap (λ (t : Turn). t .said) (c .take-turn .ensures .0)
 
-  said-small : c .take-turn .result .said ≤ 19
+  said-small : c .take-turn .result .said ≤ replySize
   said-small =
       let a = c .before .before .before .before .before .before .before .before .args in
       let l = c .before .before .before .before .loop in

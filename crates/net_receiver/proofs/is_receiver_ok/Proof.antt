@@ -1,6 +1,6 @@
 -- `net_receiver::is_receiver_ok` meets its contract: an idle receiver is blank, another has no more bytes in than announced. Assumes nothing.
 use Rattle.net_rules.proofs.Tests.{idle-test}
-use Rattle.net_rules.specs.Record.{okReceiver}
+use Rattle.net_rules.specs.Record.{okReceiver, commandAt}
 use borrow.Author.Tests.{ne-eqb}
 use native.Mathlib.Omega.{arith}
 use borrow.Author.Needs.{needs}
@@ -11,7 +11,7 @@ returns : tie.Need-returns
 returns c = idle-test (c .before .before .before .before .args .s .now) (c .before .if1 .taken) (c .is-blank .ensures)
 
 add-result : tie.Need-add-result
-add-result c = omega (arith, c .shared-slice-known4 .given 16)
+add-result c = omega (arith, c .shared-slice-known4 .given commandAt)
 
 returns-2 : tie.Need-returns-2
 unfolding okReceiver

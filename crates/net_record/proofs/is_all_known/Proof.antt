@@ -46,6 +46,7 @@ is-all-known-spec =
     μ-loop
     (λ c. (omega arith, refl))
     (λ c. omega arith)
+    (λ c. omega (arith, c .shared-slice-known2 .given (c .before .before .loop .i)))
     (λ c κs. search needs)
     returns
     (λ c. omega arith)

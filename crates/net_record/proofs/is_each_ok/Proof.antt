@@ -11,15 +11,16 @@ use Rattle.net_rules.specs.Record.{okSlots, slotsAt}
 use Rattle.net_rules.proofs.Tests.{slots-turn, slots-done}
 use Rattle.net_record.proofs.is_each_ok.Statement.{statement}
 use Rattle.net_record.proofs.is_each_ok.Tie as tie
+use Rattle.module_rules.specs.Slots.{slotSize}
 
 abbrev Inv-loop : tie.InvT-loop
-Inv-loop net n at₀ left₀ at left = (at + 128 * left ≡ 20 + 128 * n) × (okSlots slots left (drop at net) ≡ okSlots slots n (drop slotsAt net))
+Inv-loop net n at₀ left₀ at left = (at + slotSize * left ≡ slotsAt + slotSize * n) × (okSlots slots left (drop at net) ≡ okSlots slots n (drop slotsAt net))
 
 abbrev μ-loop : tie.MeasureT-loop
 μ-loop net n at₀ left₀ at left = left
 
 turned : (c : tie.After-is-ok Inv-loop μ-loop)
-    → (c .is-ok .result && okSlots slots (c .before .before .before .loop .left - 1) (drop (c .before .before .before .loop .at + 128) (c .before .before .before .before .before .args .net .now)))
+    → (c .is-ok .result && okSlots slots (c .before .before .before .loop .left - 1) (drop (c .before .before .before .loop .at + slotSize) (c .before .before .before .before .before .args .net .now)))
     ≡ okSlots slots (c .before .before .before .before .before .args .n) (drop slotsAt (c .before .before .before .before .before .args .net .now))
 turned c =
     let l = c .before .before .before .loop in

@@ -4,7 +4,7 @@ use lib.ListN.{getD}
 use lib.Dec.{leb}
 use mathlib.Core.Bool.{true, _&&_}
 use Rattle.net_rules.proofs.Tests.{and-true}
-use Rattle.net_rules.specs.Record.{valid}
+use Rattle.net_rules.specs.Record.{valid, countAt, chainMost}
 use borrow.Author.Tests.{eq-eqb, ne-eqb, leb-true}
 use native.Mathlib.Omega.{arith}
 use borrow.Author.Needs.{needs}
@@ -15,11 +15,11 @@ returns : tie.Need-returns
 unfolding valid
 returns c = rw (ne-eqb _ _ (c .if1 .taken))
 
-cast-is-each-ok : tie.Need-cast-is-each-ok
-cast-is-each-ok c = omega (arith, c .before .before .shared-slice-known2 .given 19)
+cast-n : tie.Need-cast-n
+cast-n c = omega (arith, c .shared-slice-known2 .given countAt)
 
 is-each-ok-requires : tie.Need-is-each-ok-requires
-is-each-ok-requires c κs = let n = getD (c .before .before .before .before .before .args .net .now) 19 0 in let t : (leb 1 n && leb n 32) ≡ true = c .before .if2 .taken in omega (arith, leb-true n 32 (and-true (leb 1 n) (leb n 32) t .1))
+is-each-ok-requires c κs = let n = getD (c .before .before .before .before .before .args .net .now) countAt 0 in let t : (leb 1 n && leb n chainMost) ≡ true = c .before .if2 .taken in omega (arith, leb-true n 32 (and-true (leb 1 n) (leb n 32) t .1))
 
 returns-2 : tie.Need-returns-2
 unfolding valid
@@ -35,8 +35,8 @@ is-valid-spec =
     (tie.spec
     returns
     (λ c. search needs)
+    cast-n
     (λ c κs. search needs)
-    cast-is-each-ok
     is-each-ok-requires
     returns-2
     returns-3)

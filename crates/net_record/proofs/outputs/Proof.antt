@@ -6,6 +6,8 @@ use native.Mathlib.Omega.{arith}
 use borrow.Author.Needs.{needs}
 use Rattle.net_record.proofs.outputs.Statement.{statement}
 use Rattle.net_record.proofs.outputs.Tie as tie
+use Rattle.net_rules.specs.Record.{slotsAt}
+use Rattle.module_rules.specs.Slots.{slotSize}
 
 within : (c : tie.Start) → Placed (c .args .net .now) (c .args .place)
 within c = placed (c .args .net .now) (c .args .place) (c .pre .0) (c .pre .1)
@@ -25,7 +27,7 @@ part-outputs-end c = omega (arith, within (c .before))
 outputs-requires : tie.Need-outputs-requires
 outputs-requires c κs =
     let s = c .before .before in
-    let n : 20 + 128 * s .args .place + 128 - (20 + 128 * s .args .place) ≡ 128 = omega arith in
+    let n : slotsAt + slotSize * s .args .place + slotSize - (slotsAt + slotSize * s .args .place) ≡ slotSize = omega arith in
     (search needs, rw n (within s .good))
 
 returns : tie.Need-returns

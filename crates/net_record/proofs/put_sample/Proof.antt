@@ -1,12 +1,14 @@
 -- `net_record::put_sample` meets its contract. Assumes nothing.
 use Rattle.net_rules.proofs.Calls.{Placed, placed, sample-is}
-use Rattle.types_rules.specs.Types.{measured}
+use Rattle.types_rules.specs.Table.{measured}
 use Prim.Native.Nat.{_+_, _*_, _-_}
 use mathlib.Core.Path.{_≡_}
 use native.Mathlib.Omega.{arith}
 use borrow.Author.Needs.{needs}
 use Rattle.net_record.proofs.put_sample.Statement.{statement}
 use Rattle.net_record.proofs.put_sample.Tie as tie
+use Rattle.net_rules.specs.Record.{slotsAt}
+use Rattle.module_rules.specs.Slots.{slotSize}
 
 within : (c : tie.Start) → Placed (c .args .net .now) (c .args .place)
 within c = placed (c .args .net .now) (c .args .place) (c .pre .0) (c .pre .1)
@@ -26,7 +28,7 @@ part-put-sample-end c = omega (arith, within (c .before))
 put-sample-requires : tie.Need-put-sample-requires
 put-sample-requires c κs =
     let s = c .before .before in
-    let n : 20 + 128 * s .args .place + 128 - (20 + 128 * s .args .place) ≡ 128 = omega arith in
+    let n : slotsAt + slotSize * s .args .place + slotSize - (slotsAt + slotSize * s .args .place) ≡ slotSize = omega arith in
     (search needs, rw n (within s .good))
 
 returns : tie.Need-returns

@@ -9,6 +9,7 @@ use mathlib.Core.Path.{sym}
 use borrow.Author.Needs.{needs}
 use Rattle.net_traffic.proofs.hand_on.Statement.{statement}
 use Rattle.net_traffic.proofs.hand_on.Tie as tie
+use Rattle.net_rules.specs.Record.{countAt}
 
 slice-aggregate-walk : tie.Need-slice-aggregate-walk
 slice-aggregate-walk c = let a = c .before .before .before .before .before .before .before .before in sym (length-take-le (a .args .r .command / 16) (a .args .r .bytes) (omega arith))
@@ -17,7 +18,7 @@ returns : tie.Need-returns
 returns c =
     let a = c .before .before .before .before .before .before .before .before .before .before .before .before .before .before .before .before .args in
     let e = c .before .before .before .before .before .before .walk .ensures in
-    (handed-on (frameIn (a .r) (a .damaged)) (getD (a .net .now) 19 0) (a .net .now) (c .ended-number .ensures) (e .0), (e .1 .0, e .1 .1))
+    (handed-on (frameIn (a .r) (a .damaged)) (getD (a .net .now) countAt 0) (a .net .now) (c .ended-number .ensures) (e .0), (e .1 .0, e .1 .1))
 
 pub hand-on-spec : {M : Type 1} → statement M
 hand-on-spec =

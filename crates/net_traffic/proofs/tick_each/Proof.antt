@@ -7,17 +7,18 @@ use lib.ListN.{length, drop}
 use Rattle.types_rules.specs.Types.{kind, slots}
 use Rattle.types_rules.proofs.Laws.{lawful}
 use mathlib.Core.Bool.{true}
-use Rattle.net_rules.specs.Record.{okSlots}
+use Rattle.net_rules.specs.Record.{okSlots, slotsAt}
 use Rattle.net_rules.specs.Walk.{changedAt, ticked}
 use Rattle.net_rules.proofs.Ahead.{turn-ok, ahead-ok, changed-after}
 use Rattle.net_rules.proofs.Turns.{ticked-none}
 use Rattle.net_rules.proofs.OneTurn.{changed-turn, tick-round}
 use Rattle.net_traffic.proofs.tick_each.Statement.{statement}
 use Rattle.net_traffic.proofs.tick_each.Tie as tie
+use Rattle.module_rules.specs.Slots.{slotSize}
 
 abbrev Inv-loop : tie.InvT-loop
 Inv-loop net₀ n at₀ left₀ net at left =
-    (at + 128 * left ≡ 20 + 128 * n) × (length net ≡ length net₀) × (ticked kind slots left at net ≡ ticked kind slots n 20 net₀) × (okSlots slots left (drop at net) ≡ true)
+    (at + slotSize * left ≡ slotsAt + slotSize * n) × (length net ≡ length net₀) × (ticked kind slots left at net ≡ ticked kind slots n slotsAt net₀) × (okSlots slots left (drop at net) ≡ true)
 
 abbrev μ-loop : tie.MeasureT-loop
 μ-loop net₀ n at₀ left₀ net at left = left
@@ -25,7 +26,7 @@ abbrev μ-loop : tie.MeasureT-loop
 tick-requires : tie.Need-tick-requires Inv-loop μ-loop
 tick-requires c κs =
     let l = c .before .before .loop in
-    let n : l .at + 128 - l .at ≡ 128 = omega arith in
+    let n : l .at + slotSize - l .at ≡ slotSize = omega arith in
     (search needs, rw n (turn-ok lawful (l .left) (l .at) (l .net) (omega arith) (l .inv .3)))
 
 loop-again : tie.Need-loop-again Inv-loop μ-loop

@@ -8,8 +8,8 @@ use lib.Seq.{length-take-le}
 use Rattle.replay.proofs.step.Statement.{statement}
 use Rattle.replay.proofs.step.Tie as tie
 
-slice-aggregate-write-all : tie.Need-slice-aggregate-write-all
-slice-aggregate-write-all c =
+slice-aggregate-put : tie.Need-slice-aggregate-put
+slice-aggregate-put c =
     let t = c .before .before .before .before .before .before .before .turn in
     sym (length-take-le (t .result .wrote) (t .last .1 .1 .1 .1 .1 .0) (omega (arith, t .ensures .1 .1 .1 .1 .1 .wrote, t .kept, c .before .before .before .before .before .before .before .before .before .before .before .before .before .before .before .before .before .before .pre .1)))
 
@@ -50,7 +50,7 @@ step-spec =
     (λ c. search needs)
     (λ c κs. search needs)
     (λ c. search needs)
-    slice-aggregate-write-all
+    slice-aggregate-put
     (λ c κs. search needs)
     (λ c κs. search needs)
     (λ c. search needs)

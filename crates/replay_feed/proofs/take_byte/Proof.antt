@@ -5,12 +5,11 @@ use mathlib.Core.Bool.{true, false}
 use Prim.Native.Nat.{ℕ, _+_, _≤_}
 use native.Mathlib.Omega.{arith}
 use borrow.Author.Tests.{lt-leb, le-leb}
-use lib.ListN.{length, getD}
+use lib.ListN.{length, getD, replicate}
 use lib.Dec.{eqb}
-use lib.ListN.{replicate}
 use Rattle.base_layout.specs.Bytes.{pasted}
 use Rattle.types_rules.specs.Types.{slots}
-use Rattle.net_rules.specs.Record.{netIn}
+use Rattle.net_rules.specs.Record.{netIn, chainMost, roomSize}
 use Rattle.net_rules.specs.Calls.{byteOf}
 use Rattle.net_rules.proofs.Valid.{valid-is}
 use Rattle.net_rules.proofs.Exact.{length-modules}
@@ -25,7 +24,7 @@ returns : tie.Need-returns
 unfolding lineByte turned netAfter textAfter
 returns c = let e = c .before .before .bad .ensures in rw (lt-leb _ 1 (c .before .before .before .before .if1 .taken)) (e .0, (refl, e .1))
 
-most : (s : tie.Start) → length (netIn slots (s .args .net .now) .modules) ≤ 32
+most : (s : tie.Start) → length (netIn slots (s .args .net .now) .modules) ≤ chainMost
 most s = let v = valid-is slots (s .args .net .now) (s .pre .0 .0) in omega (arith, v .most, length-modules slots (s .args .net .now))
 
 put-replies-requires : tie.Need-put-replies-requires
@@ -42,7 +41,7 @@ returns-2 c =
     let a = s .args in
     let e = c .before .before .before .before .before .before .before .before .before .before .byte .ensures in
     let p = c .before .before .before .put-replies .ensures in
-    let t = text-is (netIn slots (a .net .now)) (byteOf (getD (a .body .now) 1 0) (eqb (getD (a .body .now) 0 0) 1)) (most s) (e .0) (replicate 608 0) (e .1 .1) in
+    let t = text-is (netIn slots (a .net .now)) (byteOf (getD (a .body .now) 1 0) (eqb (getD (a .body .now) 0 0) 1)) (most s) (e .0) (replicate roomSize 0) (e .1 .1) in
     rw (le-leb (getD (a .body .now) 0 0) 1 (omega (arith, c .before .before .before .before .before .before .before .before .before .before .before .before .before .if1 .left))) (
       c .went .ensures
           ∙ ap (λ (k : ℕ). record { next = record { offset = a .at .offset + 3; count = a .at .count; running = true }; took = 3; wrote = k; over = false; wants = false }) (p .0 ∙ ap length t),

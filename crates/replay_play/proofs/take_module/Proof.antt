@@ -11,9 +11,10 @@ use Rattle.types_rules.specs.Types.{known}
 use Rattle.net_rules.specs.Calls.{fresh}
 use Rattle.base_layout.proofs.Pasted.{pasted-none}
 use Rattle.replay_file.specs.Turns.{turned, typesAfter, netAfter, textAfter}
-use Rattle.replay_file.proofs.Gathered.{module-bad, module-room, module-good, types-put, types-taken, types-known, types-more}
+use Rattle.replay_file.proofs.Gathered.{module-bad, module-room, module-good, types-put, types-taken, types-more}
 use Rattle.replay_play.proofs.take_module.Statement.{statement}
 use Rattle.replay_play.proofs.take_module.Tie as tie
+use Rattle.net_rules.specs.Record.{chainMost}
 
 returns : tie.Need-returns
 unfolding turned typesAfter netAfter textAfter
@@ -30,7 +31,7 @@ module _ (c : tie.Else1) where
   abbrev a : tie.Start
   a = c .before .before .before .before .before .before
 
-  test : ((a .args .at .running || leb 32 (a .args .at .count)) || not (known (a .args .t))) ≡ false
+  test : ((a .args .at .running || leb chainMost (a .args .at .count)) || not (known (a .args .t))) ≡ false
   test = rw (c .before .is-known .ensures) at (c .if1 .left)
 
 slice-write-types : tie.Need-slice-write-types
@@ -60,7 +61,7 @@ set-up-requires c κs =
     let t = test (c .before .before) in
     let r = module-room (a .args .at) (a .args .types .now) (a .args .net .now) (a .args .t) (h .size) (h .most) t in
     let m = types-more (a .args .at) (a .args .types .now) (a .args .net .now) (a .args .t) (h .size) (h .most) t in
-    (h .long, omega arith, types-known (a .args .at) (a .args .types .now) (a .args .net .now) (a .args .t) (h .size) (h .most) t (h .known))
+    (h .long, omega arith)
 
 returns-2 : tie.Need-returns-2
 unfolding turned typesAfter netAfter textAfter

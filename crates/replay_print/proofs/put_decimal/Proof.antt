@@ -11,11 +11,12 @@ use Rattle.replay_print.specs.Text as Spec
 use Rattle.replay_print.proofs.Text.{decimal-is, digit-turn, some-left, less, ends}
 use Rattle.replay_print.proofs.put_decimal.Statement.{statement}
 use Rattle.replay_print.proofs.put_decimal.Tie as tie
+use Rattle.module_rules.specs.Owes.{replySize}
 
 abbrev Inv-loop : tie.InvT-loop
 Inv-loop out at n digits₀ rest₀ i₀ digits rest i =
     (length digits ≡ 20)
-    × (i ≤ 19)
+    × (i ≤ replySize)
     × (rest < 10 ^ i)
     × (Spec.digits i rest ++ drop i digits ≡ decimal n)
 

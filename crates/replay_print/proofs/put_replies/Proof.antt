@@ -6,22 +6,24 @@ use native.Mathlib.Omega.{arith}
 use lib.ListN.{length, getD, drop, length-take}
 use Rattle.base_layout.specs.Bytes.{pasted}
 use Rattle.base_layout.proofs.Pasted.{pasted-none}
-use Rattle.replay_print.specs.Text.{printed}
+use Rattle.replay_print.specs.Text.{printed, lineSize}
 use Rattle.replay_print.proofs.Replies.{Turn, print-turn, printed-none}
 use Rattle.replay_print.proofs.put_replies.Statement.{statement}
 use Rattle.replay_print.proofs.put_replies.Tie as tie
 use Rattle.replay_print.proofs.put_replies.Reads as reads
 use Rattle.replay_print.proofs.put_replies.Lts as lts
 use Rattle.replay_print.proofs.put_reply.Reads as put-reply-reads
+use Rattle.net_rules.specs.Record.{chainMost}
+use Rattle.module_rules.specs.Owes.{replySize}
 
 abbrev Inv-loop : tie.InvT-loop
 Inv-loop room out₀ lengths wrote₀ at₀ place₀ left₀ out wrote at place left =
-    (place + left ≡ 32)
-    × (at ≤ 19 * place)
+    (place + left ≡ chainMost)
+    × (at ≤ replySize * place)
     × (length out ≡ length out₀)
-    × (wrote ≤ 60 * place)
-    × (pasted wrote (printed left place at lengths room) out ≡ pasted 0 (printed 32 0 0 lengths room) out₀)
-    × (wrote + length (printed left place at lengths room) ≡ length (printed 32 0 0 lengths room))
+    × (wrote ≤ lineSize * place)
+    × (pasted wrote (printed left place at lengths room) out ≡ pasted 0 (printed chainMost 0 0 lengths room) out₀)
+    × (wrote + length (printed left place at lengths room) ≡ length (printed chainMost 0 0 lengths room))
 
 abbrev μ-loop : tie.MeasureT-loop
 μ-loop room out₀ lengths wrote₀ at₀ place₀ left₀ out wrote at place left = left

@@ -1,27 +1,48 @@
 -- `servo_calls::tick` meets its contract. Assumes nothing.
-use Rattle.servo_slot_rules.proofs.Tested.{steady-in}
-use Rattle.servo_slot_rules.proofs.Over.{ticked-over}
-use Rattle.servo_slot_rules.specs.Parts.{tickedOver}
-use Rattle.servo_rules.specs.declared.Servo.{Servo}
-use Rattle.servo_rules.specs.Tick.{ticked}
-use mathlib.Core.Path.{ap, _∙_}
 use native.Mathlib.Omega.{arith}
+use Rattle.servo_slot_rules.proofs.Tested.{steady-in}
+use Rattle.servo_slot_rules.specs.Slot.{decodeOf}
+use Rattle.servo_calls.proofs.Stepping.{tick-is}
 use borrow.Author.Needs.{needs}
 use Rattle.servo_calls.proofs.tick.Statement.{statement}
 use Rattle.servo_calls.proofs.tick.Tie as tie
 
-ticked-requires : tie.Need-ticked-requires
-ticked-requires c κs =
-    let a = c .before .before .before .before in
-    rw (c .before .decode .ensures) (steady-in (a .args .s .now) (λ i. omega (arith, c .before .before .before .slice-known .given i)) (a .pre .1))
+ran-requires : tie.Need-ran-requires
+unfolding decodeOf
+ran-requires c κs =
+    let k = c .before .before .before .before .before .before .before .before .before .before .before .before .before in
+    rw (c .before .run-in .ensures) (steady-in (k .before .args .s .now) (λ i. omega (arith, k .slice-known .given i)) (k .before .pre .1))
+
+put-ticked-requires : tie.Need-put-ticked-requires
+put-ticked-requires c κs =
+    let k = c .before .before .before .before .before .before .before .before .before .before .before .before .before .before in
+    k .before .pre .0
 
 returns : tie.Need-returns
 returns c =
-    let m = c .before .before .before .before .before in
-    let a = m .before .before .before in
-    c .before .before .put-ticked .ensures
-    ∙ ap (λ (n : Servo). tickedOver n (a .args .s .now)) (c .before .before .before .ticked .ensures ∙ ap ticked (m .decode .ensures))
-    ∙ ticked-over (a .args .s .now) (a .pre .0) (λ i. omega (arith, m .before .before .slice-known .given i)) (a .pre .1)
+    let e = c .before .before .before .before .before in
+    let g = e .before .before in
+    let p = g .before .before in
+    let l = p .before .before in
+    let n = l .before .before in
+    let w = n .before .before in
+    let k = w .before .before in
+    tick-is (k .before .args .s .now) (k .before .pre .0) (λ i. omega (arith, k .slice-known .given i)) (k .before .pre .1)
+    (w .waiting-in .ensures) (l .latched-in .ensures) (n .counts-in .ensures) (g .gains-in .ensures) (e .run-in .ensures)
+    (p .before .position .ensures) (p .position2 .ensures) (c .before .before .before .ran .ensures) (c .before .before .put-ticked .ensures)
 
 pub tick-spec : {M : Type 1} → statement M
-tick-spec = tie.close (tie.spec (λ c κs. search needs) ticked-requires (λ c κs. search needs) (λ c. search needs) returns)
+tick-spec =
+    tie.close
+    (tie.spec
+    (λ c κs. search needs)
+    (λ c κs. search needs)
+    (λ c κs. search needs)
+    (λ c κs. search needs)
+    (λ c κs. search needs)
+    (λ c κs. search needs)
+    (λ c κs. search needs)
+    ran-requires
+    put-ticked-requires
+    (λ c. search needs)
+    returns)

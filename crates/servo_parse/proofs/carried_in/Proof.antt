@@ -1,7 +1,7 @@
 -- `servo_parse::carried_in` meets its contract. Assumes nothing.
 use borrow.Author.Tests.{eq-eqb, ne-eqb}
 use native.Mathlib.Nat.{div-one}
-use Rattle.servo_parse.specs.Loads.{carriedIn}
+use Rattle.servo_rules.specs.Carried.{carriedIn}
 use borrow.Author.Needs.{needs}
 use Rattle.servo_parse.proofs.carried_in.Statement.{statement}
 use Rattle.servo_parse.proofs.carried_in.Tie as tie

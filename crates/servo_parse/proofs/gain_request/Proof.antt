@@ -1,5 +1,5 @@
 -- `servo_parse::gain_request` meets its contract. Assumes nothing.
-use Rattle.servo_parse.specs.Orders.{gainRequest}
+use Rattle.servo_rules.specs.Asks.{gainRequest}
 use borrow.Author.Needs.{needs}
 use Rattle.servo_parse.proofs.gain_request.Statement.{statement}
 use Rattle.servo_parse.proofs.gain_request.Tie as tie

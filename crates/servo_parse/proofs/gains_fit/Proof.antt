@@ -1,6 +1,6 @@
 -- `servo_parse::gains_fit` meets its contract. Assumes nothing.
 use borrow.Author.Needs.{needs}
-use Rattle.servo_parse.specs.Orders.{gainsFit}
+use Rattle.servo_rules.specs.Asks.{gainsFit}
 use Rattle.servo_parse.proofs.gains_fit.Statement.{statement}
 use Rattle.servo_parse.proofs.gains_fit.Tie as tie
 

@@ -1,5 +1,5 @@
 -- `servo_parse::gains_in` meets its contract. Assumes nothing.
-use Rattle.servo_parse.specs.Orders.{gainsIn}
+use Rattle.servo_rules.specs.Asks.{gainsIn}
 use borrow.Author.Needs.{needs}
 use Rattle.servo_parse.proofs.gains_in.Statement.{statement}
 use Rattle.servo_parse.proofs.gains_in.Tie as tie

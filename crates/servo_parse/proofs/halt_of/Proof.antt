@@ -1,6 +1,6 @@
 -- `servo_parse::halt_of` meets its contract. Assumes nothing.
 use mathlib.Core.Path.{sym, _∙_}
-use Rattle.servo_parse.specs.Orders.{haltOf}
+use Rattle.servo_rules.specs.Asks.{haltOf}
 use borrow.Author.Needs.{needs}
 use Rattle.servo_parse.proofs.halt_of.Statement.{statement}
 use Rattle.servo_parse.proofs.halt_of.Tie as tie

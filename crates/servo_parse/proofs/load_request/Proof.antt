@@ -1,5 +1,5 @@
 -- `servo_parse::load_request` meets its contract. Assumes nothing.
-use Rattle.servo_parse.specs.Orders.{loadRequest}
+use Rattle.servo_rules.specs.Asks.{loadRequest}
 use borrow.Author.Needs.{needs}
 use Rattle.servo_parse.proofs.load_request.Statement.{statement}
 use Rattle.servo_parse.proofs.load_request.Tie as tie

@@ -1,6 +1,6 @@
 -- `servo_parse::own_request` meets its contract. Each code is one arm. Assumes nothing.
 use borrow.Author.Tests.{ne-eqb}
-use Rattle.servo_parse.specs.Orders.{own}
+use Rattle.servo_rules.specs.Asks.{own}
 use borrow.Author.Needs.{needs}
 use Rattle.servo_parse.proofs.own_request.Statement.{statement}
 use Rattle.servo_parse.proofs.own_request.Tie as tie

@@ -1,5 +1,5 @@
 -- `servo_parse::request_of` meets its contract. Assumes nothing.
-use Rattle.servo_parse.specs.Orders.{request}
+use Rattle.module_rules.specs.Rules.{request}
 use borrow.Author.Needs.{needs}
 use Rattle.servo_parse.proofs.request_of.Statement.{statement}
 use Rattle.servo_parse.proofs.request_of.Tie as tie

@@ -1,5 +1,5 @@
 -- `servo_parse::stop_request` meets its contract. Assumes nothing.
-use Rattle.servo_parse.specs.Orders.{stopRequest}
+use Rattle.servo_rules.specs.Asks.{stopRequest}
 use borrow.Author.Needs.{needs}
 use Rattle.servo_parse.proofs.stop_request.Statement.{statement}
 use Rattle.servo_parse.proofs.stop_request.Tie as tie

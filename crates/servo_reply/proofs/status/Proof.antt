@@ -3,7 +3,7 @@ use Rattle.servo_rules.proofs.Ranges.{bit-most, cause-bit-most}
 use lib.Dec.{eqb}
 use Prim.Native.Nat.{_≤_}
 use native.Mathlib.Omega.{arith}
-use Rattle.servo_rules.specs.Answers.{status}
+use Rattle.servo_rules.specs.Answers.{statusOf}
 use borrow.Author.Needs.{needs}
 use Rattle.servo_reply.proofs.status.Statement.{statement}
 use Rattle.servo_reply.proofs.status.Tie as tie
@@ -12,26 +12,26 @@ done-most : (c : tie.After-bit-at) → c .bit-at .result ≤ 1
 done-most c = rw (c .bit-at .ensures) (bit-most 1 (c .before .is-done .result))
 
 cause-most : (c : tie.After-cause-bit) → c .cause-bit .result ≤ 2
-cause-most c = rw (c .cause-bit .ensures) (cause-bit-most (c .before .before .before .args .m .station .cause))
+cause-most c = rw (c .cause-bit .ensures) (cause-bit-most (c .before .before .before .args .cause))
 
 power-most : (c : tie.After-bit-at2) → c .bit-at2 .result ≤ 8
-power-most c = rw (c .bit-at2 .ensures) (bit-most 8 (eqb (c .before .before .before .before .before .args .m .latched .power) 1))
+power-most c = rw (c .bit-at2 .ensures) (bit-most 8 (eqb (c .before .before .before .before .args .power) 1))
 
 error-most : (c : tie.After-bit-at3) → c .bit-at3 .result ≤ 16
-error-most c = rw (c .bit-at3 .ensures) (bit-most 16 (c .before .before .before .before .before .before .args .m .drive .error))
+error-most c = rw (c .bit-at3 .ensures) (bit-most 16 (c .before .before .before .before .before .args .r .drive .error))
 
 add-result : tie.Need-add-result
 add-result c = omega (arith, done-most (c .before), cause-most c)
 
 add-result-2 : tie.Need-add-result-2
-add-result-2 c = omega (arith, done-most (c .before .before .before), cause-most (c .before .before), power-most c)
+add-result-2 c = omega (arith, done-most (c .before .before), cause-most (c .before), power-most c)
 
 add-result-3 : tie.Need-add-result-3
-add-result-3 c = omega (arith, done-most (c .before .before .before .before), cause-most (c .before .before .before), power-most (c .before), error-most c)
+add-result-3 c = omega (arith, done-most (c .before .before .before), cause-most (c .before .before), power-most (c .before), error-most c)
 
 returns : tie.Need-returns
-unfolding status
-returns c = rw (c .bit-at3 .ensures, c .before .bit-at2 .ensures, c .before .before .before .cause-bit .ensures, c .before .before .before .before .bit-at .ensures, c .before .before .before .before .before .is-done .ensures)
+unfolding statusOf
+returns c = let b = c .before .before in rw (c .bit-at3 .ensures, c .before .bit-at2 .ensures, b .cause-bit .ensures, b .before .bit-at .ensures, b .before .before .is-done .ensures)
 
 pub status-spec : {M : Type 1} → statement M
 status-spec =

@@ -1,7 +1,7 @@
 -- `servo_slot_list::is_ok` meets its contract. Assumes nothing.
 use Rattle.servo_slot_rules.proofs.Tested.{ok-is, ranged-in}
 use Rattle.servo_slot_rules.specs.List.{soundAt}
-use Rattle.servo_slot_rules.specs.Slot.{okOf}
+use Rattle.servo_slot_rules.specs.Slot.{latchedAt, powerIn, okOf}
 use Rattle.servo_motion.specs.Profile.{Ranged}
 use Prim.Native.Nat.{ℕ}
 use native.Mathlib.Omega.{arith}
@@ -14,29 +14,26 @@ use Rattle.servo_slot_list.proofs.is_ok.Statement.{statement}
 use Rattle.servo_slot_list.proofs.is_ok.Tie as tie
 
 -- what is known when all but the last test is made
-module _ (c : tie.After-is-motion-ok) where
-  abbrev drives : tie.After-drive-in
-  drives = c .before .before .before
-
-  abbrev profiles : tie.After-profile-in
-  profiles = drives .before .before
+module _ (c : tie.After-is-run-ok) where
+  abbrev runs : tie.After-run-in
+  runs = c .before .before .before
 
   abbrev start : tie.After-shared-slice-known
-  start = profiles .before .before
+  start = runs .before .before
 
   abbrev slot : List ℕ
   slot = start .before .args .s .now
 
   abbrev soundHere : Bool
-  soundHere = soundAt (getD slot 18 0) (profiles .profile-in .result) (drives .before .memory-in .result) (drives .drive-in .result)
+  soundHere = soundAt (getD slot (powerIn latchedAt) 0) (runs .run-in .result)
 
-  tests : okOf slot ≡ (c .is-motion-ok .result && soundHere)
-  tests = ok-is slot (profiles .before .rates-in .ensures) (profiles .profile-in .ensures) (drives .before .memory-in .ensures) (drives .drive-in .ensures)
-      (c .before .before .is-front-ok .ensures) (c .before .is-load-ok .ensures) (c .is-motion-ok .ensures)
+  tests : okOf slot ≡ (c .is-run-ok .result && soundHere)
+  tests = ok-is slot (runs .before .rates-in .ensures) (runs .run-in .ensures)
+      (c .before .before .is-front-ok .ensures) (c .before .is-load-ok .ensures) (c .is-run-ok .ensures)
 
-  ranged : c .is-motion-ok .result ≡ true → Ranged (profiles .profile-in .result)
-  ranged = ranged-in slot (profiles .before .rates-in .ensures) (profiles .profile-in .ensures) (drives .before .memory-in .ensures) (drives .drive-in .ensures)
-      (c .before .before .is-front-ok .ensures) (c .before .is-load-ok .ensures) (c .is-motion-ok .ensures)
+  ranged : c .is-run-ok .result ≡ true → Ranged (runs .run-in .result .profile)
+  ranged = ranged-in slot (runs .before .rates-in .ensures) (runs .run-in .ensures)
+      (c .before .before .is-front-ok .ensures) (c .before .is-load-ok .ensures) (c .is-run-ok .ensures)
       (λ i. omega (arith, start .shared-slice-known .given i))
 
 is-sound-requires : tie.Need-is-sound-requires
@@ -52,8 +49,6 @@ pub is-ok-spec : {M : Type 1} → statement M
 is-ok-spec =
     tie.close
     (tie.spec
-    (λ c κs. search needs)
-    (λ c κs. search needs)
     (λ c κs. search needs)
     (λ c κs. search needs)
     (λ c κs. search needs)

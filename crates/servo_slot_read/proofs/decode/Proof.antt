@@ -6,20 +6,7 @@ use Rattle.servo_slot_read.proofs.decode.Tie as tie
 
 returns : tie.Need-returns
 unfolding decodeOf
-returns c = rw (c .drive-in .ensures, c .before .memory-in .ensures, c .before .before .profile-in .ensures, c .before .before .before .load-in .ensures, c .before .before .before .before .rates-in .ensures, c .before .before .before .before .before .tuning-in .ensures, c .before .before .before .before .before .before .counts-in .ensures, c .before .before .before .before .before .before .before .sample-in2 .ensures, c .before .before .before .before .before .before .before .before .sample-in .ensures, c .before .before .before .before .before .before .before .before .before .in-slot .ensures)
+returns c = rw (c .run-in .ensures, c .before .settings-in .ensures, c .before .before .counts-in .ensures, c .before .before .before .samples-in .ensures, c .before .before .before .before .station-in .ensures)
 
 pub decode-spec : {M : Type 1} → statement M
-decode-spec =
-    tie.close
-    (tie.spec
-    (λ c κs. search needs)
-    (λ c κs. search needs)
-    (λ c κs. search needs)
-    (λ c κs. search needs)
-    (λ c κs. search needs)
-    (λ c κs. search needs)
-    (λ c κs. search needs)
-    (λ c κs. search needs)
-    (λ c κs. search needs)
-    (λ c κs. search needs)
-    returns)
+decode-spec = tie.close (tie.spec (λ c κs. search needs) (λ c κs. search needs) (λ c κs. search needs) (λ c κs. search needs) (λ c κs. search needs) returns)

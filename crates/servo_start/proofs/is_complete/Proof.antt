@@ -1,23 +1,24 @@
 -- `servo_start::is_complete` meets its contract. Assumes nothing.
-use Rattle.servo_rules.specs.Loads.{completeBy}
+use Rattle.servo_rules.specs.Loads.{completeBy, complete}
 use Rattle.servo_rules.specs.declared.Way.{Way}
 use mathlib.Core.Path.{_≡_, sym, ap, _∙_}
-use Rattle.servo_rules.specs.Loads.{complete}
 use borrow.Author.Needs.{needs}
 use Rattle.servo_start.proofs.is_complete.Statement.{statement}
 use Rattle.servo_start.proofs.is_complete.Tie as tie
 
-returns : tie.Need-returns
+-- whether the load is complete, in the way that it is found to go
+by-way : (s : tie.Start) (k : Way) → s .args .m .settings .load .way ≡ k → completeBy k (s .args .m) ≡ complete (s .args .m)
 unfolding complete
-returns c = sym (ap (λ (k : Way). completeBy k (c .before .before .before .args .m)) (c .enum-told .given .1))
+by-way s k e = sym (ap (λ (j : Way). completeBy j (s .args .m)) e)
+
+returns : tie.Need-returns
+returns c = by-way (c .before .before .before .before) _ (c .enum-told .given .1)
 
 returns-2 : tie.Need-returns-2
-unfolding complete
-returns-2 c = sym (ap (λ (k : Way). completeBy k (c .before .before .before .before .args .m)) (c .before .enum-told2 .given .1))
+returns-2 c = by-way (c .before .before .before .before .before) _ (c .before .enum-told2 .given .1)
 
 returns-3 : tie.Need-returns-3
-unfolding complete
-returns-3 c = c .is-movable .ensures ∙ sym (ap (λ (k : Way). completeBy k (c .before .before .before .before .args .m)) (c .before .enum-told3 .given .1))
+returns-3 c = c .is-movable .ensures ∙ by-way (c .before .before .before .before .before) _ (c .before .enum-told3 .given .1)
 
 pub is-complete-spec : {M : Type 1} → statement M
 is-complete-spec =

@@ -6,16 +6,19 @@ use Rattle.servo_start.proofs.is_movable.Statement.{statement}
 use Rattle.servo_start.proofs.is_movable.Tie as tie
 
 whole-requires : tie.Need-whole-requires
-whole-requires c κs = rw (c .beginning .ensures) (beginning-small (c .before .args .m) (c .before .pre))
+whole-requires c κs =
+    let s = c .before .before .before in
+    rw (c .beginning-at .ensures, c .before .position .ensures) (beginning-small (s .args .m) (s .pre))
 
 returns : tie.Need-returns
 unfolding movable
-returns c = rw (c .before .before .before .before .is-at-rest .ensures, c .before .before .before .less .ensures, c .before .before .before .before .before .whole .ensures, c .before .before .before .before .before .before .beginning .ensures)
+returns c = let b = c .before .before .before in rw (b .less .ensures, b .before .is-at-rest .ensures, b .before .before .whole .ensures, b .before .before .before .beginning-at .ensures, b .before .before .before .before .position .ensures)
 
 pub is-movable-spec : {M : Type 1} → statement M
 is-movable-spec =
     tie.close
     (tie.spec
+    (λ c κs. search needs)
     (λ c κs. search needs)
     whole-requires
     (λ c κs. search needs)

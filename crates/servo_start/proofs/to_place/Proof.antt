@@ -6,7 +6,7 @@ use Rattle.servo_start.proofs.to_place.Tie as tie
 
 returns : tie.Need-returns
 unfolding toPlace
-returns c = rw (c .running .ensures, c .before .servoing .ensures, c .before .before .sent .ensures)
+returns c = rw (c .servoing .ensures, c .before .sent .ensures)
 
 pub to-place-spec : {M : Type 1} → statement M
-to-place-spec = tie.close (tie.spec (λ c κs. search needs) (λ c κs. search needs) (λ c κs. search needs) returns)
+to-place-spec = tie.close (tie.spec (λ c κs. search needs) (λ c κs. search needs) returns)

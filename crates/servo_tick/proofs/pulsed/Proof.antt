@@ -6,31 +6,28 @@ use native.Mathlib.Omega.{arith}
 use mir.ValLaws.{toZ-ofZ}
 use Rattle.servo_rules.specs.Tick.{putOut}
 use Rattle.servo_filter.specs.Filter.{held}
-use lib.IntN.{ℤ}
-use mathlib.Core.Path.{_≡_, sym, ap, _∙_}
+use mathlib.Core.Path.{_≡_, _∙_}
 use Rattle.servo_rules.specs.Tick.{pulsed}
 use borrow.Author.Needs.{needs}
 use Rattle.servo_tick.proofs.pulsed.Statement.{statement}
 use Rattle.servo_tick.proofs.pulsed.Tie as tie
 
-pulse-is : (s : tie.Start) → toZ w64 (ofZ w64 (s .args .m .drive .pulse)) ≡ s .args .m .drive .pulse
+pulse-is : (s : tie.Start) → toZ w64 (ofZ w64 (s .args .r .drive .pulse)) ≡ s .args .r .drive .pulse
 pulse-is s = back w64 _ (omega (arith, s .pre .pulse))
 
 limited-is : (c : tie.After-limited)
-    → let m = c .before .before .before .args .m in
-    toZ w64 (ofZ w64 (c .limited .result)) ≡ held (m .tuning .gains .ol) (m .drive .pulse)
+    → let a = c .before .before .before .args in
+    toZ w64 (ofZ w64 (c .limited .result)) ≡ held (a .ol) (a .r .drive .pulse)
 limited-is c = toZ-ofZ w64 _ (record { sfits = c .limited .ok }) ∙ (rw (pulse-is (c .before .before .before)) at (c .limited .ensures))
 
 put-is : (c : tie.After-put-out)
-    → let m = c .before .before .before .before .args .m in
-    toZ w64 (ofZ w64 (c .put-out .result)) ≡ putOut (held (m .tuning .gains .ol) (m .drive .pulse)) m
+    → let a = c .before .before .before .before .args in
+    toZ w64 (ofZ w64 (c .put-out .result)) ≡ putOut (a .power) (held (a .ol) (a .r .drive .pulse))
 put-is c = toZ-ofZ w64 _ (record { sfits = c .put-out .ok }) ∙ (rw (limited-is (c .before)) at (c .put-out .ensures))
 
 returns : tie.Need-returns
 unfolding pulsed
-returns c = rw (c .with-drive .ensures, c .before .putting .ensures, put-is (c .before .before))
+returns c = rw (c .putting .ensures, put-is (c .before))
 
 pub pulsed-spec : {M : Type 1} → statement M
-pulsed-spec =
-    tie.close
-    (tie.spec (λ c κs. search needs) (λ c κs. search needs) (λ c κs. search needs) (λ c κs. search needs) returns)
+pulsed-spec = tie.close (tie.spec (λ c κs. search needs) (λ c κs. search needs) (λ c κs. search needs) returns)

@@ -11,11 +11,11 @@ use Rattle.servo_tick.proofs.put_out.Tie as tie
 
 returns : tie.Need-returns
 unfolding putOut
-returns c = let s = c .before .before in toZ-ofZ w64 _ (s .fits .u) ∙ sym (ap (λ (t : Bool). cond t (s .args .u) (pos 0)) (eq-eqb _ _ (c .if1 .taken)))
+returns c = let s = c .before in toZ-ofZ w64 _ (s .fits .u) ∙ sym (ap (λ (t : Bool). cond t (s .args .u) (pos 0)) (eq-eqb _ _ (c .if1 .taken)))
 
 returns-2 : tie.Need-returns-2
 unfolding putOut
-returns-2 c = let s = c .before .before in sym (ap (λ (t : Bool). cond t (s .args .u) (pos 0)) (ne-eqb _ _ (c .if1 .left)))
+returns-2 c = let s = c .before in sym (ap (λ (t : Bool). cond t (s .args .u) (pos 0)) (ne-eqb _ _ (c .if1 .left)))
 
 pub put-out-spec : {M : Type 1} → statement M
 put-out-spec = tie.close (tie.spec returns returns-2)

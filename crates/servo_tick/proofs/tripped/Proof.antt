@@ -6,9 +6,7 @@ use Rattle.servo_tick.proofs.tripped.Tie as tie
 
 returns : tie.Need-returns
 unfolding tripped
-returns c = rw (c .with-drive .ensures, c .before .with-error .ensures, c .before .before .before .off .ensures, c .before .before .before .before .with-profile .ensures)
+returns c = rw (c .erring .ensures, c .before .off .ensures, c .before .before .with-profile .ensures)
 
 pub tripped-spec : {M : Type 1} → statement M
-tripped-spec =
-    tie.close
-    (tie.spec (λ c κs. search needs) (λ c κs. search needs) (λ c κs. search needs) (λ c κs. search needs) returns)
+tripped-spec = tie.close (tie.spec (λ c κs. search needs) (λ c κs. search needs) (λ c κs. search needs) returns)

@@ -6,8 +6,7 @@ use Rattle.servo_tick.proofs.unpowered.Tie as tie
 
 returns : tie.Need-returns
 unfolding unpowered
-returns c = rw (c .with-drive .ensures, c .before .with-amplifier .ensures, c .before .before .before .off .ensures)
+returns c = rw (c .amplified .ensures, c .before .off .ensures)
 
 pub unpowered-spec : {M : Type 1} → statement M
-unpowered-spec =
-    tie.close (tie.spec (λ c κs. search needs) (λ c κs. search needs) (λ c κs. search needs) returns)
+unpowered-spec = tie.close (tie.spec (λ c κs. search needs) (λ c κs. search needs) returns)

@@ -1,14 +1,21 @@
 -- `types_dispatch::is_ok` meets its contract. Assumes nothing.
-use borrow.Author.Tests.{eq-eqb, ne-eqb}
+use mathlib.Core.Path.{sym, ap, _∙_}
+use lib.ListN.{getD}
+use Rattle.types_rules.specs.Table.{ModuleType, servo, slotsOf}
+use Rattle.types_rules.proofs.Dispatch.{type-at, type-last}
 use borrow.Author.Needs.{needs}
 use Rattle.types_dispatch.proofs.is_ok.Statement.{statement}
 use Rattle.types_dispatch.proofs.is_ok.Tie as tie
 
 returns : tie.Need-returns
-returns c = rw (eq-eqb _ _ (c .before .if1 .taken)) (c .is-ok .ensures)
+returns c =
+    let s = c .before .before .before .before .args .s .now in
+    c .is-ok .ensures ∙ sym (ap (λ (t : ModuleType). slotsOf t .ok s) (type-at (getD s 0 0) servo (c .before .if1 .taken)))
 
 returns-2 : tie.Need-returns-2
-returns-2 c = rw (ne-eqb _ _ (c .before .if1 .left)) (c .is-ok2 .ensures)
+returns-2 c =
+    let s = c .before .before .before .before .args .s .now in
+    c .is-ok2 .ensures ∙ sym (ap (λ (t : ModuleType). slotsOf t .ok s) (type-last (getD s 0 0) (c .before .if1 .left)))
 
 pub is-ok-spec : {M : Type 1} → statement M
 is-ok-spec =

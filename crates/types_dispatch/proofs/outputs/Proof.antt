@@ -1,26 +1,31 @@
 -- `types_dispatch::outputs` meets its contract. Assumes nothing.
+use mathlib.Core.Path.{sym, ap, subst, _∙_}
+use mathlib.Core.Bool.{true}
+use mathlib.Core.Path.{_≡_}
 use native.Mathlib.Omega.{arith}
-use borrow.Author.Tests.{eq-eqb, ne-eqb}
+use lib.ListN.{getD}
+use Rattle.types_rules.specs.Table.{ModuleType, servo, rulesOf, slotsOf}
+use Rattle.types_rules.proofs.Dispatch.{type-at, type-last}
 use borrow.Author.Needs.{needs}
 use Rattle.types_dispatch.proofs.outputs.Statement.{statement}
 use Rattle.types_dispatch.proofs.outputs.Tie as tie
 
 outputs-requires : tie.Need-outputs-requires
-outputs-requires c κs = let a = c .before .before .before in (omega (arith, a .pre .0), rw (eq-eqb _ _ (c .if1 .taken)) at (a .pre .1))
+outputs-requires c κs =
+    let a = c .before .before .before in
+    let s = a .args .s .now in
+    (omega (arith, a .pre .0), subst (λ (t : ModuleType). slotsOf t .ok s ≡ true) (type-at (getD s 0 0) servo (c .if1 .taken)) (a .pre .1))
 
 returns : tie.Need-returns
-returns c = rw (eq-eqb _ _ (c .before .if1 .taken)) (c .outputs .ensures)
+returns c =
+    let s = c .before .before .before .before .args .s .now in
+    c .outputs .ensures ∙ sym (ap (λ (t : ModuleType). rulesOf t .outputs (slotsOf t .dec s)) (type-at (getD s 0 0) servo (c .before .if1 .taken)))
 
 returns-2 : tie.Need-returns-2
-returns-2 c = rw (ne-eqb _ _ (c .before .before .if1 .left), c .outputs2 .ensures, c .before .decode .ensures)
+returns-2 c =
+    let s = c .before .before .before .before .args .s .now in
+    c .outputs2 .ensures ∙ sym (ap (λ (t : ModuleType). rulesOf t .outputs (slotsOf t .dec s)) (type-last (getD s 0 0) (c .before .if1 .left)))
 
 pub outputs-spec : {M : Type 1} → statement M
 outputs-spec =
-    tie.close
-    (tie.spec
-    (λ c. search needs)
-    outputs-requires
-    returns
-    (λ c κs. search needs)
-    (λ c κs. search needs)
-    returns-2)
+    tie.close (tie.spec (λ c. search needs) outputs-requires returns (λ c κs. search needs) returns-2)

@@ -1,14 +1,33 @@
 -- `types_dispatch::power_up` meets its contract. Assumes nothing.
-use borrow.Author.Tests.{eq-eqb, ne-eqb}
+use mathlib.Core.Path.{sym, ap, _∙_}
+use mathlib.Core.List.{List}
+use Prim.Native.Nat.{ℕ}
+use Rattle.base_layout.specs.Bytes.{pasted}
+use Rattle.types_rules.specs.Table.{ModuleType, servo, rulesOf, slotsOf}
+use Rattle.types_rules.proofs.Dispatch.{type-at, type-last}
+use Rattle.servo_slot_rules.specs.Slot as ServoSlot
+use Rattle.inout_slot_rules.specs.Slot as InoutSlot
+use Rattle.servo_rules.specs.declared.Servo.{Servo}
+use Rattle.inout_rules.specs.declared.Io.{Io}
 use borrow.Author.Needs.{needs}
 use Rattle.types_dispatch.proofs.power_up.Statement.{statement}
 use Rattle.types_dispatch.proofs.power_up.Tie as tie
 
 returns : tie.Need-returns
-returns c = rw (eq-eqb _ _ (c .before .before .before .before .before .if1 .taken), c .before .before .put .ensures, c .before .before .before .power-up .ensures)
+returns c =
+    let b = c .before .before .before .before .before in
+    let a = b .before .before .args in
+    c .before .before .put .ensures
+    ∙ ap (λ (m : Servo). pasted 0 (ServoSlot.encodeOf m) (a .s .now)) (c .before .before .before .power-up .ensures)
+    ∙ sym (ap (λ (t : ModuleType). pasted 0 (slotsOf t .enc (rulesOf t .started)) (a .s .now)) (type-at (a .t) servo (b .if1 .taken)))
 
 returns-2 : tie.Need-returns-2
-returns-2 c = rw (ne-eqb _ _ (c .before .before .before .before .before .if1 .left), c .before .before .put2 .ensures, c .before .before .before .power-up2 .ensures)
+returns-2 c =
+    let b = c .before .before .before .before .before in
+    let a = b .before .before .args in
+    c .before .before .put2 .ensures
+    ∙ ap (λ (m : Io). pasted 0 (InoutSlot.encodeOf m) (a .s .now)) (c .before .before .before .power-up2 .ensures)
+    ∙ sym (ap (λ (t : ModuleType). pasted 0 (slotsOf t .enc (rulesOf t .started)) (a .s .now)) (type-last (a .t) (b .if1 .left)))
 
 pub power-up-spec : {M : Type 1} → statement M
 power-up-spec =

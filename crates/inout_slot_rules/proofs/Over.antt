@@ -1,0 +1,41 @@
+-- What is put into a valid slot in parts is as good as the whole module put there, where the other parts stand already. Assumes nothing.
+use mathlib.Core.Path.{_≡_, refl, sym, ap, _∙_}
+use mathlib.Core.List.{List, _++_}
+use mathlib.Core.Bool.{true}
+use Prim.Native.Nat.{ℕ, _≤_}
+use lib.ListN.{length, drop, take-append-drop}
+use Rattle.base_layout.specs.Bytes.{pasted, Bytes}
+use Rattle.base_layout.proofs.Codec.{head-there}
+use Rattle.module_rules.specs.declared.Station.{Station}
+use Rattle.module_rules.specs.Slot.{station}
+use Rattle.module_rules.specs.Slots.{stationAt}
+use Rattle.inout_rules.specs.declared.Sample.{Sample}
+use Rattle.inout_rules.specs.declared.Io.{Io}
+use Rattle.inout_rules.specs.State.{withStation, sampled, ticked}
+use Rattle.inout_slot_rules.specs.Slot.{sample, slot, waitingAt, latchedAt, ioSize, encodeOf, decodeOf, okOf}
+
+module _ (s : List ℕ) (h : ioSize ≤ length s) (bytes : Bytes s) (ok : okOf s ≡ true) where
+  whole : s ≡ encodeOf (decodeOf s) ++ drop ioSize s
+  unfolding encodeOf decodeOf okOf
+  whole = sym (take-append-drop ioSize s) ∙ ap (λ (l : List ℕ). l ++ drop ioSize s) (sym (head-there (slot .lawful) s h bytes ok))
+
+  -- a way to put what makes the module n of the one that stands there
+  put-over : (n : Io) (put : List ℕ → List ℕ) → ((t : List ℕ) → put (encodeOf (decodeOf s) ++ t) ≡ encodeOf n ++ t)
+      → pasted 0 (encodeOf n) s ≡ put s
+  unfolding encodeOf
+  put-over n put e =
+      let t : List ℕ = drop ioSize s in
+      let over : pasted 0 (encodeOf n) (encodeOf (decodeOf s) ++ t) ≡ encodeOf n ++ t = refl in
+      ap (pasted 0 (encodeOf n)) whole ∙ over ∙ sym (e t) ∙ ap put (sym whole)
+
+  pub station-over : (x : Station) → pasted 0 (encodeOf (withStation x (decodeOf s))) s ≡ pasted stationAt (station .codec .enc x) s
+  unfolding encodeOf
+  station-over x = put-over (withStation x (decodeOf s)) (pasted stationAt (station .codec .enc x)) (λ t. refl)
+
+  pub sampled-over : (x : Sample) → pasted 0 (encodeOf (sampled x (decodeOf s))) s ≡ pasted waitingAt (sample .codec .enc x) s
+  unfolding encodeOf
+  sampled-over x = put-over (sampled x (decodeOf s)) (pasted waitingAt (sample .codec .enc x)) (λ t. refl)
+
+  pub ticked-over : pasted 0 (encodeOf (ticked (decodeOf s))) s ≡ pasted latchedAt (sample .codec .enc (decodeOf s .samples .waiting)) s
+  unfolding encodeOf
+  ticked-over = put-over (ticked (decodeOf s)) (pasted latchedAt (sample .codec .enc (decodeOf s .samples .waiting))) (λ t. refl)

@@ -1,0 +1,59 @@
+-- What the I/O module owes as a module type. Assumes nothing.
+use mathlib.Core.Path.{_≡_, refl, ap}
+use mathlib.Core.List.{List}
+use mathlib.Core.Bool.{true}
+use Prim.Native.Nat.{ℕ}
+use native.Mathlib.Omega.{arith}
+use borrow.Author.Tests.{eqb-true}
+use borrow.Author.Needs.{needs}
+use lib.ListN.{getD}
+use Rattle.base_layout.specs.Bytes.{pasted}
+use Rattle.base_layout.proofs.Every.{every-hold}
+use Rattle.base_layout.proofs.Pasted.{pasted-start}
+use Rattle.module_rules.specs.Slot.{station}
+use Rattle.module_rules.specs.Slots.{Lawful, stationAt}
+use Rattle.module_rules.specs.Owes.{Owes}
+use Rattle.module_rules.proofs.Slotting.{slotted-lawful}
+use Rattle.inout_rules.specs.declared.Io.{Io}
+use Rattle.inout_rules.specs.Answers.{typeNumber, inout}
+use Rattle.inout_rules.proofs.Apart.{apart}
+use Rattle.inout_slot_rules.specs.Slot.{sample, slot, encodeOf, decodeOf, okOf, slots}
+use Rattle.inout_slot_rules.proofs.Replaced.{station-fits, samples-fit, fresh-fits, none-fits, own-safe, status-fits, numbers-fit, outputs-fit}
+
+lawful : Lawful slots
+unfolding encodeOf decodeOf okOf
+lawful = slotted-lawful slot (omega arith)
+
+begins : (m : Io) (s : List ℕ) → getD (pasted 0 (encodeOf m) s) 0 0 ≡ typeNumber
+unfolding encodeOf
+begins m s = ap (λ (l : List ℕ). getD l 0 0) (pasted-start (encodeOf m) s)
+
+typed : (s : List ℕ) → okOf s ≡ true → getD s 0 0 ≡ typeNumber
+unfolding okOf
+typed s v = eqb-true _ _ (every-hold (slot .codec .tests 0 s) v .0)
+
+stationed : (s : List ℕ) → decodeOf s .station ≡ station .codec .dec stationAt s
+unfolding decodeOf
+stationed s = refl
+
+pub owes : Owes inout slots (sample .codec .fits)
+owes = record {
+  apart = apart;
+  lawful = lawful;
+  begins = begins;
+  typed = typed;
+  stationed = stationed;
+  power = fresh-fits _ (none-fits, none-fits);
+  held = λ m t. t .1 .0;
+  withStation = λ s m h t. station-fits m t s h;
+  renewed = λ m t. fresh-fits (m .samples) (t .1 .1 .0);
+  own = own-safe;
+  sample = λ x m h t. samples-fit m t _ (h, t .1 .1 .0 .1);
+  tick = λ m t. samples-fit m t _ (t .1 .1 .0 .0, t .1 .1 .0 .0);
+  eight = refl;
+  four = search needs;
+  small = omega arith;
+  status = λ m. status-fits (m .station .cause);
+  numbers = numbers-fit;
+  outputs = λ m t. (refl, outputs-fit m t);
+}

@@ -1,0 +1,9 @@
+pub mod Items
+pub mod StationKept
+pub mod Short
+pub mod Speaking
+pub mod Slotted
+pub mod Slotting
+pub mod Settled
+pub mod Replies
+pub mod Kept

@@ -1,0 +1,9 @@
+pub mod Touch
+pub mod Commands
+pub mod Report
+pub mod Slot
+pub mod Kind
+pub mod Slots
+pub mod Rules
+pub mod Promises
+pub mod Owes

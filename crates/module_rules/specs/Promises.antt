@@ -1,0 +1,104 @@
+-- What is promised of a module of any type. Each is proved under its name, with small letters, in proofs/, of every type that owes `Apart`.
+use mathlib.Core.Path.{_≡_}
+use Prim.Native.Nat.{ℕ, _+_, _≤_}
+use mathlib.Core.List.{List, []}
+use mathlib.Core.Bool.{Bool, true, false, _&&_}
+use lib.ListN.{length, getD}
+use lib.Dec.{eqb}
+use Rattle.line_receiver.specs.Receive.{total}
+use Rattle.line_receiver.specs.Frames.{Frame}
+use Rattle.module_rules.specs.declared.Station.{Station}
+use Rattle.module_rules.specs.declared.Setting.{Setting}
+use Rattle.module_rules.specs.Touch.{speaks, powerUp}
+use Rattle.module_rules.specs.Commands.{applied}
+use Rattle.module_rules.specs.Report.{report}
+use Rattle.module_rules.specs.Kind.{Kind, executed, replied}
+use Rattle.module_rules.specs.Rules.{malformed, set, reset, wants, Own, Rules, withCause, request, execute, reply}
+
+-- Whether a touched module replies is judged on its address before the frame; its reply is that of its record after the frame.
+abbrev pub SpeaksBefore : {M S : Type 0} → Kind M S → Type 0
+SpeaksBefore {M} K =
+    ((f : Frame) (m : M) → speaks (f .address) (K .address m) ≡ false → replied K f m ≡ [])
+    × ((f : Frame) (m : M) → speaks (f .address) (K .address m) ≡ true → replied K f m ≡ K .reply f (executed K f m))
+
+module _ {M S C : Type 0} (T : Rules M S C) where
+  -- The station stands apart from all else that a module has: what is put there is there, and no command of the type's own, no sample and no
+  -- tick changes it; a code of the type's own asks for none of the commands of every type.
+  pub record Apart : Type 0 where
+    pub put : (s : Station) (m : M) → T .station (T .withStation s m) ≡ s
+    pub own : (code : ℕ) (ds : List ℕ) → Own (T .own code ds)
+    pub perform : (c : C) (m : M) → T .station (T .perform c m) ≡ T .station m
+    pub renewed : (m : M) → T .station (T .renewed m) ≡ powerUp
+    pub sample : (x : S) (m : M) → T .station (T .sample x m) ≡ T .station m
+    pub tick : (m : M) → T .station (T .tick m) ≡ T .station m
+
+  -- A frame is tested for damaged, cause 1, then malformed, cause 2, then not now, cause 3; any other is performed, cause 0. Where the cause
+  -- after it is not 0, all else in the record is as it was (01 Who is touched).
+  pub record Causes (f : Frame) (alone : Bool) (m : M) : Type 0 where
+    pub damaged : f .damaged ≡ true → execute T f alone m ≡ withCause T 1 m
+    pub malformed : f .damaged ≡ false → request T f alone ≡ malformed → execute T f alone m ≡ withCause T 2 m
+    pub notNow : (c : C) → f .damaged ≡ false → request T f alone ≡ wants c → T .can c m ≡ false → execute T f alone m ≡ withCause T 3 m
+    pub executed : (c : C)
+        → f .damaged ≡ false → request T f alone ≡ wants c → T .can c m ≡ true
+        → execute T f alone m ≡ withCause T 0 (T .perform c m)
+    pub stored : (s : Setting)
+        → f .damaged ≡ false → request T f alone ≡ set s
+        → execute T f alone m ≡ withCause T 0 (T .withStation (applied s (T .station m)) m)
+    pub renewed : f .damaged ≡ false → request T f alone ≡ reset → execute T f alone m ≡ withCause T 0 (T .renewed m)
+    pub kept : (T .station (execute T f alone m) .cause ≡ 0 → ⊥)
+        → execute T f alone m ≡ withCause T (T .station (execute T f alone m) .cause) m
+
+  abbrev pub Cause : Type 0
+  Cause = (f : Frame) (alone : Bool) (m : M) → Causes f alone m
+
+  -- The cause after a frame is 0, 1, 2 or 3.
+  abbrev pub CauseIs : Type 0
+  CauseIs = (f : Frame) (alone : Bool) (m : M) → T .station (execute T f alone m) .cause ≤ 3
+
+  -- Only Set Address, code 1, and Hard Reset, code 15, undamaged, change who a module is on the line.
+  pub record AddressKept : Type 0 where
+    pub damaged : (f : Frame) (alone : Bool) (m : M)
+        → f .damaged ≡ true
+        → T .station (execute T f alone m) .address ≡ T .station m .address
+    pub frame : (f : Frame) (alone : Bool) (m : M)
+        → (f .code ≡ 1 → ⊥)
+        → (f .code ≡ 15 → ⊥)
+        → T .station (execute T f alone m) .address ≡ T .station m .address
+    pub sampling : (x : S) (m : M) → T .station (T .sample x m) .address ≡ T .station m .address
+    pub tick : (m : M) → T .station (T .tick m) .address ≡ T .station m .address
+
+  -- Hard Reset, which has no data: the power-up record with the samples kept, and no reply.
+  pub record AfterReset (f : Frame) (alone : Bool) (m : M) : Type 0 where
+    pub whole : execute T f alone m ≡ withCause T 0 (T .renewed m)
+    pub station : T .station (execute T f alone m) ≡ powerUp
+    pub silent : reply T f (execute T f alone m) ≡ []
+
+  abbrev pub Resets : Type 0
+  Resets = (f : Frame) (alone : Bool) (m : M) → f .damaged ≡ false → f .code ≡ 15 → length (f .content) ≡ 0 → AfterReset f alone m
+
+  -- A reply, which an executed Hard Reset alone does not draw, begins with the status byte.
+  abbrev pub StatusFirst : Type 0
+  StatusFirst =
+      (f : Frame) (m : M)
+      → (eqb (f .code) 15 && eqb (T .station m .cause) 0) ≡ false
+      → getD (reply T f m) 0 0 ≡ T .status m
+
+  -- A reply is status byte, chosen items and sum, of the record as it is after the frame: Read Status, if executed, chooses for this reply
+  -- only, else the items are the defined ones; Hard Reset, if executed, draws none.
+  pub record Replies (f : Frame) (m : M) : Type 0 where
+    pub reset : f .code ≡ 15 → T .station m .cause ≡ 0 → reply T f m ≡ []
+    pub read : f .code ≡ 3
+        → T .station m .cause ≡ 0
+        → reply T f m ≡ report (T .status m) (getD (f .content) 0 0) (T .sizes) (T .numbers m)
+    pub defined : (f .code ≡ 3 → ⊥)
+        → (f .code ≡ 15 → ⊥)
+        → reply T f m ≡ report (T .status m) (T .station m .items) (T .sizes) (T .numbers m)
+    pub refused : (T .station m .cause ≡ 0 → ⊥)
+        → reply T f m ≡ report (T .status m) (T .station m .items) (T .sizes) (T .numbers m)
+
+  abbrev pub Replied : Type 0
+  Replied = (f : Frame) (m : M) → Replies f m
+
+  -- A reply has at most two bytes more than all items together.
+  abbrev pub Short : Type 0
+  Short = (f : Frame) (m : M) → length (reply T f m) ≤ total (T .sizes) + 2

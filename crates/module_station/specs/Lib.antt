@@ -1,4 +1,0 @@
-pub mod Touch
-pub mod Commands
-pub mod Report
-pub mod Slot

@@ -1,0 +1,31 @@
+-- A tick that reads and puts parts of a valid slot makes of it the slot of the servo that ticked. Assumes nothing.
+use mathlib.Core.Path.{_≡_, sym, _∙_}
+use mathlib.Core.List.{List}
+use mathlib.Core.Bool.{true}
+use Prim.Native.Nat.{ℕ, _≤_}
+use lib.ListN.{length}
+use Rattle.base_layout.specs.Bytes.{pasted, Bytes}
+use Rattle.servo_filter.specs.declared.Gains.{Gains}
+use Rattle.servo_rules.specs.declared.Sample.{Sample}
+use Rattle.servo_rules.specs.declared.Counts.{Counts}
+use Rattle.servo_rules.specs.declared.Run.{Run}
+use Rattle.servo_rules.specs.State.{positionAt}
+use Rattle.servo_rules.specs.Tick.{ran, ticked}
+use Rattle.servo_slot_rules.specs.Slot.{sample, counts, gains, run, waitingAt, latchedAt, countsAt, tuningAt, profileAt, servoSize, encodeOf, decodeOf, okOf}
+use Rattle.servo_slot_rules.specs.Parts.{tickedOver}
+use Rattle.servo_slot_rules.proofs.Over.{ticked-over}
+
+pub tick-is : (s : List ℕ) {s′ : List ℕ} {waiting latched : Sample} {k : Counts} {g : Gains} {before after : Run} {here last : ℕ}
+    → servoSize ≤ length s → Bytes s → okOf s ≡ true
+    → waiting ≡ sample .codec .dec waitingAt s
+    → latched ≡ sample .codec .dec latchedAt s
+    → k ≡ counts .codec .dec countsAt s
+    → g ≡ gains .codec .dec tuningAt s
+    → before ≡ run .codec .dec profileAt s
+    → last ≡ positionAt latched k
+    → here ≡ positionAt waiting k
+    → after ≡ ran (waiting .power) here g before
+    → s′ ≡ tickedOver waiting last after s
+    → s′ ≡ pasted 0 (encodeOf (ticked (decodeOf s))) s
+unfolding decodeOf ticked
+tick-is s h bytes ok ew el ek eg eb ea eh er p = p ∙ rw (er, eh, ea, eb, eg, ek, el, ew) (sym (ticked-over s h bytes ok))

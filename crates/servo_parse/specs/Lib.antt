@@ -1,3 +1,0 @@
-pub mod Loads
-pub mod Orders
-pub mod Promises

@@ -1,0 +1,109 @@
+-- What is promised of what a frame asks of a servo. Each is proved under its name, with small letters, in proofs/.
+use mathlib.Core.Path.{_≡_}
+use Prim.Native.Nat.{ℕ, _^_, _<_, _≤_}
+use mathlib.Core.List.{List}
+use mathlib.Core.Bool.{Bool, true, false}
+use lib.ListN.{length, getD}
+use Rattle.base_layout.specs.Bytes.{ofLe, readAt, Bytes}
+use Rattle.line_receiver.specs.Frames.{Frame}
+use Rattle.servo_motion.specs.Profile.{fastest}
+use Rattle.servo_filter.specs.declared.Gains.{Gains}
+use Rattle.servo_filter.specs.Promises.{Ranged}
+use Rattle.servo_rules.specs.declared.Carried.{Carried}
+use Rattle.servo_rules.specs.declared.Order.the-variants.{LoadTrajectory, SetGain, Stop}
+use Rattle.module_rules.specs.Rules.{malformed, wants}
+use Rattle.servo_rules.specs.Carried.{isSet, needed, carriedIn, inRange}
+use Rattle.servo_rules.specs.Asks.{loadRequest, gainsIn, tuningIn, gainsFit, gainRequest, haltOf, oneHalt, stopCount, stopRequest}
+use Rattle.servo_rules.specs.Answers.{request}
+
+-- A load is taken if its data bytes are as many as its control byte asks for and its values are in range; else it is malformed.
+pub record LoadReads (ds : List ℕ) : Type 0 where
+  pub read : length ds ≡ needed (getD ds 0 0) → inRange (carriedIn ds) ≡ true → loadRequest ds ≡ wants (LoadTrajectory (carriedIn ds))
+  pub count : (length ds ≡ needed (getD ds 0 0) → ⊥) → loadRequest ds ≡ malformed
+  pub value : inRange (carriedIn ds) ≡ false → loadRequest ds ≡ malformed
+
+abbrev pub LoadRead : Type 0
+LoadRead = (ds : List ℕ) → LoadReads ds
+
+-- The range of a load: velocity and acceleration at most the greatest, and a carried acceleration at least 1.
+abbrev pub LoadRanged : Carried → Type 0
+LoadRanged c = (c .velocity ≤ fastest) × (c .acceleration ≤ fastest) × (isSet 2 (c .control) ≡ true → 1 ≤ c .acceleration)
+
+abbrev pub LoadRange : Type 0
+LoadRange = (c : Carried) → (inRange c ≡ true → LoadRanged c) × (LoadRanged c → inRange c ≡ true)
+
+-- Set Gain is taken if it has 15 data bytes, gains in range, SR 1 and DB 0; else it is malformed.
+pub record GainReads (ds : List ℕ) : Type 0 where
+  pub read : length ds ≡ 15
+      → gainsFit (gainsIn ds) ≡ true
+      → getD ds 12 0 ≡ 1
+      → getD ds 13 0 ≡ 0
+      → gainRequest ds ≡ wants (SetGain (tuningIn ds))
+  pub count : (length ds ≡ 15 → ⊥) → gainRequest ds ≡ malformed
+  pub value : gainsFit (gainsIn ds) ≡ false → gainRequest ds ≡ malformed
+  pub rate : (getD ds 12 0 ≡ 1 → ⊥) → gainRequest ds ≡ malformed
+  pub band : (getD ds 13 0 ≡ 0 → ⊥) → gainRequest ds ≡ malformed
+
+abbrev pub GainRead : Type 0
+GainRead = (ds : List ℕ) → GainReads ds
+
+-- The gains that Set Gain takes are those that the filter is proved for.
+abbrev pub GainRange : Type 0
+GainRange = (g : Gains) → (gainsFit g ≡ true → Ranged g) × (Ranged g → gainsFit g ≡ true)
+
+-- Stop is taken if its data bytes are as many as its control byte asks for, and that has one kind of stop at most; else it is malformed.
+pub record StopReads (ds : List ℕ) : Type 0 where
+  pub read : length ds ≡ stopCount (getD ds 0 0)
+      → oneHalt (getD ds 0 0) ≡ true
+      → stopRequest ds ≡ wants (Stop (isSet 0 (getD ds 0 0)) (haltOf (getD ds 0 0)) (ofLe (readAt 4 1 ds)))
+  pub count : (length ds ≡ stopCount (getD ds 0 0) → ⊥) → stopRequest ds ≡ malformed
+  pub value : oneHalt (getD ds 0 0) ≡ false → stopRequest ds ≡ malformed
+
+abbrev pub StopRead : Type 0
+StopRead = (ds : List ℕ) → StopReads ds
+
+-- A control byte that Stop takes has none of bits 5 to 7, and of bits 1 to 4 no two.
+pub record OneKind (control : ℕ) : Type 0 where
+  pub small : control < 32
+  pub single : (j k : ℕ) → 1 ≤ j → j < k → k ≤ 4 → isSet j control ≡ true → isSet k control ≡ false
+
+abbrev pub OneHalt : Type 0
+OneHalt = (control : ℕ) → oneHalt control ≡ true → OneKind control
+
+-- A frame with any other code than the twelve is malformed.
+abbrev pub Unknown : Type 0
+Unknown =
+    (f : Frame) (alone : Bool)
+    → (f .code ≡ 0 → ⊥)
+    → (f .code ≡ 1 → ⊥)
+    → (f .code ≡ 2 → ⊥)
+    → (f .code ≡ 3 → ⊥)
+    → (f .code ≡ 4 → ⊥)
+    → (f .code ≡ 5 → ⊥)
+    → (f .code ≡ 6 → ⊥)
+    → (f .code ≡ 7 → ⊥)
+    → (f .code ≡ 10 → ⊥)
+    → (f .code ≡ 11 → ⊥)
+    → (f .code ≡ 14 → ⊥)
+    → (f .code ≡ 15 → ⊥)
+    → request f alone ≡ malformed
+
+-- What is read from bytes fits into the bytes that hold it.
+pub record Fits (ds : List ℕ) : Type 0 where
+  pub control : carriedIn ds .control < 256
+  pub place : carriedIn ds .place < 2 ^ 32
+  pub velocity : carriedIn ds .velocity < 2 ^ 32
+  pub acceleration : carriedIn ds .acceleration < 2 ^ 32
+  pub pulse : carriedIn ds .pulse < 256
+  pub kp : gainsIn ds .kp < 65536
+  pub kd : gainsIn ds .kd < 65536
+  pub ki : gainsIn ds .ki < 65536
+  pub il : gainsIn ds .il < 65536
+  pub ol : gainsIn ds .ol < 256
+  pub el : gainsIn ds .el < 65536
+  pub cl : tuningIn ds .cl < 256
+  pub sm : tuningIn ds .sm < 256
+  pub halt : ofLe (readAt 4 1 ds) < 2 ^ 32
+
+abbrev pub Fit : Type 0
+Fit = (ds : List ℕ) → Bytes ds → Fits ds

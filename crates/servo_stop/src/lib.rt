@@ -1,0 +1,130 @@
+// Stops of a servo and Reset Position, by value.
+ghost use mathlib.Core.Path.{_≡_};
+ghost use mathlib.Core.Bool.{cond};
+ghost use Rattle.servo_motion.specs.Profile.{Ranged};
+ghost use Rattle.servo_rules.specs.State.{dropped};
+ghost use Rattle.servo_rules.specs.Perform.{shifted, resetPosition, holding, smooth, haltedBy, drops, stopped, canHalt};
+use servo_motion::Profile;
+use servo_rules::Counts;
+use servo_rules::Halt;
+use servo_rules::Mode;
+use servo_rules::Run;
+use servo_rules::Servo;
+use servo_rules::Settings;
+
+// Setpoint and goal relative to a position.
+fn shifted(mut p: Profile, x: u32) -> Profile
+    requires { ⌜ Ranged p ⌝ }
+    ensures { λ r. ⌜ r ≡ shifted x p ⌝ }
+{
+    let back = 0x1_0000_0000_0000 - servo_run::setpoint_at(x);
+    let setpoint = (p.setpoint + back) % 0x1_0000_0000_0000;
+    let goal = base_integers::less(p.goal, x);
+    p.setpoint = setpoint;
+    p.goal = goal;
+    p
+}
+
+// Everything that is a position becomes relative to here.
+pub fn position_reset(mut m: Servo) -> Servo
+    requires { ⌜ Ranged (m .run .profile) ⌝ }
+    ensures { λ r. ⌜ r ≡ resetPosition m ⌝ }
+{
+    let here = servo_run::position(m.samples.latched, m.counts);
+    let counts = Counts {
+        offset: m.samples.latched.raw,
+        last: base_integers::less(m.counts.last, here),
+    };
+    let s = m.settings;
+    let r = m.run;
+    let p = r.profile;
+    m.counts = counts;
+    m.settings = servo_run::dropped(s);
+    m.run = servo_run::with_profile(r, shifted(p, here));
+    m
+}
+
+// Holds a position; the output stays until the tick.
+fn holding(r: Run, x: u32) -> Run
+    ensures { λ q. ⌜ q ≡ holding x r ⌝ }
+{
+    let p = r.profile;
+    let d = r.drive;
+    Run {
+        profile: servo_run::resting(p, servo_run::setpoint_at(x)),
+        memory: servo_run::blank(),
+        drive: servo_run::servoing(d, Mode::Hold),
+    }
+}
+
+// Down to speed 0 with the running acceleration; PWM goes off, off stays off.
+fn smooth(r: Run) -> Run
+    ensures { λ q. ⌜ q ≡ smooth r ⌝ }
+{
+    let p = r.profile;
+    let d = r.drive;
+    let mode = d.mode;
+    if servo_run::is_servo_off(mode) {
+        return servo_run::off(r);
+    }
+    servo_run::to_speed(r, p.setpoint, 0, p.acceleration)
+}
+
+// What a stop at a position makes of what runs; x is the given position.
+fn halted_by(halt: Halt, here: u32, x: u32, r: Run) -> Run
+    ensures { λ q. ⌜ q ≡ haltedBy halt here x r ⌝ }
+{
+    match halt {
+        Halt::Keep => r,
+        Halt::Release => servo_run::off(r),
+        Halt::Abrupt => holding(r, here),
+        Halt::Smooth => smooth(r),
+        Halt::Here => holding(r, x),
+    }
+}
+
+// Any of bits 1 to 4 drops a waiting load.
+fn is_dropping(halt: Halt) -> bool
+    ensures { λ r. ⌜ r ≡ drops halt ⌝ }
+{
+    match halt {
+        Halt::Keep => false,
+        Halt::Release => true,
+        Halt::Abrupt => true,
+        Halt::Smooth => true,
+        Halt::Here => true,
+    }
+}
+
+fn dropped_by(halt: Halt, s: Settings) -> Settings
+    ensures { λ r. ⌜ r ≡ cond (drops halt) (dropped s) s ⌝ }
+{
+    if is_dropping(halt) {
+        return servo_run::dropped(s);
+    }
+    s
+}
+
+pub fn stopped(mut m: Servo, amplifier: bool, halt: Halt, x: u32) -> Servo
+    ensures { λ r. ⌜ r ≡ stopped amplifier halt x m ⌝ }
+{
+    let here = servo_run::position(m.samples.latched, m.counts);
+    let s = m.settings;
+    let r = m.run;
+    m.settings = dropped_by(halt, s);
+    m.run = servo_run::amplified(halted_by(halt, here, x, r), amplifier);
+    m
+}
+
+// Abrupt and Stop Here need good power and a clear error bit.
+pub fn can_halt(m: Servo, halt: Halt) -> bool
+    ensures { λ r. ⌜ r ≡ canHalt halt m ⌝ }
+{
+    match halt {
+        Halt::Keep => true,
+        Halt::Release => true,
+        Halt::Abrupt => servo_run::is_ready(m.samples.latched.power, m.run.drive),
+        Halt::Smooth => true,
+        Halt::Here => servo_run::is_ready(m.samples.latched.power, m.run.drive),
+    }
+}

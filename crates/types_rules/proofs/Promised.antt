@@ -1,0 +1,47 @@
+-- The types' numbers, and what every type keeps. Assumes nothing.
+use mathlib.Core.Path.{_≡_, refl}
+use mathlib.Core.Bool.{Bool, true, false, _||_, false≢true}
+use mathlib.Core.Logic.{_⊎_, inl, inr}
+use Prim.Native.Nat.{ℕ}
+use borrow.Author.Tests.{eqb-true, eq-eqb}
+use lib.Dec.{eqb}
+use Rattle.module_rules.proofs.Settled as Settled
+use Rattle.module_rules.proofs.Replies as Replies
+use Rattle.module_rules.proofs.Kept.{reply-most}
+use Rattle.types_rules.specs.Table.{ModuleType, servo, inout, rulesOf, slotsOf, GoodOf}
+use Rattle.types_rules.specs.Types.{known}
+use Rattle.types_rules.specs.Promises.{ThereIs, Numbers, EveryType}
+use Rattle.types_rules.proofs.Owed.{owes}
+
+pub numbers : Numbers
+numbers n = (λ e. there (eqb n 0) (eqb n 2) refl refl e, back)
+  where
+    there : (a b : Bool) → eqb n 0 ≡ a → eqb n 2 ≡ b → (a || b) ≡ true → ThereIs n
+    there true b p q e = inl (eqb-true n 0 p)
+    there false true p q e = inr (eqb-true n 2 q)
+    there false false p q e = absurd (false≢true e)
+
+    back : ThereIs n → known n ≡ true
+    back (inl e) = rw e refl
+    back (inr e) = rw e refl
+
+-- every type of the table is there
+pub there-is : (t : ModuleType) → ThereIs (rulesOf t .number)
+there-is servo = inl refl
+there-is inout = inr refl
+
+pub every-type : EveryType
+every-type t =
+    let a = owes t .apart in
+    record {
+      cause = Settled.cause (rulesOf t) a;
+      causeIs = Settled.cause-is (rulesOf t) a;
+      address = Settled.address-kept (rulesOf t) a;
+      resets = Replies.resets (rulesOf t) a;
+      statusFirst = Replies.status-first (rulesOf t);
+      replied = Replies.replied (rulesOf t);
+      short = Replies.short (rulesOf t);
+      most = reply-most (rulesOf t) (slotsOf t) (GoodOf t) (owes t);
+      eight = λ m h. owes t .outputs m h .0;
+      spelled = owes t .numbers;
+    }

@@ -1,0 +1,408 @@
+/*
+ * How much stack a board needs: every exported call runs on a stack of its own that is painted
+ * before, over captures of the line, long chains in motion, frames of every code, and refusals. It
+ * prints a line for each call: its name and the bytes from where its caller's stack ends to the
+ * deepest byte that any such call has touched, on x86-64.
+ *
+ *     board_needs CAPTURE...
+ */
+#define _DEFAULT_SOURCE
+#include "doljurven.h"
+
+#include <stdio.h>
+#include <stdlib.h>
+#include <string.h>
+#include <ucontext.h>
+
+/* ---------------------------------------------------------------- a stack for each call */
+
+enum call { SETUP, BYTE, SERVO_SAMPLE, IO_SAMPLE, TICK, OUTPUTS, WRITE_FRAME, READ_STATUS, CALLS };
+
+static const char *const names[CALLS] = {
+    "nmc_setup", "nmc_byte",    "nmc_servo_sample", "nmc_io_sample",
+    "nmc_tick",  "nmc_outputs", "nmc_write_frame",  "nmc_read_status",
+};
+
+/* The numbers that a call may give, as bits. */
+#define BIT(number) (1u << (number))
+static const uint32_t documented[CALLS] = {
+    [SETUP] = BIT(NMC_DONE) | BIT(NMC_BAD_CHAIN) | BIT(NMC_BAD_TYPE) | BIT(NMC_BAD_RECORD),
+    [BYTE] = BIT(NMC_DONE) | BIT(NMC_FRAME) | BIT(NMC_DAMAGED) | BIT(NMC_BAD_FIELD) |
+             BIT(NMC_SHORT_ROOM) | BIT(NMC_BAD_RECORD),
+    [SERVO_SAMPLE] =
+        BIT(NMC_DONE) | BIT(NMC_BAD_PLACE) | BIT(NMC_BAD_FIELD) | BIT(NMC_BAD_RECORD),
+    [IO_SAMPLE] = BIT(NMC_DONE) | BIT(NMC_BAD_PLACE) | BIT(NMC_BAD_FIELD) | BIT(NMC_BAD_RECORD),
+    [TICK] = BIT(NMC_DONE) | BIT(NMC_BAD_RECORD),
+    [OUTPUTS] = BIT(NMC_DONE) | BIT(NMC_BAD_PLACE) | BIT(NMC_BAD_RECORD),
+    [WRITE_FRAME] = BIT(NMC_DONE) | BIT(NMC_BAD_FRAME) | BIT(NMC_SHORT_ROOM),
+    [READ_STATUS] = BIT(NMC_DONE) | BIT(NMC_BAD_TYPE) | BIT(NMC_BAD_LENGTH) | BIT(NMC_BAD_SUM),
+};
+
+enum { STACK = 65536, PAINT = 0xA5 };
+
+static _Alignas(64) uint8_t stacks[CALLS][STACK];
+static const uint8_t *callers_end[CALLS];
+static uint32_t given[CALLS]; /* the numbers that came, as bits */
+
+/* What the next call is lent and told. */
+static uint8_t net[NMC_NET_LEN + 1], room[NMC_ROOM_LEN], types[NMC_MOST_MODULES + 1], data[16];
+static uint8_t outputs[NMC_OUTPUTS_LEN], frame[NMC_FRAME_LEN], reply[NMC_REPLY_LEN + 1];
+static uint8_t reading[NMC_READING_LEN], line_byte, items;
+static size_t net_len, room_len, chain, data_len, frame_room, reply_len, written;
+static uint32_t mark, place, power, inputs, count, address, code, type, number;
+
+static enum call wanted;
+
+/* Where the caller's stack ends: above the return address and the kept frame pointer. */
+static __attribute__((noinline)) const uint8_t *stack_end(void)
+{
+    return (const uint8_t *)__builtin_frame_address(0) + 16;
+}
+
+static void inside(void)
+{
+    callers_end[wanted] = stack_end();
+    switch (wanted) {
+    case SETUP:
+        number = nmc_setup(net, net_len, types, chain);
+        break;
+    case BYTE:
+        number = nmc_byte(net, net_len, mark, line_byte, room, room_len, &written);
+        break;
+    case SERVO_SAMPLE:
+        number = nmc_servo_sample(net, net_len, place, count, power, data[0]);
+        break;
+    case IO_SAMPLE:
+        number = nmc_io_sample(net, net_len, place, inputs, data[0], data[1], data[2], count);
+        break;
+    case TICK:
+        number = nmc_tick(net, net_len);
+        break;
+    case OUTPUTS:
+        number = nmc_outputs(net, net_len, place, outputs);
+        break;
+    case WRITE_FRAME:
+        number = nmc_write_frame(address, code, data, data_len, frame, frame_room, &written);
+        break;
+    default:
+        number = nmc_read_status(type, items, reply, reply_len, reading);
+    }
+}
+
+static uint32_t run(enum call call)
+{
+    static ucontext_t here, there;
+    wanted = call;
+    if (getcontext(&there) != 0)
+        abort();
+    there.uc_stack.ss_sp = stacks[call];
+    there.uc_stack.ss_size = STACK;
+    there.uc_link = &here;
+    makecontext(&there, inside, 0);
+    if (swapcontext(&here, &there) != 0)
+        abort();
+    if (number > 31 || (documented[call] & BIT(number)) == 0) {
+        fprintf(stderr, "%s gave %lu\n", names[call], (unsigned long)number);
+        exit(1);
+    }
+    given[call] |= BIT(number);
+    return number;
+}
+
+/* ---------------------------------------------------------------- dice */
+
+static uint32_t below(uint32_t end)
+{
+    static uint64_t state = 0x00D017C3;
+    state = state * 6364136223846793005u + 1442695040888963407u;
+    return (uint32_t)(state >> 33) % end;
+}
+
+static void any_bytes(uint8_t *bytes, size_t len)
+{
+    for (size_t i = 0; i < len; i++)
+        bytes[i] = (uint8_t)below(256);
+}
+
+/* ---------------------------------------------------------------- calls as a board makes them */
+
+static uint32_t set_up(void)
+{
+    net_len = NMC_NET_LEN;
+    room_len = NMC_ROOM_LEN;
+    return run(SETUP);
+}
+
+static uint32_t take_byte(uint32_t with_mark, uint8_t byte)
+{
+    mark = with_mark;
+    line_byte = byte;
+    return run(BYTE);
+}
+
+/* A frame of the data bytes that stand ready; a mark is at one of its bytes, or past its end. */
+static void send(uint32_t to, uint32_t with_code, size_t len, size_t marked_at)
+{
+    address = to;
+    code = with_code;
+    data_len = len;
+    frame_room = sizeof frame;
+    run(WRITE_FRAME);
+    size_t bytes = written;
+    for (size_t i = 0; i < bytes; i++)
+        take_byte(i == marked_at, frame[i]);
+}
+
+enum { NO_MARK = NMC_FRAME_LEN, GROUP = 0xFF };
+
+#define SEND(to, with_code, ...)                                  \
+    do {                                                          \
+        const uint8_t bytes_[] = {__VA_ARGS__};                   \
+        memcpy(data, bytes_, sizeof bytes_);                      \
+        send(to, with_code, sizeof bytes_, NO_MARK);              \
+    } while (0)
+
+static void outputs_of_all(void)
+{
+    for (place = 0; place < chain; place++)
+        run(OUTPUTS);
+}
+
+/* ---------------------------------------------------------------- captures */
+
+enum { MODULE, LINE_BYTE, OF_SERVO, OF_IO, ONE_TICK, KINDS };
+
+static const uint8_t body_len[KINDS] = {1, 2, 7, 10, 0};
+
+static uint32_t number_at(const uint8_t *at, int bytes)
+{
+    uint32_t x = 0;
+    while (bytes-- > 0)
+        x = x << 8 | at[bytes];
+    return x;
+}
+
+static void take_record(int kind, const uint8_t *b)
+{
+    place = b[0];
+    switch (kind) {
+    case LINE_BYTE:
+        take_byte(b[0], b[1]);
+        break;
+    case OF_SERVO:
+        power = b[1];
+        data[0] = b[2];
+        count = number_at(b + 3, 4);
+        run(SERVO_SAMPLE);
+        break;
+    case OF_IO:
+        inputs = number_at(b + 1, 2);
+        memcpy(data, b + 3, 3);
+        count = number_at(b + 6, 4);
+        run(IO_SAMPLE);
+        break;
+    default:
+        run(TICK);
+        outputs_of_all();
+    }
+}
+
+static void replay(const char *path)
+{
+    int running = 0;
+    FILE *capture = fopen(path, "rb");
+    if (!capture) {
+        perror(path);
+        exit(1);
+    }
+    chain = 0;
+    for (int kind; (kind = getc(capture)) != EOF && kind < KINDS;) {
+        uint8_t body[10];
+        if (fread(body, 1, body_len[kind], capture) != body_len[kind])
+            break;
+        if (kind == MODULE) {
+            if (running || chain == sizeof types)
+                break;
+            types[chain++] = body[0];
+            continue;
+        }
+        if (!running && set_up() != NMC_DONE)
+            break;
+        running = 1;
+        take_record(kind, body);
+    }
+    fclose(capture);
+}
+
+/* ---------------------------------------------------------------- long chains */
+
+/* A full chain of servos, of I/O modules, or of both, addressed 1 to 32, all of one group. */
+static void address_all(uint8_t even, uint8_t odd)
+{
+    chain = NMC_MOST_MODULES;
+    for (size_t i = 0; i < chain; i++)
+        types[i] = i % 2 ? odd : even;
+    set_up();
+    for (size_t i = 0; i < chain; i++)
+        SEND(0, 1, (uint8_t)(i + 1), GROUP);
+    SEND(GROUP, 2, 0xFF); /* every item in every reply */
+}
+
+static void sample_all(uint32_t with_power)
+{
+    enum { FIRST_SLOT = 20, SLOT = 128, WHOLE_SETPOINT = 63 }; /* docs/RECORD.md */
+    for (place = 0; place < chain; place++) {
+        /* a motor that is where it should be */
+        count = number_at(net + FIRST_SLOT + SLOT * place + WHOLE_SETPOINT, 4);
+        power = with_power;
+        inputs = below(4096);
+        any_bytes(data, 3);
+        run(types[place] == NMC_TYPE_SERVO ? SERVO_SAMPLE : IO_SAMPLE);
+    }
+}
+
+static void ticks(int how_many)
+{
+    while (how_many-- > 0) {
+        sample_all(1);
+        run(TICK);
+        outputs_of_all();
+    }
+}
+
+/* Power, gains, the motors on, and a trapezoid for each: some forward, some back, slow and fast. */
+static void start_all(void)
+{
+    ticks(2);
+    SEND(GROUP, 6, 100, 0, 100, 0, 10, 0, 255, 0, 255, 0, 0xFF, 0x3F, 1, 0, 1);
+    SEND(GROUP, 7, 0x05);
+    for (uint8_t i = 0; i < chain; i++) {
+        uint8_t back = i % 2 ? 0xFF : 0;
+        uint8_t whole = i % 7;
+        SEND(i + 1u, 4, 0x97, i, 8 * i % 256, back, back, 0, i, whole, 0, i, 1, 0, 0);
+        SEND(i + 1u, 3, 0xFF);
+    }
+}
+
+/* Every code with every number of data bytes to all of a chain, from where it stands. */
+static void every_frame(void)
+{
+    static const uint8_t first[] = {0x00, 0xFF, 0x97, 0x36, 0xB6, 0xC8, 0x11, 0x05};
+    static uint8_t before[NMC_NET_LEN];
+    memcpy(before, net, sizeof before);
+    for (uint32_t c = 0; c < 16; c++)
+        for (size_t len = 0; len < 16; len++)
+            for (size_t round = 0; round < 2 * sizeof first; round++) {
+                memcpy(net, before, sizeof before);
+                any_bytes(data, sizeof data);
+                data[0] = first[round % sizeof first];
+                if (round >= sizeof first)
+                    memset(data + 3, 0, sizeof data - 3); /* small numbers, which are taken */
+                send(below(4) ? GROUP : 1 + below(32), c, len, below(8) ? NO_MARK : below(19));
+                ticks(1);
+            }
+    memcpy(net, before, sizeof before);
+}
+
+static void long_chains(void)
+{
+    address_all(NMC_TYPE_IO, NMC_TYPE_IO);
+    every_frame();
+    address_all(NMC_TYPE_SERVO, NMC_TYPE_IO);
+    start_all();
+    every_frame();
+    address_all(NMC_TYPE_SERVO, NMC_TYPE_SERVO);
+    every_frame();
+    start_all();
+    ticks(20);
+    every_frame();
+    ticks(2000);
+    for (power = 0; power < 3; power++) { /* it fails, comes back, is too high */
+        sample_all(power);
+        run(TICK);
+    }
+}
+
+/* ---------------------------------------------------------------- refusals, writer, reader */
+
+static void refused_calls(void)
+{
+    address_all(NMC_TYPE_SERVO, NMC_TYPE_IO);
+    take_byte(2, 0);
+    room_len--;
+    take_byte(0, 0);
+    room_len++;
+    for (place = 0; place < 34; place++) {
+        power = 1 + place % 3;
+        inputs = place % 3 ? 0 : 4096;
+        run(SERVO_SAMPLE);
+        run(IO_SAMPLE);
+        run(OUTPUTS);
+    }
+    for (int spoiled = 0; spoiled < 4; spoiled++) {
+        static const size_t lengths[] = {0, NMC_NET_LEN - 1, NMC_NET_LEN + 1, NMC_NET_LEN};
+        net_len = lengths[spoiled];
+        net[19] = 33; /* no such chain */
+        for (enum call call = BYTE; call <= OUTPUTS; call++)
+            run(call);
+        run(SETUP);
+    }
+    for (chain = 0; chain <= NMC_MOST_MODULES + 1; chain++) {
+        memset(types, NMC_TYPE_SERVO, sizeof types);
+        set_up();
+        types[chain / 2] = 1;
+        set_up();
+    }
+}
+
+static void writer(void)
+{
+    for (address = 0; address <= 256; address += 16)
+        for (code = 0; code <= 16; code++)
+            for (data_len = 0; data_len <= sizeof data; data_len++)
+                for (frame_room = 0; frame_room <= sizeof frame; frame_room++)
+                    run(WRITE_FRAME);
+}
+
+static void reader(void)
+{
+    for (type = 0; type < 4; type++)
+        for (uint32_t which = 0; which < 256; which++)
+            for (reply_len = 0; reply_len <= sizeof reply; reply_len++) {
+                items = (uint8_t)which;
+                any_bytes(reply, sizeof reply);
+                run(READ_STATUS);
+                memset(reply, 0, sizeof reply); /* whose sum is right */
+                run(READ_STATUS);
+            }
+}
+
+/* ---------------------------------------------------------------- what was found */
+
+static int tell(enum call call)
+{
+    size_t untouched = 0;
+    while (untouched < STACK && stacks[call][untouched] == PAINT)
+        untouched++;
+    printf("%s %ld\n", names[call], (long)(callers_end[call] - (stacks[call] + untouched)));
+    if (untouched == 0)
+        fprintf(stderr, "%s has used up its stack\n", names[call]);
+    if (given[call] != documented[call]) /* a number that never came was not tried */
+        fprintf(stderr, "%s never gave one of its numbers\n", names[call]);
+    return untouched > 0 && given[call] == documented[call];
+}
+
+int main(int argc, char **argv)
+{
+    int good = argc > 1;
+    memset(stacks, PAINT, sizeof stacks);
+    for (int i = 1; i < argc; i++)
+        replay(argv[i]);
+    long_chains();
+    refused_calls();
+    writer();
+    reader();
+    for (enum call call = SETUP; call < CALLS; call++)
+        good &= tell(call);
+    return !good;
+}
