@@ -7,10 +7,11 @@ ghost use Rattle.base_layout.specs.Bytes.{pasted};
 ghost use Rattle.module_rules.specs.Touch.{frameOf};
 ghost use Rattle.module_rules.specs.Kind.{executed, replied};
 ghost use Rattle.module_rules.specs.Rules.{wants, settled, kindOf};
+ghost use Rattle.module_rules.specs.Slots.{slotSize};
 ghost use Rattle.module_rules.specs.Owes.{replySize};
 ghost use Rattle.inout_rules.specs.State.{sampled, ticked};
 ghost use Rattle.inout_rules.specs.Answers.{outputsOf, inout, execute};
-ghost use Rattle.inout_slot_rules.specs.Slot.{ioSize, encodeOf, decodeOf, okOf};
+ghost use Rattle.inout_slot_rules.specs.Slot.{encodeOf, decodeOf, okOf};
 use inout_rules::Command;
 use inout_rules::Request;
 use inout_rules::Sample;
@@ -18,7 +19,7 @@ use module_rules::Head;
 
 // An own command: the module is told from the slot, and put there with the cause 0.
 fn perform(s: &mut [u8], c: Command)
-    requires { ⌜ ioSize ≤ length (now s) ⌝ }
+    requires { ⌜ (length (now s) ≡ slotSize) × (okOf (now s) ≡ true) ⌝ }
     ensures { λ _. ⌜ now (s .exit) ≡ pasted 0 (encodeOf (settled inout (wants c) (decodeOf (now (s .entry))))) (now (s .entry)) ⌝ }
 {
     let before = inout_slot::decode(s);
@@ -29,7 +30,7 @@ fn perform(s: &mut [u8], c: Command)
 
 // A frame that touches the module: of a damaged or malformed one, and of a command of every type, the station alone is put.
 fn settle(s: &mut [u8], f: Head, alone: bool, ds: &[u8])
-    requires { ⌜ (ioSize ≤ length (now s)) × (okOf (now s) ≡ true) ⌝ }
+    requires { ⌜ (length (now s) ≡ slotSize) × (okOf (now s) ≡ true) ⌝ }
     ensures { λ _. ⌜ now (s .exit) ≡ pasted 0 (encodeOf (execute (frameOf f (now (ds .entry))) alone (decodeOf (now (s .entry))))) (now (s .entry)) ⌝ }
 {
     let station = module_station::station_in(s);
@@ -58,7 +59,7 @@ fn settle(s: &mut [u8], f: Head, alone: bool, ds: &[u8])
 
 // A frame that touches the module in a slot: the module after it, and its reply in the room from place from on; how many bytes that has.
 pub fn touch(s: &mut [u8], f: Head, ds: &[u8], room: &mut [u8], from: usize) -> usize
-    requires { ⌜ (ioSize ≤ length (now s)) × (okOf (now s) ≡ true) × (from + replySize ≤ length (now room)) ⌝ }
+    requires { ⌜ (length (now s) ≡ slotSize) × (okOf (now s) ≡ true) × (from + replySize ≤ length (now room)) ⌝ }
     ensures { λ r. ⌜ r ≡ length (replied (kindOf inout) (frameOf f (now (ds .entry))) (decodeOf (now (s .entry)))) ⌝ }
     ensures { λ _. ⌜ now (s .exit) ≡ pasted 0 (encodeOf (executed (kindOf inout) (frameOf f (now (ds .entry))) (decodeOf (now (s .entry))))) (now (s .entry)) ⌝ }
     ensures { λ _. ⌜ now (room .exit) ≡ pasted from (replied (kindOf inout) (frameOf f (now (ds .entry))) (decodeOf (now (s .entry)))) (now (room .entry)) ⌝ }
@@ -79,7 +80,7 @@ pub fn touch(s: &mut [u8], f: Head, ds: &[u8], room: &mut [u8], from: usize) -> 
 
 // The module in a slot, after a tick: the waiting sample is latched.
 pub fn tick(s: &mut [u8])
-    requires { ⌜ (ioSize ≤ length (now s)) × (okOf (now s) ≡ true) ⌝ }
+    requires { ⌜ (length (now s) ≡ slotSize) × (okOf (now s) ≡ true) ⌝ }
     ensures { λ _. ⌜ now (s .exit) ≡ pasted 0 (encodeOf (ticked (decodeOf (now (s .entry))))) (now (s .entry)) ⌝ }
 {
     let x = inout_slot::waiting_in(s);
@@ -88,7 +89,7 @@ pub fn tick(s: &mut [u8])
 
 // The module in a slot, with a sample waiting.
 pub fn put_sample(s: &mut [u8], x: Sample)
-    requires { ⌜ (ioSize ≤ length (now s)) × (okOf (now s) ≡ true) ⌝ }
+    requires { ⌜ (length (now s) ≡ slotSize) × (okOf (now s) ≡ true) ⌝ }
     ensures { λ _. ⌜ now (s .exit) ≡ pasted 0 (encodeOf (sampled x (decodeOf (now (s .entry))))) (now (s .entry)) ⌝ }
 {
     inout_slot::put_sample(s, x);
@@ -96,7 +97,7 @@ pub fn put_sample(s: &mut [u8], x: Sample)
 
 // What the board drives for the module in a slot, in eight bytes.
 pub fn outputs(s: &[u8]) -> [u8; 8]
-    requires { ⌜ ioSize ≤ length (now s) ⌝ }
+    requires { ⌜ length (now s) ≡ slotSize ⌝ }
     ensures { λ r. ⌜ r ≡ outputsOf (decodeOf (now (s .entry))) ⌝ }
 {
     let m = inout_slot::decode(s);

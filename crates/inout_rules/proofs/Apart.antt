@@ -21,6 +21,7 @@ performs SynchInput m = refl
 pub apart : Apart inout
 apart = record {
   put = λ s m. refl;
+  again = λ s t m. refl;
   own = λ code ds.
       own-asks Own code ds (record {
         malformed = tt;

@@ -1,32 +1,24 @@
 -- What is put into a valid slot in parts is as good as the whole module put there, where the other parts stand already. Assumes nothing.
-use mathlib.Core.Path.{_≡_, refl, sym, ap, _∙_}
+use mathlib.Core.Path.{_≡_, refl}
 use mathlib.Core.List.{List, _++_}
 use mathlib.Core.Bool.{true}
 use Prim.Native.Nat.{ℕ, _≤_}
-use lib.ListN.{length, drop, take-append-drop}
+use lib.ListN.{length}
 use Rattle.base_layout.specs.Bytes.{pasted, Bytes}
-use Rattle.base_layout.proofs.Codec.{head-there}
 use Rattle.module_rules.specs.declared.Station.{Station}
 use Rattle.module_rules.specs.Slot.{station}
 use Rattle.module_rules.specs.Slots.{stationAt}
+use Rattle.module_rules.proofs.Slotting as Slotting
 use Rattle.inout_rules.specs.declared.Sample.{Sample}
 use Rattle.inout_rules.specs.declared.Io.{Io}
 use Rattle.inout_rules.specs.State.{withStation, sampled, ticked}
 use Rattle.inout_slot_rules.specs.Slot.{sample, slot, waitingAt, latchedAt, ioSize, encodeOf, decodeOf, okOf}
 
 module _ (s : List ℕ) (h : ioSize ≤ length s) (bytes : Bytes s) (ok : okOf s ≡ true) where
-  whole : s ≡ encodeOf (decodeOf s) ++ drop ioSize s
-  unfolding encodeOf decodeOf okOf
-  whole = sym (take-append-drop ioSize s) ∙ ap (λ (l : List ℕ). l ++ drop ioSize s) (sym (head-there (slot .lawful) s h bytes ok))
-
-  -- a way to put what makes the module n of the one that stands there
   put-over : (n : Io) (put : List ℕ → List ℕ) → ((t : List ℕ) → put (encodeOf (decodeOf s) ++ t) ≡ encodeOf n ++ t)
       → pasted 0 (encodeOf n) s ≡ put s
-  unfolding encodeOf
-  put-over n put e =
-      let t : List ℕ = drop ioSize s in
-      let over : pasted 0 (encodeOf n) (encodeOf (decodeOf s) ++ t) ≡ encodeOf n ++ t = refl in
-      ap (pasted 0 (encodeOf n)) whole ∙ over ∙ sym (e t) ∙ ap put (sym whole)
+  unfolding encodeOf decodeOf okOf
+  put-over = Slotting.put-over slot s h bytes ok
 
   pub station-over : (x : Station) → pasted 0 (encodeOf (withStation x (decodeOf s))) s ≡ pasted stationAt (station .codec .enc x) s
   unfolding encodeOf

@@ -18,6 +18,7 @@ use Rattle.inout_rules.specs.declared.Io.{Io}
 use Rattle.inout_rules.specs.Answers.{typeNumber, inout}
 use Rattle.inout_rules.proofs.Apart.{apart}
 use Rattle.inout_slot_rules.specs.Slot.{sample, slot, encodeOf, decodeOf, okOf, slots}
+use Rattle.inout_slot_rules.proofs.Over.{station-over}
 use Rattle.inout_slot_rules.proofs.Replaced.{station-fits, samples-fit, fresh-fits, none-fits, own-safe, status-fits, numbers-fit, outputs-fit}
 
 lawful : Lawful slots
@@ -43,6 +44,7 @@ owes = record {
   begins = begins;
   typed = typed;
   stationed = stationed;
+  alone = λ x s l b v. station-over s (omega (arith, l)) b v x;
   power = fresh-fits _ (none-fits, none-fits);
   held = λ m t. t .1 .0;
   withStation = λ s m h t. station-fits m t s h;

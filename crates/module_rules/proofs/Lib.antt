@@ -7,3 +7,4 @@ pub mod Slotting
 pub mod Settled
 pub mod Replies
 pub mod Kept
+pub mod Touching

@@ -58,6 +58,11 @@ module _ {M S C : Type 0} (T : Rules M S C) where
   abbrev after : Bool → Request C → M → M
   after d q m = cond d (withCause T 1 m) (settled T q m)
 
+  -- a frame that is not damaged is settled by what it asks
+  pub settles : (f : Frame) (alone : Bool) (m : M) {q : Request C} → f .damaged ≡ false → request T f alone ≡ q → execute T f alone m ≡ settled T q m
+  unfolding execute
+  settles f alone m e g = ap₂ (λ (d : Bool) (q : Request C). after d q m) e g
+
   module _ (a : Apart T) where
     causes : (c : ℕ) (m : M) → T .station (withCause T c m) .cause ≡ c
     causes c m = ap (λ (s : Station). s .cause) (a .put (caused c (T .station m)) m)

@@ -9,7 +9,7 @@ use Rattle.line_receiver.specs.Receive.{total}
 use Rattle.module_rules.specs.declared.Station.{Station}
 use Rattle.module_rules.specs.Report.{Fit}
 use Rattle.module_rules.specs.Slot.{station}
-use Rattle.module_rules.specs.Slots.{Slots, Lawful, stationAt}
+use Rattle.module_rules.specs.Slots.{Slots, Lawful, slotSize, stationAt}
 use Rattle.module_rules.specs.Rules.{Request, malformed, set, reset, wants, Rules}
 use Rattle.module_rules.specs.Promises.{Apart}
 
@@ -38,6 +38,9 @@ module _ {M S C : Type 0} (T : Rules M S C) (L : Slots M) (Good : S → Type 0) 
     pub begins : (m : M) (s : List ℕ) → getD (pasted 0 (L .enc m) s) 0 0 ≡ T .number
     pub typed : (s : List ℕ) → L .ok s ≡ true → getD s 0 0 ≡ T .number
     pub stationed : (s : List ℕ) → T .station (L .dec s) ≡ station .codec .dec stationAt s
+    -- a station put alone into a valid slot is as good as the module with that station put there
+    pub alone : (x : Station) (s : List ℕ) → length s ≡ slotSize → Bytes s → L .ok s ≡ true
+        → pasted 0 (L .enc (T .withStation x (L .dec s))) s ≡ pasted stationAt (station .codec .enc x) s
     -- what a slot can hold is never left
     pub power : L .fits (T .started)
     pub held : (m : M) → L .fits m → station .codec .fits (T .station m)

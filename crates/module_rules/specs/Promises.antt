@@ -26,6 +26,7 @@ module _ {M S C : Type 0} (T : Rules M S C) where
   -- tick changes it; a code of the type's own asks for none of the commands of every type.
   pub record Apart : Type 0 where
     pub put : (s : Station) (m : M) → T .station (T .withStation s m) ≡ s
+    pub again : (s t : Station) (m : M) → T .withStation s (T .withStation t m) ≡ T .withStation s m
     pub own : (code : ℕ) (ds : List ℕ) → Own (T .own code ds)
     pub perform : (c : C) (m : M) → T .station (T .perform c m) ≡ T .station m
     pub renewed : (m : M) → T .station (T .renewed m) ≡ powerUp

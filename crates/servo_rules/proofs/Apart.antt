@@ -25,6 +25,7 @@ pub apart : Apart servo
 unfolding ticked
 apart = record {
   put = λ s m. refl;
+  again = λ s t m. refl;
   own = λ code ds.
       own-asks Own code ds (record { malformed = tt; resetPosition = tt; load = λ h. tt; start = tt; gain = λ h. tt; stop = tt; clearBits = tt });
   perform = order-apart;

@@ -3,9 +3,9 @@ pub mod Replaced
 pub mod Starts
 pub mod Orders
 pub mod Ticks
+pub mod Over
 pub mod Owed
 pub mod Within
 pub mod Passed
 pub mod Listed
 pub mod Tested
-pub mod Over

@@ -1,14 +1,14 @@
 -- What is put into a valid slot in parts is as good as the whole servo put there, where the other parts stand already. Assumes nothing.
-use mathlib.Core.Path.{_≡_, refl, sym, ap, _∙_}
+use mathlib.Core.Path.{_≡_, refl, ap}
 use mathlib.Core.List.{List, _++_}
 use mathlib.Core.Bool.{true}
 use Prim.Native.Nat.{ℕ, _≤_}
-use lib.ListN.{length, drop, take-append-drop}
+use lib.ListN.{length}
 use Rattle.base_layout.specs.Bytes.{pasted, Bytes}
-use Rattle.base_layout.proofs.Codec.{head-there}
 use Rattle.module_rules.specs.declared.Station.{Station}
 use Rattle.module_rules.specs.Slot.{station}
 use Rattle.module_rules.specs.Slots.{stationAt}
+use Rattle.module_rules.proofs.Slotting as Slotting
 use Rattle.servo_motion.specs.declared.Profile.{Profile}
 use Rattle.servo_motion.specs.Profile.{stepped, byTrapezoid, byVelocity}
 use Rattle.servo_filter.specs.declared.Filtered.the-variants as Filters
@@ -57,18 +57,10 @@ tick-goes m =
 -- ---- what is put on the bytes of the servo that stands in a slot
 
 module _ (s : List ℕ) (h : servoSize ≤ length s) (bytes : Bytes s) (ok : okOf s ≡ true) where
-  whole : s ≡ encodeOf (decodeOf s) ++ drop servoSize s
-  unfolding encodeOf decodeOf okOf
-  whole = sym (take-append-drop servoSize s) ∙ ap (λ (l : List ℕ). l ++ drop servoSize s) (sym (head-there (slot .lawful) s h bytes ok))
-
-  -- a way to put what makes the servo n of the one that stands there
   put-over : (n : Servo) (put : List ℕ → List ℕ) → ((t : List ℕ) → put (encodeOf (decodeOf s) ++ t) ≡ encodeOf n ++ t)
       → pasted 0 (encodeOf n) s ≡ put s
-  unfolding encodeOf
-  put-over n put e =
-      let t : List ℕ = drop servoSize s in
-      let over : pasted 0 (encodeOf n) (encodeOf (decodeOf s) ++ t) ≡ encodeOf n ++ t = refl in
-      ap (pasted 0 (encodeOf n)) whole ∙ over ∙ sym (e t) ∙ ap put (sym whole)
+  unfolding encodeOf decodeOf okOf
+  put-over = Slotting.put-over slot s h bytes ok
 
   pub station-over : (x : Station) → pasted 0 (encodeOf (withStation x (decodeOf s))) s ≡ pasted stationAt (station .codec .enc x) s
   unfolding encodeOf

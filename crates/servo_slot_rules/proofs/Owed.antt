@@ -25,6 +25,7 @@ use Rattle.servo_rules.proofs.Ranges.{bit-most}
 use Rattle.servo_rules.proofs.Reply.{status-bits, numbers-fit}
 use Rattle.servo_slot_rules.specs.Slot.{sample, slot, encodeOf, decodeOf, okOf, slots}
 use Rattle.servo_slot_rules.specs.Promises.{Fits}
+use Rattle.servo_slot_rules.proofs.Over.{station-over}
 use Rattle.servo_slot_rules.proofs.Good.{good, fits}
 use Rattle.servo_slot_rules.proofs.Replaced.{station-good, sampled-good, fresh-good}
 use Rattle.servo_slot_rules.proofs.Starts.{start-good, trajectory-good}
@@ -75,6 +76,7 @@ owes = record {
   begins = begins;
   typed = typed;
   stationed = λ s. refl;
+  alone = λ x s l b v. station-over s (omega (arith, l)) b v x;
   power = fits _ (fresh-good _ ((omega arith, ((omega arith, omega arith), omega arith)), (omega arith, ((omega arith, omega arith), omega arith))));
   held = λ m t. good m t .station;
   withStation = λ s m h t. fits _ (station-good (good m t) s h);

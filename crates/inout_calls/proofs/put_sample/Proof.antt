@@ -9,7 +9,7 @@ use Rattle.inout_calls.proofs.put_sample.Tie as tie
 returns : tie.Need-returns
 returns c = let p = c .before .before .before .before in
     let a = p .before in
-    c .before .before .put-sample .ensures ∙ sym (sampled-over (a .args .s .now) (a .pre .0) (λ i. omega (arith, p .slice-known .given i)) (a .pre .1) (a .args .x))
+    c .before .before .put-sample .ensures ∙ sym (sampled-over (a .args .s .now) (omega (arith, a .pre .0)) (λ i. omega (arith, p .slice-known .given i)) (a .pre .1) (a .args .x))
 
 pub put-sample-spec : {M : Type 1} → statement M
 put-sample-spec = tie.close (tie.spec (λ c κs. search needs) (λ c. search needs) returns)

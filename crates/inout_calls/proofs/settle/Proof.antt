@@ -1,9 +1,13 @@
 -- `inout_calls::settle` meets its contract. Each kind of request is one arm. Assumes nothing.
-use mathlib.Core.Path.{sym, ap, _∙_}
+use mathlib.Core.Path.{refl, sym, ap, _∙_}
 use native.Mathlib.Omega.{arith}
 use Rattle.module_rules.specs.Touch.{frameOf}
+use Rattle.module_rules.proofs.Touching.{damaged-put, malformed-put, set-put, asked-put}
+use Rattle.inout_rules.specs.State.{fresh}
 use Rattle.inout_rules.specs.Asks.{asksOf}
-use Rattle.inout_calls.proofs.Settling.{damaged-put, malformed-put, set-put, reset-put, own-put}
+use Rattle.inout_rules.specs.Answers.{inout}
+use Rattle.inout_slot_rules.specs.Slot.{sample, slots}
+use Rattle.inout_slot_rules.proofs.Owed.{owes}
 use borrow.Author.Needs.{needs}
 use Rattle.inout_calls.proofs.settle.Statement.{statement}
 use Rattle.inout_calls.proofs.settle.Tie as tie
@@ -11,30 +15,40 @@ use Rattle.inout_calls.proofs.settle.Tie as tie
 returns : tie.Need-returns
 returns c = let p = c .before .before .before .before .before .before .before .before .before in
     let a = p .before in
-    damaged-put (frameOf (a .args .f) (a .args .ds .now)) (a .args .alone) (a .args .s .now) (a .pre .0) (λ i. omega (arith, p .slice-known .given i)) (a .pre .1) (c .before .before .before .before .before .if1 .taken) (c .before .before .before .before .before .before .station-in .ensures) (c .before .before .before .with-cause .ensures) (c .before .before .put-station .ensures)
+    damaged-put inout slots (sample .codec .fits) owes (a .args .s .now) (a .pre .0) (λ i. omega (arith, p .slice-known .given i)) (a .pre .1)
+    (frameOf (a .args .f) (a .args .ds .now)) (a .args .alone)
+    (c .before .before .before .before .before .if1 .taken) (c .before .before .before .before .before .before .station-in .ensures) (c .before .before .before .with-cause .ensures) (c .before .before .put-station .ensures)
 
 put-requires : tie.Need-put-requires
-put-requires c κs = c .before .before .before .before .before .before .before .before .before .before .before .before .pre .0
+put-requires c κs = omega (arith, c .before .before .before .before .before .before .before .before .before .before .before .before .pre .0)
 
 returns-2 : tie.Need-returns-2
 returns-2 c = let p = c .before .before .before .before .before .before .before .before .before .before .before .before in
     let a = p .before in
-    malformed-put (frameOf (a .args .f) (a .args .ds .now)) (a .args .alone) (a .args .s .now) (a .pre .0) (λ i. omega (arith, p .slice-known .given i)) (a .pre .1) (c .before .before .before .before .before .before .before .before .if1 .left) (sym (c .before .before .before .before .before .before .before .request-of .ensures) ∙ ap asksOf (c .before .before .before .before .before .enum-told .given .1)) (c .before .before .before .before .before .before .before .before .before .station-in .ensures) (c .before .before .before .with-cause2 .ensures) (c .before .before .put-station2 .ensures)
+    malformed-put inout slots (sample .codec .fits) owes (a .args .s .now) (a .pre .0) (λ i. omega (arith, p .slice-known .given i)) (a .pre .1)
+    (frameOf (a .args .f) (a .args .ds .now)) (a .args .alone)
+    (c .before .before .before .before .before .before .before .before .if1 .left) (sym (c .before .before .before .before .before .before .before .request-of .ensures) ∙ ap asksOf (c .before .before .before .before .before .enum-told .given .1)) (c .before .before .before .before .before .before .before .before .before .station-in .ensures) (c .before .before .before .with-cause2 .ensures) (c .before .before .put-station2 .ensures)
 
 returns-3 : tie.Need-returns-3
 returns-3 c = let p = c .before .before .before .before .before .before .before .before .before .before .before .before .before .before in
     let a = p .before in
-    set-put (frameOf (a .args .f) (a .args .ds .now)) (a .args .alone) (a .args .s .now) (a .pre .0) (λ i. omega (arith, p .slice-known .given i)) (a .pre .1) (c .before .before .before .before .before .before .before .before .before .before .if1 .left) _ (sym (c .before .before .before .before .before .before .before .before .before .request-of .ensures) ∙ ap asksOf (c .before .before .before .before .before .before .before .asked .given .1)) (c .before .before .before .before .before .before .before .before .before .before .before .station-in .ensures) (c .before .before .before .before .before .with-setting .ensures) (c .before .before .before .with-cause3 .ensures) (c .before .before .put-station3 .ensures)
+    set-put inout slots (sample .codec .fits) owes (a .args .s .now) (a .pre .0) (λ i. omega (arith, p .slice-known .given i)) (a .pre .1)
+    (frameOf (a .args .f) (a .args .ds .now)) (a .args .alone)
+    (c .before .before .before .before .before .before .before .before .before .before .if1 .left) _ (sym (c .before .before .before .before .before .before .before .before .before .request-of .ensures) ∙ ap asksOf (c .before .before .before .before .before .before .before .asked .given .1)) (c .before .before .before .before .before .before .before .before .before .before .before .station-in .ensures) (c .before .before .before .before .before .with-setting .ensures) (c .before .before .before .with-cause3 .ensures) (c .before .before .put-station3 .ensures)
 
 returns-4 : tie.Need-returns-4
 returns-4 c = let p = c .before .before .before .before .before .before .before .before .before .before .before .before .before .before in
     let a = p .before in
-    reset-put (frameOf (a .args .f) (a .args .ds .now)) (a .args .alone) (a .args .s .now) (a .pre .0) (λ i. omega (arith, p .slice-known .given i)) (a .pre .1) (c .before .before .before .before .before .before .before .before .before .before .if1 .left) (sym (c .before .before .before .before .before .before .before .before .before .request-of .ensures) ∙ ap asksOf (c .before .before .before .before .before .before .before .enum-told2 .given .1)) (c .before .before .before .before .before .samples-in .ensures) (c .before .before .before .fresh .ensures) (c .before .before .put .ensures)
+    asked-put inout slots (sample .codec .fits) owes (a .args .s .now) (a .pre .0) (λ i. omega (arith, p .slice-known .given i)) (a .pre .1)
+    (frameOf (a .args .f) (a .args .ds .now)) (a .args .alone)
+    (c .before .before .before .before .before .before .before .before .before .before .if1 .left) (sym (c .before .before .before .before .before .before .before .before .before .request-of .ensures) ∙ ap asksOf (c .before .before .before .before .before .before .before .enum-told2 .given .1)) (c .before .before .before .fresh .ensures ∙ ap fresh (c .before .before .before .before .before .samples-in .ensures)) (c .before .before .put .ensures)
 
 returns-5 : tie.Need-returns-5
 returns-5 c = let p = c .before .before .before .before .before .before .before .before .before .before .before .before in
     let a = p .before in
-    own-put (frameOf (a .args .f) (a .args .ds .now)) (a .args .alone) (a .args .s .now) (a .pre .0) (λ i. omega (arith, p .slice-known .given i)) (a .pre .1) (c .before .before .before .before .before .before .before .before .if1 .left) _ (sym (c .before .before .before .before .before .before .before .request-of .ensures) ∙ ap asksOf (c .before .before .before .before .before .asked2 .given .1)) (c .before .before .perform .ensures)
+    asked-put inout slots (sample .codec .fits) owes (a .args .s .now) (a .pre .0) (λ i. omega (arith, p .slice-known .given i)) (a .pre .1)
+    (frameOf (a .args .f) (a .args .ds .now)) (a .args .alone)
+    (c .before .before .before .before .before .before .before .before .if1 .left) (sym (c .before .before .before .before .before .before .before .request-of .ensures) ∙ ap asksOf (c .before .before .before .before .before .asked2 .given .1)) refl (c .before .before .perform .ensures)
 
 pub settle-spec : {M : Type 1} → statement M
 settle-spec =

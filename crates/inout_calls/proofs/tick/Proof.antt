@@ -12,7 +12,7 @@ use Rattle.inout_calls.proofs.tick.Tie as tie
 returns : tie.Need-returns
 returns c = let p = c .before .before .before .before .before .before in
     let a = p .before in
-    c .before .before .put-latched .ensures ∙ ap (λ (x : Sample). pasted latchedAt (sample .codec .enc x) (a .args .s .now)) (c .before .before .before .before .waiting-in .ensures) ∙ sym (ticked-over (a .args .s .now) (a .pre .0) (λ i. omega (arith, p .slice-known .given i)) (a .pre .1))
+    c .before .before .put-latched .ensures ∙ ap (λ (x : Sample). pasted latchedAt (sample .codec .enc x) (a .args .s .now)) (c .before .before .before .before .waiting-in .ensures) ∙ sym (ticked-over (a .args .s .now) (omega (arith, a .pre .0)) (λ i. omega (arith, p .slice-known .given i)) (a .pre .1))
 
 pub tick-spec : {M : Type 1} → statement M
 tick-spec = tie.close (tie.spec (λ c κs. search needs) (λ c κs. search needs) (λ c. search needs) returns)

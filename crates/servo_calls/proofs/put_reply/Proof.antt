@@ -3,7 +3,7 @@ use native.Mathlib.Omega.{arith}
 use Rattle.module_rules.specs.Touch.{frameOf}
 use Rattle.servo_slot_rules.specs.Slot.{decodeOf}
 use Rattle.servo_slot_rules.proofs.Tested.{steady-in}
-use Rattle.servo_calls.proofs.Settling.{told-is}
+use Rattle.servo_calls.proofs.Telling.{told-is}
 use borrow.Author.Needs.{needs}
 use Rattle.servo_calls.proofs.put_reply.Statement.{statement}
 use Rattle.servo_calls.proofs.put_reply.Tie as tie

@@ -11,7 +11,7 @@ returns c =
     let k = c .before .before .before .before in
     let a = k .before in
     c .before .before .put-sample .ensures
-    ∙ sym (sampled-over (a .args .s .now) (a .pre .0) (λ i. omega (arith, k .slice-known .given i)) (a .pre .1) (a .args .x))
+    ∙ sym (sampled-over (a .args .s .now) (omega (arith, a .pre .0)) (λ i. omega (arith, k .slice-known .given i)) (a .pre .1) (a .args .x))
 
 pub put-sample-spec : {M : Type 1} → statement M
 put-sample-spec = tie.close (tie.spec (λ c κs. search needs) (λ c. search needs) returns)

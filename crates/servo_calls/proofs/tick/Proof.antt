@@ -16,7 +16,7 @@ ran-requires c κs =
 put-ticked-requires : tie.Need-put-ticked-requires
 put-ticked-requires c κs =
     let k = c .before .before .before .before .before .before .before .before .before .before .before .before .before .before in
-    k .before .pre .0
+    omega (arith, k .before .pre .0)
 
 returns : tie.Need-returns
 returns c =
@@ -27,7 +27,7 @@ returns c =
     let n = l .before .before in
     let w = n .before .before in
     let k = w .before .before in
-    tick-is (k .before .args .s .now) (k .before .pre .0) (λ i. omega (arith, k .slice-known .given i)) (k .before .pre .1)
+    tick-is (k .before .args .s .now) (omega (arith, k .before .pre .0)) (λ i. omega (arith, k .slice-known .given i)) (k .before .pre .1)
     (w .waiting-in .ensures) (l .latched-in .ensures) (n .counts-in .ensures) (g .gains-in .ensures) (e .run-in .ensures)
     (p .before .position .ensures) (p .position2 .ensures) (c .before .before .before .ran .ensures) (c .before .before .put-ticked .ensures)
 
