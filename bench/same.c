@@ -13,7 +13,7 @@
 #include <stdlib.h>
 #include <string.h>
 
-enum { HISTORIES = 1500, STEPS = 500, FASTEST = 83886080, SLOT_LEN = 128, SLOTS_AT = 20 };
+enum { HISTORIES = 1500, STEPS = 500, FASTEST = 83886080, SLOTS_AT = 20, SLOT_LEN = (NMC_NET_LEN - SLOTS_AT) / NMC_MOST_MODULES };
 
 static uint64_t dice;
 static uint32_t history, step;

@@ -9,6 +9,9 @@
 
 enum { TOO_MANY = NMC_MOST_MODULES + 1 };
 
+/* Places in the record (docs/RECORD.md); a board needs none of them, here they are spoiled. */
+enum { COUNT_AT = 19, SLOTS_AT = 20, SLOT_LEN = (NMC_NET_LEN - SLOTS_AT) / NMC_MOST_MODULES };
+
 static uint8_t net[NMC_NET_LEN], net_before[NMC_NET_LEN];
 static uint8_t room[NMC_ROOM_LEN], room_before[NMC_ROOM_LEN];
 static uint8_t outputs[NMC_OUTPUTS_LEN], outputs_before[NMC_OUTPUTS_LEN];
@@ -83,17 +86,17 @@ static void record(void)
     REFUSED("setup of a record one byte short", NMC_BAD_RECORD,
             nmc_setup(net, NMC_NET_LEN - 1, types, 3));
     prepare();
-    net[19] = 33; /* number of modules */
+    net[COUNT_AT] = 33; /* number of modules */
     remember();
     refused("record with 33 modules", NMC_BAD_RECORD, nmc_tick(net, sizeof net));
     prepare();
-    net[20] = 1; /* type of place 0 */
+    net[SLOTS_AT] = 1; /* type of place 0 */
     remember();
     refused("record with an unknown type", NMC_BAD_RECORD,
             nmc_byte(net, sizeof net, 0, 0xAA, room, sizeof room, &written));
     cleared(written == 0);
     prepare();
-    net[20 + 128 + 100] = 1; /* motor output of the servo, which is off */
+    net[SLOTS_AT + SLOT_LEN + 100] = 1; /* motor output of the servo, which is off */
     remember();
     refused("record that drives a motor in off", NMC_BAD_RECORD, nmc_tick(net, sizeof net));
 }
@@ -161,7 +164,7 @@ static void host(void)
 static void two_reasons(void)
 {
     prepare();
-    net[19] = 0;
+    net[COUNT_AT] = 0;
     remember();
     refused("spoiled record, mark 2 and no room", NMC_BAD_RECORD,
             nmc_byte(net, sizeof net, 2, 0xAA, room, 0, &written));

@@ -1,8 +1,12 @@
 //! The exported calls as a Rust trait: the library has them through C, the model in `record`.
 
-pub const NET_LEN: usize = 4116;
-pub const ROOM_LEN: usize = 608;
+use crate::record::{SLOTS, SLOT_LEN};
+
 pub const MOST_MODULES: usize = 32;
+/// Status, the most that its items have, and the checksum.
+pub const REPLY_LEN: usize = 19;
+pub const NET_LEN: usize = SLOTS + MOST_MODULES * SLOT_LEN;
+pub const ROOM_LEN: usize = MOST_MODULES * REPLY_LEN;
 
 pub const DONE: u32 = 0;
 pub const UNDAMAGED: u32 = 1;

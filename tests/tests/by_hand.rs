@@ -3,7 +3,7 @@
 
 use doljurven_tests::calls::*;
 use doljurven_tests::capi::Library;
-use doljurven_tests::record::{slot, COUNT, IO_LEN, MARK, SLOTS};
+use doljurven_tests::record::{slot, COUNT, IO_LEN, MARK, SLOTS, SLOT_LEN};
 
 fn network(modules: usize) -> Vec<u8> {
     let mut net = vec![0x99; NET_LEN];
@@ -31,7 +31,7 @@ fn outputs(net: &[u8], place: u32) -> [u8; 8] {
 }
 
 fn written(address: u32, code: u32, data: &[u8]) -> Vec<u8> {
-    let mut room = [0; 19];
+    let mut room = [0; COUNT];
     let mut written = 0;
     assert_eq!(Library.write_frame(address, code, data, &mut room, &mut written), DONE);
     room[..written].to_vec()
@@ -47,13 +47,13 @@ fn reading(module_type: u32, items: u8, reply: &[u8]) -> (u8, [u32; 8]) {
 #[test]
 fn setup_writes_power_up_into_every_slot() {
     let net = network(3);
-    let mut module = [0; 128];
+    let mut module = [0; SLOT_LEN];
     module[0] = 2;
     module[2] = 0xFF;
     module[26] = 0xFF;
     module[27] = 0x0F;
     for place in 0..32 {
-        let expected = if place < 3 { module } else { [0; 128] };
+        let expected = if place < 3 { module } else { [0; SLOT_LEN] };
         assert_eq!(net[slot(place)..slot(place + 1)], expected, "place {place}");
     }
     assert_eq!(net[..SLOTS], [0, 0, 0, 0, 0, 0, 0, 0, 0, 0, 0, 0, 0, 0, 0, 0, 0, 0, 0, 3]);
@@ -63,7 +63,7 @@ fn setup_writes_power_up_into_every_slot() {
 fn setup_of_both_types() {
     let mut net = vec![0x99; NET_LEN];
     assert_eq!(Library.setup(&mut net, &[0, 2, 0]), DONE);
-    let mut servo = [0; 128];
+    let mut servo = [0; SLOT_LEN];
     // group, SM, error bit
     (servo[2], servo[40], servo[104]) = (0xFF, 1, 1);
     assert_eq!(net[slot(0)..slot(1)], servo);
@@ -79,14 +79,14 @@ fn servo_fields_stand_where_the_record_says() {
     assert_eq!(Library.servo_sample(&mut net, 0, 0x0A0B_0C0D, 1, 0x5A), DONE);
     assert_eq!(Library.tick(&mut net), DONE);
     assert_eq!(Library.servo_sample(&mut net, 0, 0x0A0B_0C10, 2, 0xA5), DONE);
-    let mut expect = |frame: &[u8], changes: &[(usize, &[u8])], expected: &mut [u8; 128]| {
+    let mut expect = |frame: &[u8], changes: &[(usize, &[u8])], expected: &mut [u8; SLOT_LEN]| {
         send(&mut net, frame);
         for (at, bytes) in changes {
             expected[*at..at + bytes.len()].copy_from_slice(bytes);
         }
         assert_eq!(net[slot(0)..slot(1)], *expected, "after {frame:02X?}");
     };
-    let mut all = [0; 128];
+    let mut all = [0; SLOT_LEN];
     let power_up: [(usize, &[u8]); 5] = [
         (2, &[0xFF]),
         (8, &[0x10, 0x0C, 0x0B, 0x0A, 2, 0xA5]),
@@ -125,7 +125,7 @@ fn servo_fields_stand_where_the_record_says() {
     expect(&written(0, 7, &[0x08]), &[(75, &[0; 4]), (95, &[3]), (105, &[0])], &mut all);
     expect(&written(0, 7, &[0x02]), &[(95, &[0])], &mut all);
     // samples and offset stay
-    let mut reset = [0; 128];
+    let mut reset = [0; SLOT_LEN];
     reset[8..24].copy_from_slice(&all[8..24]);
     (reset[2], reset[40], reset[104]) = (0xFF, 1, 1);
     expect(&written(0, 15, &[]), &[(0, &reset)], &mut all);
@@ -155,7 +155,7 @@ fn bench_sheet_header_and_sixteen_nulls_end_idle() {
     let mut line = vec![0xAA];
     line.extend([0; 16]);
     assert_eq!(send(&mut net, &line), (DONE, vec![2, 2]), "the first three nulls are a frame");
-    assert_eq!(net[..=MARK], [0; 19]);
+    assert_eq!(net[..COUNT], [0; COUNT]);
 }
 
 #[test]
@@ -167,7 +167,7 @@ fn sixteen_nulls_end_every_frame_idle() {
             line.extend(vec![0xAA; also]);
             line.extend([0; 16]);
             send(&mut net, &line);
-            assert_eq!(net[..=MARK], [0; 19], "command {command:02X} with {also} data bytes");
+            assert_eq!(net[..COUNT], [0; COUNT], "command {command:02X} with {also} data bytes");
         }
     }
 }
@@ -176,10 +176,10 @@ fn sixteen_nulls_end_every_frame_idle() {
 fn open_frame_is_kept_in_the_record() {
     let mut net = network(1);
     let expect = |net: &[u8], data: &[u8], address: u8, command: u8, fill: u8| {
-        let mut receiver = [0; 19];
+        let mut receiver = [0; COUNT];
         receiver[..data.len()].copy_from_slice(data);
         receiver[15..18].copy_from_slice(&[address, command, fill]);
-        assert_eq!(net[..=MARK], receiver);
+        assert_eq!(net[..COUNT], receiver);
     };
     send(&mut net, &[0xAA]);
     expect(&net, &[], 0, 0, 1);
@@ -230,9 +230,9 @@ fn unmarked_and_marked_headers() {
     let mut net = network(1);
     let (mut room, mut length) = ([0; ROOM_LEN], 0);
     assert_eq!(Library.byte(&mut net, 1, 0xAA, &mut room, &mut length), DONE);
-    assert_eq!(net[..=MARK], [0; 19], "a marked header opens nothing");
+    assert_eq!(net[..COUNT], [0; COUNT], "a marked header opens nothing");
     assert_eq!(Library.byte(&mut net, 0, 0xAB, &mut room, &mut length), DONE);
-    assert_eq!(net[..=MARK], [0; 19]);
+    assert_eq!(net[..COUNT], [0; COUNT]);
     assert_eq!(net[COUNT], 1);
 }
 

@@ -3,6 +3,7 @@
 use doljurven_tests::calls::*;
 use doljurven_tests::capi::Library;
 use doljurven_tests::histories;
+use doljurven_tests::record::{slot, COUNT, FILL, SLOTS, SLOT_LEN};
 use doljurven_tests::slips::{Slip, ALL};
 
 const SEED: u64 = 0x0511_0000;
@@ -78,7 +79,7 @@ const SPOILS: [Spoil; 20] = [
 ];
 
 /// Beyond what a module of any type uses of slot 0.
-const UNUSED: usize = 20 + 120;
+const UNUSED: usize = SLOTS + SLOT_LEN - 8;
 const LAST: usize = NET_LEN - 1;
 
 impl Calls for Spoiled {
@@ -98,7 +99,7 @@ impl Calls for Spoiled {
             Spoil::RoomBehindReplies if ended && *written < room.len() => room[*written] ^= 1,
             Spoil::OneByteMoreReported if ended => *written += 1,
             Spoil::LastReplyByte if ended && *written > 0 => room[*written - 1] ^= 1,
-            Spoil::PlaceBeyondChain if ended && net[19] < 32 => net[LAST] ^= 1,
+            Spoil::PlaceBeyondChain if ended && net[COUNT] < 32 => net[LAST] ^= 1,
             Spoil::UnusedByteOfSlot if ended => net[UNUSED] ^= 1,
             Spoil::ModuleAtTakenByte if number == DONE => net[26] ^= 1,
             Spoil::RefusedLength if number > DAMAGED => *written = 1,
@@ -143,9 +144,9 @@ impl Calls for Spoiled {
                 number
             }
             // a record that calls leave behind and that is not taken any more
-            Spoil::OutputsRefuse if number == DONE && net[17] > 17 => BAD_RECORD,
+            Spoil::OutputsRefuse if number == DONE && net[FILL] > 17 => BAD_RECORD,
             // only a servo's second byte is a sign
-            Spoil::OutputsSign if number == DONE && net[20 + 128 * place as usize] == 0 => {
+            Spoil::OutputsSign if number == DONE && net[slot(place as usize)] == 0 => {
                 outputs[1] = 0;
                 number
             }

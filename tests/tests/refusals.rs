@@ -126,7 +126,7 @@ fn every_call_says(net: &[u8], number: u32) {
 fn record_of_another_length() {
     let net = network(3);
     every_call_says(&net, DONE);
-    for length in [0, 1, COUNT, NET_LEN - 128, NET_LEN - 1, NET_LEN + 1, NET_LEN + 128] {
+    for length in [0, 1, COUNT, NET_LEN - SLOT_LEN, NET_LEN - 1, NET_LEN + 1, NET_LEN + SLOT_LEN] {
         let mut other = net.clone();
         other.resize(length, 0);
         every_call_says(&other, BAD_RECORD);
@@ -245,7 +245,7 @@ fn record_with_more_than_twelve_bits() {
 fn record_bytes_that_may_be_anything() {
     let net = network(2);
     let bounded: Vec<usize> = [0, 3, 4, 5].into_iter().chain(TWELVE_BITS.map(|at| at + 1)).collect();
-    for at in (0..128).filter(|at| !bounded.contains(at)) {
+    for at in (0..SLOT_LEN).filter(|at| !bounded.contains(at)) {
         let mut net = net.clone();
         net[slot(1) + at] = 0xFF;
         every_call_says(&net, DONE);
@@ -555,11 +555,11 @@ fn inputs_of_more_than_twelve_bits() {
 #[test]
 fn room_too_short_for_every_reply() {
     let mut net = network(1);
-    for room_len in [0, 1, 2, 19, 607] {
+    for room_len in [0, 1, 2, REPLY_LEN, ROOM_LEN - 1] {
         assert_eq!(byte_call(&mut net, 0, 0x55, room_len), SHORT_ROOM, "room {room_len}");
     }
-    assert_eq!(byte_call(&mut net.clone(), 0, 0x55, 608), DONE);
-    assert_eq!(byte_call(&mut net, 0, 0x55, 609), DONE);
+    assert_eq!(byte_call(&mut net.clone(), 0, 0x55, ROOM_LEN), DONE);
+    assert_eq!(byte_call(&mut net, 0, 0x55, ROOM_LEN + 1), DONE);
 }
 
 // ---------------------------------------------------------------- the host's calls

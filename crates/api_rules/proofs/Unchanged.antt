@@ -15,7 +15,7 @@ use Rattle.line_receiver.specs.Frames.{Byte}
 use Rattle.chain_rules.specs.Chain.{Net, byteStep}
 use Rattle.chain_rules.proofs.Bytes.{step-on, step-end}
 use Rattle.types_rules.specs.Types.{Module, kind, slots}
-use Rattle.net_rules.specs.Record.{netIn, stored, valid}
+use Rattle.net_rules.specs.Record.{roomSize, netIn, stored, valid}
 use Rattle.net_rules.specs.Calls.{fresh, tickStep, sampleStep, outputsAt}
 use Rattle.api_rules.specs.Table.{Line, first, setupTable, byteTable, servoSampleTable, ioSampleTable, tickTable, outputsTable}
 use Rattle.api_rules.specs.Calls.{unless, stepOf, servoSampleOf, ioSampleOf, sampleRecord, setupRecord, byteNumber, tickRecord, outputsBytes}
@@ -77,7 +77,7 @@ answers net mark byte room =
       refused = (
         λ g p. let s = small p in absurd (omega arith),
         λ h.
-            let big = refusal-big (not (valid slots net)) (ltb 1 mark) (ltb (length room) 608) h in
+            let big = refusal-big (not (valid slots net)) (ltb 1 mark) (ltb (length room) roomSize) h in
             let q = unchanged .byte net mark byte room h .number in
             rw q big,
       );

@@ -2,7 +2,7 @@
 -- where none does (document 01, "Numbers given back", "How tight the statements are").
 use Prim.Native.Nat.{ℕ, zero, suc, _+_}
 use mathlib.Core.List.{List, [], _∷_, _++_}
-use mathlib.Core.Bool.{Bool, cond}
+use mathlib.Core.Bool.{cond}
 use lib.ListN.{length, getD}
 use lib.Dec.{eqb}
 use Rattle.base_layout.specs.Bytes.{le, pasted}

@@ -1,5 +1,5 @@
 -- Bytes put into a list: what stands there then. Assumes nothing.
-use mathlib.Core.Path.{_≡_, refl, sym, ap, _∙_}
+use mathlib.Core.Path.{_≡_, sym, ap, _∙_}
 use mathlib.Core.List.{List, [], _∷_, _++_, append-assoc}
 use Prim.Native.Nat.{ℕ, zero, suc, _+_, _-_, _/_, _%_, _<_, _≤_}
 use native.Mathlib.Nat.{zero-add}
@@ -51,22 +51,6 @@ put-next done x s from at l h e f =
     ∙ ap (pasted at x) e
     ∙ ap (λ (k : ℕ). pasted k x (pasted from done s)) (sym l)
     ∙ pasted-twice from done x s (omega arith)
-
--- what stands at a place already can be put there
-pasted-there : (at : ℕ) (x s : List ℕ) → take (length x) (drop at s) ≡ x → s ≡ pasted at x s
-pasted-there at x s e =
-    let rest : List ℕ = drop (length x) (drop at s) in
-    sym (take-append-drop at s)
-    ∙ ap (λ (l : List ℕ). take at s ++ l) (sym (take-append-drop (length x) (drop at s)) ∙ ap (λ (l : List ℕ). l ++ rest) e)
-    ∙ sym (append-assoc (take at s) x rest)
-    ∙ rw (take-length x, drop-drop (length x) at s) refl
-
--- a part that stands already behind those that were put is as good as put
-pub keep-next : (done x s : List ℕ) (from at : ℕ) {s′ : List ℕ} → from + length done ≡ at → at + length x ≤ length s
-    → take (length x) (drop at s) ≡ x → s′ ≡ pasted from done s → s′ ≡ pasted from (done ++ x) s
-keep-next done x s from at {s′} l h e f =
-    let d : drop at s′ ≡ drop at s = ap (drop at) f ∙ rw (← l) (drop-pasted from done s (omega arith)) in
-    put-next done x s from at l h f (pasted-there at x s′ (ap (take (length x)) d ∙ e))
 
 -- five parts, each equal to what it should be, put one behind the other
 pub put-five : (A B C D E s : List ℕ) (from b c d e : ℕ) {v w x y z s1 s2 s3 s4 s5 : List ℕ}

@@ -7,7 +7,6 @@ use lib.ListN.{getElem?}
 use lib.Dec.{eqb}
 use Rattle.line_receiver.specs.declared.Receiver.{Receiver}
 use Rattle.line_receiver.specs.declared.Received.{Received}
-use Rattle.line_receiver.specs.declared.Answer.{Answer}
 use Rattle.line_receiver.specs.declared.Answer.the-variants.{Ended, Nothing}
 use Rattle.line_receiver.specs.Receive.{taken, numberOf}
 use Rattle.line_receiver.specs.Frames.{Byte, Frame, frameIn}

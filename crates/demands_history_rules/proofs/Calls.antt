@@ -1,24 +1,22 @@
 -- Histories of calls: what each call leaves is what its event makes of the network. Assumes nothing.
 use mathlib.Core.Path.{_≡_, refl, sym, ap, _∙_}
 use mathlib.Core.Logic.{_⊎_, inl, inr}
-use mathlib.Core.List.{List, [], _∷_, _++_, append-nil, append-assoc}
+use mathlib.Core.List.{List, [], append-nil}
 use mathlib.Core.Bool.{Bool, true, false}
 use Prim.Native.Nat.{ℕ}
 use borrow.Author.Tests.{eqb-true, eqb-false}
-use lib.ListN.{take}
 use lib.Dec.{eqb}
-use Rattle.module_rules.specs.Kind.{Kind}
-use Rattle.chain_rules.specs.Chain.{Net, Reply, flat}
-use Rattle.types_rules.specs.Types.{Module, AnySample, kind, slots}
+use Rattle.chain_rules.specs.Chain.{flat}
+use Rattle.types_rules.specs.Types.{kind, slots}
 use Rattle.net_rules.specs.Record.{netIn}
 use Rattle.api_rules.specs.Table.{Line, first}
-use Rattle.api_rules.specs.Calls.{unless, stepOf}
+use Rattle.api_rules.specs.Calls.{stepOf}
 use Rattle.api_rules.specs.Promises.{ValidRecord, Refuses, Passes}
 use Rattle.api_rules.proofs.Kept.{kept, holds}
 use Rattle.api_rules.proofs.Unchanged.{unchanged}
 use Rattle.api_rules.proofs.Room.{written-room}
-use Rattle.demands_history_rules.specs.Events.{Event, Outcome, after, event, run}
-use Rattle.demands_history_rules.specs.Calls.{Call, byte, servoSample, ioSample, tick, Handed, AllHanded, refusals, leaves, leftBy, writes, writtenBy, does, doneBy}
+use Rattle.demands_history_rules.specs.Events.{event}
+use Rattle.demands_history_rules.specs.Calls.{Call, byte, servoSample, ioSample, tick, Handed, refusals, leaves, writes, does}
 
 -- a call is done or refused
 pub passes? : (ls : List Line) → Passes ls ⊎ Refuses ls

@@ -40,7 +40,7 @@ pub fn sum_on(start: u8, bytes: &[u8]) -> u8
 }
 
 // The checksum of a frame with the first n of these data bytes.
-pub fn checksum(address: u8, command: u8, bytes: [u8; 15], n: usize) -> u8
+fn checksum(address: u8, command: u8, bytes: [u8; 15], n: usize) -> u8
     requires { ⌜ n ≤ 15 ⌝ }
     ensures { λ r. ⌜ r ≡ sum8 address command (take n bytes) ⌝ }
 {
@@ -50,7 +50,7 @@ pub fn checksum(address: u8, command: u8, bytes: [u8; 15], n: usize) -> u8
 
 impl Receiver {
     // Idle is one value, so that two receivers that wait for a header are the same.
-    pub fn idle() -> Self
+    fn idle() -> Self
         ensures { λ r. ⌜ r ≡ idle ⌝ }
     {
         Receiver {

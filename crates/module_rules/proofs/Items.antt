@@ -1,5 +1,5 @@
 -- The chosen items, one after another. Assumes nothing.
-use mathlib.Core.Path.{_≡_, refl, sym, ap, ap₂, _∙_}
+use mathlib.Core.Path.{_≡_, refl, sym, ap, _∙_}
 use mathlib.Core.List.{List, [], _∷_, _++_}
 use mathlib.Core.Bool.{Bool, true, false}
 use Prim.Native.Nat.{ℕ, zero, suc, _+_, _-_, _/_, _%_, _<_, _≤_}
@@ -9,7 +9,7 @@ use native.Mathlib.Omega.{arith}
 use lib.ListN.{length, getD, take, drop, set, length-append}
 use lib.Seq.{drop-cons}
 use lib.Dec.{eqb}
-use Rattle.base_layout.specs.Bytes.{le, pasted}
+use Rattle.base_layout.specs.Bytes.{pasted}
 use Rattle.base_layout.proofs.Laws.{length-le}
 use Rattle.base_layout.proofs.Pasted.{pasted-one, pasted-twice, length-pasted, read-pasted}
 use Rattle.line_receiver.specs.Receive.{total}

@@ -1,14 +1,11 @@
 -- A module that a slot can hold stays one, whatever comes, for every type that owes what it owes. Assumes nothing.
-use mathlib.Core.Path.{_≡_}
 use mathlib.Core.Bool.{Bool, true, false, cond}
 use Prim.Native.Nat.{ℕ, _≤_}
 use native.Mathlib.Omega.{arith}
 use lib.ListN.{length, getD}
-use Rattle.base_layout.specs.Bytes.{Bytes}
 use Rattle.line_receiver.specs.Frames.{Frame}
 use Rattle.module_rules.specs.declared.Setting.{Setting}
 use Rattle.module_rules.specs.declared.Setting.the-variants.{Assign, Define, Rate, Nothing}
-use Rattle.module_rules.specs.Commands.{applied, caused}
 use Rattle.module_rules.specs.Slots.{Slots, Preserves}
 use Rattle.module_rules.specs.Rules.{Request, malformed, set, reset, wants, Rules, withCause, request, settled, execute, reply, kindOf}
 use Rattle.module_rules.specs.Owes.{Safe, Owes, replySize}

@@ -1,7 +1,6 @@
 -- What a reply is, how long it is at most, and what Hard Reset leaves. Assumes nothing.
 use mathlib.Core.Path.{_≡_, refl, ap, _∙_}
-use mathlib.Core.Bool.{Bool, true, false, cond, _&&_, and-false}
-use Prim.Native.Nat.{ℕ}
+use mathlib.Core.Bool.{Bool, and-false}
 use borrow.Author.Tests.{eq-eqb, ne-eqb}
 use lib.ListN.{length}
 use lib.Dec.{eqb}
@@ -10,7 +9,7 @@ use Rattle.module_rules.specs.declared.Station.{Station}
 use Rattle.module_rules.specs.Touch.{powerUp}
 use Rattle.module_rules.specs.Commands.{asked, caused}
 use Rattle.module_rules.specs.Report.{report, replyOf}
-use Rattle.module_rules.specs.Rules.{Request, reset, Rules, withCause, request, execute, reply}
+use Rattle.module_rules.specs.Rules.{reset, Rules, request, execute, reply}
 use Rattle.module_rules.specs.Promises.{Apart, Resets, StatusFirst, Replied, Short}
 use Rattle.module_rules.proofs.Short.{reply-short}
 use Rattle.module_rules.proofs.Settled.{cause}

@@ -15,7 +15,7 @@ use Rattle.module_rules.specs.declared.Asked.{Asked}
 use Rattle.module_rules.specs.declared.Asked.the-variants as Both
 use Rattle.module_rules.specs.Commands.{asked, applied, caused}
 use Rattle.module_rules.specs.Rules.{Request, malformed, set, reset, wants, Own, Rules, joined, withCause, request, settled, execute}
-use Rattle.module_rules.specs.Promises.{Apart, Causes, Cause, CauseIs, AddressKept}
+use Rattle.module_rules.specs.Promises.{Apart, Cause, CauseIs, AddressKept}
 
 -- of one or the other, by a test
 pub pick : {A : Type 0} (P : A → Type 0) (t : Bool) (q r : A) → (t ≡ true → P q) → P r → P (cond t q r)

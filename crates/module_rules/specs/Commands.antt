@@ -1,7 +1,7 @@
 -- The commands of both types (document 01, "Commands of both types").
 use Prim.Native.Nat.{ℕ, _+_, _%_}
 use mathlib.Core.List.{List}
-use mathlib.Core.Bool.{Bool, true, false, cond}
+use mathlib.Core.Bool.{Bool, true, cond}
 use lib.ListN.{length, getD}
 use lib.Dec.{eqb, ltb}
 use Rattle.module_rules.specs.declared.Address.{Address}

@@ -1,5 +1,5 @@
 -- How a station stands in a slot, for every module type: its addresses first.
-use mathlib.Core.Path.{_≡_, refl}
+use mathlib.Core.Path.{refl}
 use Prim.Native.Nat.{ℕ}
 use mathlib.Core.Bool.{Bool}
 use Rattle.base_layout.proofs.Shape.{Shape, byte, capped, flag, _then_, shaped}

@@ -17,7 +17,7 @@ use replay_file::Turned;
 use types_rules::Measured;
 
 // A line byte, and the lines of the replies that it draws.
-pub fn take_byte(at: Place, body: &[u8], net: &mut [u8], out: &mut [u8]) -> Turned
+fn take_byte(at: Place, body: &[u8], net: &mut [u8], out: &mut [u8]) -> Turned
     requires { ⌜ (valid slots (now net) ≡ true) × (length (now body) ≡ 2) ⌝ }
     requires { ⌜ (at .offset + 11 < 2 ^ 64) × (textSize ≤ length (now out)) ⌝ }
     ensures { λ r. ⌜ r ≡ turned 3 (lineByte (netIn slots (now (net .entry))) (getD (now (body .entry)) 0 0) (getD (now (body .entry)) 1 0)) at ⌝ }
@@ -86,7 +86,7 @@ fn take_sample(
 }
 
 // A sample for a servo.
-pub fn take_servo_sample(at: Place, body: &[u8], net: &mut [u8], out: &mut [u8]) -> Turned
+fn take_servo_sample(at: Place, body: &[u8], net: &mut [u8], out: &mut [u8]) -> Turned
     requires { ⌜ (valid slots (now net) ≡ true) × (length (now body) ≡ 7) ⌝ }
     requires { ⌜ (at .offset + 11 < 2 ^ 64) × (textSize ≤ length (now out)) ⌝ }
     ensures { λ r. ⌜ r ≡ turned 8 (servoSample (netIn slots (now (net .entry))) (now (body .entry))) at ⌝ }
@@ -108,7 +108,7 @@ pub fn take_servo_sample(at: Place, body: &[u8], net: &mut [u8], out: &mut [u8])
 }
 
 // A sample for an I/O module.
-pub fn take_io_sample(at: Place, body: &[u8], net: &mut [u8], out: &mut [u8]) -> Turned
+fn take_io_sample(at: Place, body: &[u8], net: &mut [u8], out: &mut [u8]) -> Turned
     requires { ⌜ (valid slots (now net) ≡ true) × (length (now body) ≡ 10) ⌝ }
     requires { ⌜ (at .offset + 11 < 2 ^ 64) × (textSize ≤ length (now out)) ⌝ }
     ensures { λ r. ⌜ r ≡ turned 11 (ioSample (netIn slots (now (net .entry))) (now (body .entry))) at ⌝ }
@@ -129,7 +129,7 @@ pub fn take_io_sample(at: Place, body: &[u8], net: &mut [u8], out: &mut [u8]) ->
     )
 }
 
-pub fn take_tick(at: Place, net: &mut [u8]) -> Turned
+fn take_tick(at: Place, net: &mut [u8]) -> Turned
     requires { ⌜ (valid slots (now net) ≡ true) × (at .offset + 11 < 2 ^ 64) ⌝ }
     ensures { λ r. ⌜ r ≡ turned 1 (goes (running (tickStep (netIn slots (now (net .entry))))) []) at ⌝ }
     ensures { λ _. ⌜ now (net .exit) ≡ stored slots (tickStep (netIn slots (now (net .entry)))) (now (net .entry)) ⌝ }

@@ -9,7 +9,7 @@ ghost use Rattle.net_rules.specs.Record.{chainMost, roomSize};
 ghost use Rattle.module_rules.specs.Owes.{replySize};
 
 // The longest line: a place of two digits, a reply's bytes, a newline; and the room that the lines of all replies to a byte need.
-pub const LINE_LEN: usize = 3 + 3 * module_rules::REPLY_LEN;
+const LINE_LEN: usize = 3 + 3 * module_rules::REPLY_LEN;
 
 pub const TEXT_LEN: usize = net_rules::CHAIN_MOST * LINE_LEN;
 

@@ -5,7 +5,7 @@ use Prim.Native.Nat.{_≤_}
 use native.Mathlib.Omega.{arith}
 use borrow.Author.Tests.{leb-true, le-leb, lt-leb}
 use lib.Dec.{leb}
-use lib.IntN.{ℤ, natAbs, _+ℤ_}
+use lib.IntN.{natAbs, _+ℤ_}
 use Rattle.servo_filter.specs.Filter.{Kept, output, filtered, told}
 use Rattle.servo_filter.specs.Promises.{Trips, Works, Within, Keeps}
 use Rattle.servo_filter.proofs.Held.{held-most}

@@ -9,6 +9,9 @@ ghost use Rattle.servo_motion.specs.Setpoint.{whole, distance, moved};
 ghost use Rattle.servo_motion.specs.Velocity.{toward};
 ghost use Rattle.servo_motion.specs.Profile.{fastest, Ranged, inRange, heads, running, trapezoid, stepped, byTrapezoid, byVelocity};
 
+// The greatest velocity and acceleration that a load can carry: 1280 counts per tick.
+pub const FASTEST: u32 = 83_886_080;
+
 // The goal is a position in counts, the aim velocity mode's goal speed, top the trapezoid's greatest speed.
 pub struct Profile {
     pub setpoint: u64,
@@ -54,7 +57,7 @@ fn spare(w: u32, a: u32, room: u64) -> u64
 }
 
 // Whether the stopping sum of w is at most d.
-pub fn can_stop(w: u32, a: u32, d: u64) -> bool
+fn can_stop(w: u32, a: u32, d: u64) -> bool
     requires { ⌜ (0 < a) × (d < 2 ^ 63) ⌝ }
     ensures { λ r. ⌜ r ≡ leb (stop w a) d ⌝ }
 {
@@ -163,10 +166,10 @@ impl Profile {
     pub fn is_in_range(self) -> bool
         ensures { λ r. ⌜ r ≡ inRange self ⌝ }
     {
-        base_integers::is_within(83_886_080, self.speed)
-            & base_integers::is_within(83_886_080, self.aim)
-            & (self.acceleration <= 83_886_080)
-            & (self.top <= 83_886_080)
+        base_integers::is_within(FASTEST, self.speed)
+            & base_integers::is_within(FASTEST, self.aim)
+            & (self.acceleration <= FASTEST)
+            & (self.top <= FASTEST)
     }
 
     // Whether a trapezoid runs toward its goal and can still stop.

@@ -15,9 +15,6 @@ use servo_rules::Order;
 use servo_rules::Request;
 use servo_rules::Tuning;
 
-// The greatest velocity and acceleration that a load can carry.
-const FASTEST: u32 = 83_886_080;
-
 // Whether bit k of a byte is set.
 pub fn is_set(k: u8, b: u8) -> bool
     requires { ⌜ k < 8 ⌝ }
@@ -114,8 +111,8 @@ fn carried_in(ds: &[u8]) -> Carried
 fn is_in_range(c: Carried) -> bool
     ensures { λ r. ⌜ r ≡ inRange c ⌝ }
 {
-    (c.velocity <= FASTEST)
-        & (c.acceleration <= FASTEST)
+    (c.velocity <= servo_motion::FASTEST)
+        & (c.acceleration <= servo_motion::FASTEST)
         & (!is_set(2, c.control) | (1 <= c.acceleration))
 }
 

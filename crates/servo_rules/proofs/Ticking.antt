@@ -12,7 +12,7 @@ use Rattle.servo_rules.specs.declared.Mode.{Mode}
 use Rattle.servo_rules.specs.declared.Mode.the-variants.{Off, Pwm, Hold, Velocity, Trapezoid}
 use Rattle.servo_rules.specs.declared.Run.{Run}
 use Rattle.servo_rules.specs.declared.Servo.{Servo}
-use Rattle.servo_rules.specs.State.{positionAt, position, servoOff, idled, off}
+use Rattle.servo_rules.specs.State.{positionAt, position, servoOff, withLast, idled, off}
 use Rattle.servo_rules.specs.Tick.{advanced, unpowered, putOut, tripped, filteredTo, servoed, pulsed, drivenBy, ran, ticked}
 use Rattle.servo_rules.specs.StopPromises.{Released}
 use Rattle.servo_rules.specs.TickPromises.{followed, remembered, worked, Ticks}
@@ -110,7 +110,7 @@ ticks m =
           ap (λ (s : Run). record {
             station = m .station;
             samples = record { waiting = m .samples .waiting; latched = m .samples .waiting };
-            counts = record { offset = m .counts .offset; last = position m };
+            counts = withLast (position m) (m .counts);
             settings = m .settings;
             run = s;
           }) (in-mode power here g r n Off e);

@@ -87,6 +87,10 @@ noSample = record { raw = 0; power = 0; ad = 0 }
 abbrev pub started : Servo
 started = fresh (record { waiting = noSample; latched = noSample })
 
+-- the counts with another position before the last tick
+abbrev pub withLast : ℕ → Counts → Counts
+withLast x k = record { offset = k .offset; last = x }
+
 -- a servo with one of its parts replaced
 abbrev pub withStation : Station → Servo → Servo
 withStation x m = record { station = x; samples = m .samples; counts = m .counts; settings = m .settings; run = m .run }

@@ -16,7 +16,7 @@ use Rattle.servo_rules.specs.declared.Mode.{Mode}
 use Rattle.servo_rules.specs.declared.Mode.the-variants.{Off, Pwm, Hold, Velocity, Trapezoid}
 use Rattle.servo_rules.specs.declared.Run.{Run}
 use Rattle.servo_rules.specs.declared.Servo.{Servo}
-use Rattle.servo_rules.specs.State.{positionAt, position, good, running, withProfile, withDrive, putting, erring, amplified, off}
+use Rattle.servo_rules.specs.State.{positionAt, position, good, withLast, running, withProfile, withDrive, putting, erring, amplified, off}
 
 -- 01 Tick: the profile's step
 abbrev pub advancedBy : Mode → Profile → Profile
@@ -72,7 +72,7 @@ unfoldable pub ticked : Servo → Servo
 ticked m = record {
   station = m .station;
   samples = record { waiting = m .samples .waiting; latched = m .samples .waiting };
-  counts = record { offset = m .counts .offset; last = position m };
+  counts = withLast (position m) (m .counts);
   settings = m .settings;
   run = ran (m .samples .waiting .power) (positionAt (m .samples .waiting) (m .counts)) (m .settings .tuning .gains) (m .run);
 }

@@ -13,7 +13,7 @@ use Rattle.servo_rules.specs.declared.Order.the-variants.{ClearBits}
 use Rattle.servo_rules.specs.declared.Sample.{Sample}
 use Rattle.servo_rules.specs.declared.Mode.the-variants.{Off, Pwm}
 use Rattle.servo_rules.specs.declared.Servo.{Servo}
-use Rattle.servo_rules.specs.State.{positionAt, position, servoOff, started, withRun, sampled, erring}
+use Rattle.servo_rules.specs.State.{positionAt, position, servoOff, started, withLast, withRun, sampled, erring}
 use Rattle.servo_rules.specs.Perform.{perform}
 use Rattle.servo_rules.specs.Tick.{advanced, followedAt, ticked}
 use Rattle.servo_rules.specs.Answers.{servo, request, execute}
@@ -53,7 +53,7 @@ pub record Ticking (m : Servo) : Type 0 where
       ≡ record {
         station = m .station;
         samples = record { waiting = m .samples .waiting; latched = m .samples .waiting };
-        counts = record { offset = m .counts .offset; last = position m };
+        counts = withLast (position m) (m .counts);
         settings = m .settings;
         run = m .run;
       }

@@ -10,19 +10,17 @@ use Rattle.base_layout.specs.Bytes.{Bytes}
 use Rattle.base_layout.specs.Every.{every, everyFrom}
 use Rattle.base_layout.proofs.Codec.{head-sound}
 use Rattle.base_layout.proofs.Every.{every-hold}
-use Rattle.line_receiver.specs.Frames.{Frame}
 use Rattle.servo_motion.specs.Profile.{Ranged, inRange}
 use Rattle.servo_motion.proofs.Tests.{in-ranges}
 use Rattle.servo_rules.specs.declared.Rates.{Rates}
 use Rattle.servo_rules.specs.declared.Run.{Run}
 use Rattle.servo_rules.specs.Tick.{Steady}
-use Rattle.servo_rules.specs.Answers.{execute}
 use Rattle.servo_slot_rules.specs.List.{soundAt, sound}
 use Rattle.servo_slot_rules.specs.Slot.{slot, rates, profile, run, latchedAt, ratesAt, profileAt, powerIn, decodeOf, okOf}
 use Rattle.servo_slot_rules.specs.Parts.{frontTests, loadTests, runTests}
 use Rattle.servo_slot_rules.specs.Promises.{Fits}
 use Rattle.servo_slot_rules.proofs.Good.{good}
-use Rattle.servo_slot_rules.proofs.Within.{kept, defined}
+use Rattle.servo_slot_rules.proofs.Within.{defined}
 
 module _ (s : List ℕ) {r : Rates} {u : Run} {front load runs : Bool} (er : r ≡ rates .codec .dec ratesAt s)
     (eu : u ≡ run .codec .dec profileAt s) (ef : front ≡ every (frontTests s)) (el : load ≡ everyFrom front (loadTests r s))
@@ -48,6 +46,3 @@ module _ (s : List ℕ) (bytes : Bytes s) (ok : okOf s ≡ true) where
 
   pub output-in : natAbs (decodeOf s .run .drive .output) < 256
   output-in = omega (arith, good (decodeOf s) fits-in .sane .output)
-
-  pub ranged-after : (f : Frame) (alone : Bool) → Bytes (f .content) → Ranged (execute f alone (decodeOf s) .run .profile)
-  ranged-after f alone b = defined (execute f alone (decodeOf s)) (kept .frame f alone (decodeOf s) b fits-in) .profile

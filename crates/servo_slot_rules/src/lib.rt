@@ -108,8 +108,6 @@ pub const RATES_LEN: usize = LOAD_AT - RATES_AT;
 
 pub const LOAD_LEN: usize = PROFILE_AT - LOAD_AT;
 
-pub const PROFILE_LEN: usize = MEMORY_AT - PROFILE_AT;
-
 pub const MEMORY_LEN: usize = DRIVE_AT - MEMORY_AT;
 
 pub const DRIVE_LEN: usize = SERVO_LEN - DRIVE_AT;

@@ -1,6 +1,5 @@
 -- A module of any type that can be written stays one, from power-up on. Assumes nothing.
 use mathlib.Core.Path.{_≡_, refl}
-use mathlib.Core.Bool.{Bool}
 use Prim.Native.Nat.{ℕ}
 use Rattle.module_rules.specs.Slots.{Preserves}
 use Rattle.module_rules.proofs.Kept as Any

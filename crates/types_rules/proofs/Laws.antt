@@ -1,5 +1,5 @@
 -- The slots of every module type are lawful, and what can be told of a slot without decoding it. Assumes nothing.
-use mathlib.Core.Path.{_≡_, refl, ap, subst⁻¹, _∙_}
+use mathlib.Core.Path.{_≡_, refl, ap, _∙_}
 use mathlib.Core.List.{List}
 use mathlib.Core.Bool.{true}
 use Prim.Native.Nat.{ℕ, _≤_}

@@ -1,9 +1,8 @@
 -- The types' numbers, and what every type keeps. Assumes nothing.
 use mathlib.Core.Path.{_≡_, refl}
 use mathlib.Core.Bool.{Bool, true, false, _||_, false≢true}
-use mathlib.Core.Logic.{_⊎_, inl, inr}
-use Prim.Native.Nat.{ℕ}
-use borrow.Author.Tests.{eqb-true, eq-eqb}
+use mathlib.Core.Logic.{inl, inr}
+use borrow.Author.Tests.{eqb-true}
 use lib.Dec.{eqb}
 use Rattle.module_rules.proofs.Settled as Settled
 use Rattle.module_rules.proofs.Replies as Replies

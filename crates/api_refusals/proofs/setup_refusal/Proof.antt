@@ -1,5 +1,5 @@
 -- `api_refusals::setup_refusal` meets its contract. Assumes nothing.
-use borrow.Author.Tests.{eq-eqb, ne-eqb, not-true, not-false}
+use borrow.Author.Tests.{eq-eqb, ne-eqb}
 use borrow.Author.Needs.{needs}
 use Rattle.api_refusals.proofs.setup_refusal.Statement.{statement}
 use Rattle.api_refusals.proofs.setup_refusal.Tie as tie

@@ -1,7 +1,7 @@
 -- `doljurven::nmc_read_status` meets its contract. Assumes nothing.
 use Rattle.api_rules.specs.Calls.{readingBytes}
 use Rattle.host_rules.specs.declared.Answered.{Answered}
-use mathlib.Core.Path.{sym, ap, _∙_}
+use mathlib.Core.Path.{ap, _∙_}
 use borrow.Author.Needs.{needs}
 use Rattle.doljurven.proofs.nmc_read_status.Statement.{statement}
 use Rattle.doljurven.proofs.nmc_read_status.Tie as tie

@@ -1,6 +1,6 @@
 -- `doljurven::nmc_write_frame` meets its contract. Assumes nothing.
 use Rattle.host_rules.specs.declared.Written.{Written}
-use mathlib.Core.Path.{sym, ap, _∙_}
+use mathlib.Core.Path.{ap}
 use borrow.Author.Needs.{needs}
 use Rattle.doljurven.proofs.nmc_write_frame.Statement.{statement}
 use Rattle.doljurven.proofs.nmc_write_frame.Tie as tie

@@ -1,7 +1,5 @@
 -- `types_dispatch::power_up` meets its contract. Assumes nothing.
 use mathlib.Core.Path.{sym, ap, _∙_}
-use mathlib.Core.List.{List}
-use Prim.Native.Nat.{ℕ}
 use Rattle.base_layout.specs.Bytes.{pasted}
 use Rattle.types_rules.specs.Table.{ModuleType, servo, rulesOf, slotsOf}
 use Rattle.types_rules.proofs.Dispatch.{type-at, type-last}
