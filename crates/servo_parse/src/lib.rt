@@ -3,7 +3,7 @@ ghost use mathlib.Core.Path.{_≡_};
 ghost use Prim.Native.Nat.{_<_};
 ghost use Rattle.base_layout.specs.Bytes.{ofLe, readAt};
 ghost use Rattle.module_rules.specs.Touch.{frameOf};
-ghost use Rattle.servo_rules.specs.Carried.{isSet, needed, carriedAt, carriedIn, inRange};
+ghost use Rattle.servo_rules.specs.Carried.{needed, carriedAt, carriedIn, inRange};
 ghost use Rattle.servo_rules.specs.Asks.{asksOf, counted, ranged, loadRequest, gainsIn, gainsFit, gainRequest, haltOf, oneHalt, stopCount, stopRequest, own};
 ghost use Rattle.servo_rules.specs.Answers.{request};
 use module_rules::Asked;
@@ -14,14 +14,6 @@ use servo_rules::Halt;
 use servo_rules::Order;
 use servo_rules::Request;
 use servo_rules::Tuning;
-
-// Whether bit k of a byte is set.
-pub fn is_set(k: u8, b: u8) -> bool
-    requires { ⌜ k < 8 ⌝ }
-    ensures { λ r. ⌜ r ≡ isSet k b ⌝ }
-{
-    (b >> k) % 2 == 1
-}
 
 // The number in four data bytes from place at on, 0 beyond the end.
 fn four_at(ds: &[u8], at: usize) -> u32
@@ -113,7 +105,7 @@ fn is_in_range(c: Carried) -> bool
 {
     (c.velocity <= servo_motion::FASTEST)
         & (c.acceleration <= servo_motion::FASTEST)
-        & (!is_set(2, c.control) | (1 <= c.acceleration))
+        & (!base_integers::is_set(2, c.control) | (1 <= c.acceleration))
 }
 
 fn load_request(ds: &[u8]) -> Request
@@ -164,16 +156,16 @@ fn gain_request(ds: &[u8]) -> Request
 fn halt_of(control: u8) -> Halt
     ensures { λ r. ⌜ r ≡ haltOf control ⌝ }
 {
-    if is_set(1, control) {
+    if base_integers::is_set(1, control) {
         return Halt::Release;
     }
-    if is_set(2, control) {
+    if base_integers::is_set(2, control) {
         return Halt::Abrupt;
     }
-    if is_set(3, control) {
+    if base_integers::is_set(3, control) {
         return Halt::Smooth;
     }
-    if is_set(4, control) {
+    if base_integers::is_set(4, control) {
         return Halt::Here;
     }
     Halt::Keep
@@ -188,7 +180,11 @@ fn is_one_halt(control: u8) -> bool
 fn stop_count(control: u8) -> usize
     ensures { λ r. ⌜ r ≡ stopCount control ⌝ }
 {
-    if is_set(4, control) { 5 } else { 1 }
+    if base_integers::is_set(4, control) {
+        5
+    } else {
+        1
+    }
 }
 
 fn stop_request(ds: &[u8]) -> Request
@@ -196,7 +192,7 @@ fn stop_request(ds: &[u8]) -> Request
 {
     let c = base_layout::byte_at(ds, 0);
     let halt = halt_of(c);
-    let order = Order::Stop(is_set(0, c), halt, four_at(ds, 1));
+    let order = Order::Stop(base_integers::is_set(0, c), halt, four_at(ds, 1));
     counted(stop_count(c), ds, ranged(is_one_halt(c), order))
 }
 

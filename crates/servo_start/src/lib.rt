@@ -18,8 +18,8 @@ use servo_rules::Way;
 fn way_of(control: u8) -> Way
     ensures { λ r. ⌜ r ≡ wayOf control ⌝ }
 {
-    if servo_parse::is_set(4, control) {
-        if servo_parse::is_set(5, control) {
+    if base_integers::is_set(4, control) {
+        if base_integers::is_set(5, control) {
             return Way::Speed;
         }
         return Way::Move;
@@ -33,11 +33,11 @@ fn load_of(c: Carried) -> Load
     Load {
         waits: true,
         way: way_of(c.control),
-        placed: servo_parse::is_set(0, c.control),
+        placed: base_integers::is_set(0, c.control),
         place: c.place,
-        pulsed: servo_parse::is_set(3, c.control),
+        pulsed: base_integers::is_set(3, c.control),
         pulse: c.pulse,
-        reverse: servo_parse::is_set(6, c.control),
+        reverse: base_integers::is_set(6, c.control),
     }
 }
 
@@ -51,8 +51,8 @@ fn either(t: bool, x: u32, y: u32) -> u32
 fn rates_of(c: Carried, r: Rates) -> Rates
     ensures { λ q. ⌜ q ≡ ratesOf c r ⌝ }
 {
-    let paced = servo_parse::is_set(1, c.control);
-    let ramped = servo_parse::is_set(2, c.control);
+    let paced = base_integers::is_set(1, c.control);
+    let ramped = base_integers::is_set(2, c.control);
     Rates {
         velocity: either(paced, c.velocity, r.velocity),
         acceleration: either(ramped, c.acceleration, r.acceleration),
@@ -129,7 +129,7 @@ pub fn can_load(m: Servo, c: Carried) -> bool
     requires { ⌜ Ranged (m .run .profile) ⌝ }
     ensures { λ r. ⌜ r ≡ can (Order.LoadTrajectory c) m ⌝ }
 {
-    !servo_parse::is_set(7, c.control) | is_startable(loaded(m, c))
+    !base_integers::is_set(7, c.control) | is_startable(loaded(m, c))
 }
 
 // A number with its sign.
@@ -205,7 +205,7 @@ pub fn with_load(m: Servo, c: Carried) -> Servo
     ensures { λ r. ⌜ r ≡ perform (Order.LoadTrajectory c) m ⌝ }
 {
     let after = loaded(m, c);
-    if servo_parse::is_set(7, c.control) {
+    if base_integers::is_set(7, c.control) {
         return start(after);
     }
     after
