@@ -1,6 +1,11 @@
 mod Asking
+mod Known
+mod Alike
 pub mod Calls
 pub mod Motion
+mod Making
+mod Sending
+pub mod Sent
 pub mod EveryCall
 pub mod Question
 pub mod Order

@@ -58,7 +58,7 @@ counted m t =
     record { profile = g .sane .profile; raw = omega (arith, g .samples .1 .0); last = omega (arith, g .counts .1) }
 
 -- a number is 0 or not
-zero? : (z : ℤ) → (z ≡ pos 0) ⊎ (z ≡ pos 0 → ⊥)
+pub zero? : (z : ℤ) → (z ≡ pos 0) ⊎ (z ≡ pos 0 → ⊥)
 zero? z = at (same z (pos 0)) refl
   where
     at : (t : Bool) → same z (pos 0) ≡ t → (z ≡ pos 0) ⊎ (z ≡ pos 0 → ⊥)

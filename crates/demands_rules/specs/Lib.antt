@@ -1,3 +1,5 @@
 pub mod Motion
+pub mod Place
+pub mod Sent
 pub mod Meaning
 pub mod Order

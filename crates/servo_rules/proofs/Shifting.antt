@@ -44,7 +44,7 @@ module _ (p x : ℕ) (h : p < 2 ^ 48) (k : x < 2 ^ 32) where
       ap (λ (p : ℕ). (p + (2 ^ 48 - setpointAt x)) % 2 ^ 48) e
       ∙ shift-setpoint (whole p) (fraction p) x (less (whole p) x) (s .turns) (omega arith) (s .small) (s .most) (s .sum) (omega arith) k
 
-  whole-shifted : whole ((p + (2 ^ 48 - setpointAt x)) % 2 ^ 48) ≡ less (whole p) x
+  pub whole-shifted : whole ((p + (2 ^ 48 - setpointAt x)) % 2 ^ 48) ≡ less (whole p) x
   whole-shifted = ap whole shifted-is ∙ upper (less (whole p) x) (fraction p) (omega arith)
     where
       upper : (r f : ℕ) → f < 65536 → whole (65536 * r + f) ≡ r

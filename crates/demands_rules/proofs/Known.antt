@@ -1,0 +1,144 @@
+-- What a frame that asks something of a servo has: its code, its count, its bits. Assumes nothing.
+use mathlib.Core.Path.{_≡_, refl, sym, ap, _∙_}
+use mathlib.Core.Logic.{inl, inr}
+use mathlib.Core.List.{List}
+use mathlib.Core.Bool.{Bool, true, false, cond, not, _&&_, _||_, false≢true, true≢false}
+use Prim.Native.Nat.{ℕ}
+use borrow.Author.Tests.{eqb-true}
+use lib.ListN.{length, getD}
+use lib.Dec.{eqb}
+use Rattle.line_receiver.specs.Frames.{Frame}
+use Rattle.module_rules.specs.declared.Asked.{Asked}
+use Rattle.module_rules.specs.declared.Asked.the-variants as Both
+use Rattle.module_rules.specs.Commands.{asked}
+use Rattle.module_rules.specs.Rules as Any
+use Rattle.module_rules.specs.Rules.{Request, malformed, set, reset, wants, joined}
+use Rattle.module_rules.proofs.Settled.{pick}
+use Rattle.servo_rules.specs.declared.Halt.{Halt}
+use Rattle.servo_rules.specs.declared.Halt.the-variants.{Keep, Release, Abrupt, Smooth, Here}
+use Rattle.servo_rules.specs.declared.Order.{Order}
+use Rattle.servo_rules.specs.declared.Order.the-variants.{ResetPosition, LoadTrajectory, Start, SetGain, Stop, ClearBits}
+use Rattle.servo_rules.specs.declared.Way.{Way}
+use Rattle.servo_rules.specs.declared.Way.the-variants.{Pulse, Speed, Move}
+use Rattle.servo_rules.specs.Carried.{isSet, needed, carriedIn, inRange}
+use Rattle.servo_rules.specs.Asks.{loadRequest, gainsIn, tuningIn, gainsFit, gainRequest, haltOf, oneHalt, stopCount, stopRequest, own}
+use Rattle.servo_rules.specs.Loads.{wayOf}
+use Rattle.servo_rules.specs.Answers.{request}
+use Rattle.demands_rules.specs.Sent.{control, Has, Lacks, WholeLoad, Drops, numberIn}
+
+-- the codes that drop no waiting load whatever their data
+abbrev spared : ℕ → Bool
+spared c = not (eqb c 0 || eqb c 4 || eqb c 5 || eqb c 7 || eqb c 15)
+
+spares : (f : Frame) → spared (f .code) ≡ true → Drops f → ⊥
+spares f e (inl z) = false≢true (sym (ap spared z) ∙ e)
+spares f e (inr (inl z)) = false≢true (sym (ap spared z) ∙ e)
+spares f e (inr (inr (inl z))) = false≢true (sym (ap spared z) ∙ e)
+spares f e (inr (inr (inr (inl z)))) = false≢true (sym (ap spared z) ∙ e)
+spares f e (inr (inr (inr (inr h)))) = false≢true (sym (ap spared (h .0)) ∙ e)
+
+-- what is known of a frame by what it asks
+abbrev pub Known : Frame → Request Order → Type 0
+Known f malformed = Unit {0}
+Known f (set s) = Drops f → ⊥
+Known f reset = f .code ≡ 15
+Known f (wants ResetPosition) = f .code ≡ 0
+Known f (wants (LoadTrajectory c)) = WholeLoad f × (c ≡ carriedIn (f .content))
+Known f (wants Start) = (f .code ≡ 5) × (length (f .content) ≡ 0)
+Known f (wants (SetGain t)) = Drops f → ⊥
+Known f (wants (Stop a h x)) =
+    (f .code ≡ 7) × (h ≡ haltOf (control f)) × (x ≡ numberIn 0 f) × (length (f .content) ≡ stopCount (control f))
+Known f (wants ClearBits) = Drops f → ⊥
+
+module _ (f : Frame) where
+  abbrev code : ℕ
+  code = f .code
+
+  abbrev ds : List ℕ
+  ds = f .content
+
+  spared-by : (c : ℕ) → spared c ≡ true → eqb code c ≡ true → Drops f → ⊥
+  spared-by c s t = spares f (ap spared (eqb-true code c t) ∙ s)
+
+  own-known : Known f (own code ds)
+  unfolding own loadRequest gainRequest stopRequest
+  own-known =
+      let P : Request Order → Type 0 = Known f in
+      let if : (t : Bool) (q : Request Order) → (t ≡ true → P q) → P (cond t q malformed) = λ t q h. pick P t q malformed h tt in
+      pick P (eqb code 0) _ _ (λ t. if (eqb (length ds) 0) _ (λ n. eqb-true _ _ t))
+      (pick P (eqb code 4) _ _
+      (λ t. if (eqb (length ds) (needed (getD ds 0 0))) _ (λ n. if (inRange (carriedIn ds)) _ (λ h. ((eqb-true _ _ t, eqb-true _ _ n), refl))))
+      (pick P (eqb code 5) _ _ (λ t. if (eqb (length ds) 0) _ (λ n. (eqb-true _ _ t, eqb-true _ _ n)))
+      (pick P (eqb code 6) _ _
+      (λ t.
+      if (eqb (length ds) 15) _
+      (λ n. if (gainsFit (gainsIn ds) && eqb (getD ds 12 0) 1 && eqb (getD ds 13 0) 0) (wants (SetGain (tuningIn ds))) (λ h. spared-by 6 refl t)))
+      (pick P (eqb code 7) _ _
+      (λ t.
+      if (eqb (length ds) (stopCount (getD ds 0 0))) _
+      (λ n. if (oneHalt (getD ds 0 0)) _ (λ h. (eqb-true _ _ t, refl, refl, eqb-true _ _ n))))
+      (pick P (eqb code 11) _ _ (λ t. if (eqb (length ds) 0) _ (λ n. spared-by 11 refl t))
+      tt)))))
+
+  pub known : (alone : Bool) → Known f (request f alone)
+  unfolding Any.request asked
+  known alone =
+      let Q : Asked → Type 0 = λ q. Known f (joined q (own code ds)) in
+      let if : (n : ℕ) (q : Asked) → Q q → Q (cond (eqb (length ds) n) q Both.Malformed) = λ n q h. pick Q (eqb (length ds) n) q Both.Malformed (λ t. h) tt in
+      pick Q (eqb code 1) _ _ (λ t. if 2 _ (spared-by 1 refl t))
+      (pick Q (eqb code 2) _ _ (λ t. if 1 _ (spared-by 2 refl t))
+      (pick Q (eqb code 3) _ _ (λ t. if 1 _ (spared-by 3 refl t))
+      (pick Q (eqb code 10) _ _ (λ t. pick Q alone _ _ (λ t. tt) (if 1 _ (spared-by 10 refl t)))
+      (pick Q (eqb code 14) _ _ (λ t. if 0 _ (spared-by 14 refl t))
+      (pick Q (eqb code 15) _ _ (λ t. if 0 _ (eqb-true _ _ t))
+      own-known)))))
+
+-- ---- bits by what they say
+
+-- the kind of Stop says which bit is set
+abbrev pub BitOf : Halt → (Bool × Bool) × (Bool × Bool) → Type 0
+BitOf Keep b = (b .0 .0 ≡ false) × (b .0 .1 ≡ false) × (b .1 .0 ≡ false) × (b .1 .1 ≡ false)
+BitOf Release b = b .0 .0 ≡ true
+BitOf Abrupt b = b .0 .1 ≡ true
+BitOf Smooth b = b .1 .0 ≡ true
+BitOf Here b = b .1 .1 ≡ true
+
+abbrev pub haltBits : ℕ → (Bool × Bool) × (Bool × Bool)
+haltBits c = ((isSet 1 c, isSet 2 c), (isSet 3 c, isSet 4 c))
+
+halt-bit : (a b c d : Bool) → BitOf (cond a Release (cond b Abrupt (cond c Smooth (cond d Here Keep)))) ((a, b), (c, d))
+halt-bit true b c d = refl
+halt-bit false true c d = refl
+halt-bit false false true d = refl
+halt-bit false false false true = refl
+halt-bit false false false false = (refl, refl, refl, refl)
+
+pub halt-bits : (control : ℕ) → BitOf (haltOf control) (haltBits control)
+unfolding haltOf
+halt-bits control = halt-bit (isSet 1 control) (isSet 2 control) (isSet 3 control) (isSet 4 control)
+
+-- a Stop with none of them drops nothing
+pub keep-spares : (f : Frame) → f .code ≡ 7 → BitOf Keep (haltBits (control f)) → Drops f → ⊥
+keep-spares f c k (inl z) = let q : _≡_ {A = Bool} true false = ap (eqb 7) (sym c ∙ z) in true≢false q
+keep-spares f c k (inr (inl z)) = let q : _≡_ {A = Bool} true false = ap (eqb 7) (sym c ∙ z) in true≢false q
+keep-spares f c k (inr (inr (inl z))) = let q : _≡_ {A = Bool} true false = ap (eqb 7) (sym c ∙ z) in true≢false q
+keep-spares f c k (inr (inr (inr (inl z)))) = let q : _≡_ {A = Bool} true false = ap (eqb 7) (sym c ∙ z) in true≢false q
+keep-spares f c k (inr (inr (inr (inr (x, inl h))))) = false≢true (sym (k .0) ∙ h)
+keep-spares f c k (inr (inr (inr (inr (x, inr (inl h)))))) = false≢true (sym (k .1) ∙ h)
+keep-spares f c k (inr (inr (inr (inr (x, inr (inr (inl h))))))) = false≢true (sym (k .2) ∙ h)
+keep-spares f c k (inr (inr (inr (inr (x, inr (inr (inr h))))))) = false≢true (sym (k .3) ∙ h)
+
+-- the mode of a Load says bits 4 and 5
+abbrev pub WayBits : Way → Frame → Type 0
+WayBits Pulse f = Lacks 4 f
+WayBits Speed f = Has 4 f × Has 5 f
+WayBits Move f = Has 4 f × Lacks 5 f
+
+pub way-bits : (f : Frame) → WayBits (wayOf (control f)) f
+unfolding wayOf
+way-bits f = at (isSet 4 (control f)) (isSet 5 (control f)) refl refl
+  where
+    at : (s v : Bool) → isSet 4 (control f) ≡ s → isSet 5 (control f) ≡ v → WayBits (cond s (cond v Speed Move) Pulse) f
+    at true true p q = (p, q)
+    at true false p q = (p, q)
+    at false v p q = p

@@ -1,0 +1,244 @@
+-- What a call makes of the servo at a place, by cases. Assumes nothing.
+use mathlib.Core.Path.{_≡_, refl, sym, ap, subst, _∙_}
+use mathlib.Core.Logic.{_⊎_, inl, inr}
+use mathlib.Core.List.{List, [], _∷_, map}
+use mathlib.Core.Bool.{Bool, true, false, cond, true≢false, false≢true}
+use mathlib.Core.Option.{Option, some, none, Option·map}
+use Prim.Native.Nat.{ℕ, zero, suc}
+use lib.ListN.{getElem?}
+use lib.Dec.{eqb}
+use Rattle.line_receiver.specs.declared.Receiver.{Receiver}
+use Rattle.line_receiver.specs.declared.Received.{Received}
+use Rattle.line_receiver.specs.declared.Answer.{Answer}
+use Rattle.line_receiver.specs.declared.Answer.the-variants.{Ended, Nothing}
+use Rattle.line_receiver.specs.Receive.{taken}
+use Rattle.line_receiver.specs.Frames.{Byte, Frame, frameIn}
+use Rattle.module_rules.specs.Touch.{individually}
+use Rattle.module_rules.specs.Kind.{executed}
+use Rattle.chain_rules.specs.Chain.{Net, Step, addresses, touched, byteStep}
+use Rattle.chain_rules.proofs.Bytes.{step-on, step-end}
+use Rattle.chain_rules.proofs.Touching.{touched-before}
+use Rattle.servo_rules.specs.declared.Sample.{Sample}
+use Rattle.servo_rules.specs.declared.Servo.{Servo}
+use Rattle.servo_rules.specs.State.{started, sampled}
+use Rattle.servo_rules.specs.Tick.{ticked}
+use Rattle.servo_rules.specs.Answers.{execute}
+use Rattle.servo_slot_rules.specs.Promises.{Fits}
+use Rattle.types_rules.specs.Table.{ModuleType, servo, inout, Of, rulesOf}
+use Rattle.types_rules.specs.Types.{Module, AnySample, kind, typeIn, slots, powered}
+use Rattle.types_rules.proofs.Laws.{lawful}
+use Rattle.net_rules.specs.Record.{netIn}
+use Rattle.net_rules.specs.Calls.{byteOf, sampleStep}
+use Rattle.net_rules.specs.Promises.{Each}
+use Rattle.net_rules.proofs.Stored as Stored
+use Rattle.api_rules.specs.Table.{setupTable, byteTable}
+use Rattle.api_rules.specs.Calls.{setupRecord, servoSampleOf, ioSampleOf}
+use Rattle.api_rules.specs.Promises.{ValidRecord, Refuses, Passes}
+use Rattle.api_rules.proofs.Kept.{holds}
+use Rattle.demands_history_rules.specs.Events.{event}
+use Rattle.demands_history_rules.specs.Calls.{Call, byte, servoSample, ioSample, tick, Handed, refusals, leaves, does}
+use Rattle.demands_history_rules.proofs.Events.{changed-at, map-at}
+use Rattle.demands_history_rules.proofs.Calls.{passes?, refused-leaves, passed-leaves}
+use Rattle.demands_rules.specs.Motion.{At}
+
+-- the servo that a module is, if it is one
+abbrev pub servoOf : (t : ModuleType) → Of t → Option Servo
+servoOf servo m = some m
+servoOf inout m = none
+
+abbrev pub servoIn : Option Module → Option Servo
+servoIn none = none
+servoIn (some m) = servoOf (m .0) (m .1)
+
+pub same-place : (ms : List Module) (i : ℕ) (m k : Servo) → getElem? ms i ≡ some (servo, m) → getElem? ms i ≡ some (servo, k) → m ≡ k
+same-place ms i m k e q = let z : some m ≡ some k = ap servoIn (sym e ∙ q) in cc
+
+-- every module of a valid record fits its slot
+each-at : (ms : List Module) (i : ℕ) (m : Servo) → Each (slots .fits) ms → getElem? ms i ≡ some (servo, m) → Fits m
+each-at [] i m h e = let z : _≡_ {A = Bool} true false = cc in absurd (true≢false z)
+each-at (x ∷ ms) zero m h e = let z : x ≡ (servo, m) = cc in subst (slots .fits) z (h .0)
+each-at (x ∷ ms) (suc i) m h e = each-at ms i m (h .1) e
+
+pub fits-at : (net : List ℕ) (i : ℕ) (m : Servo) → ValidRecord net → At net i m → Fits m
+fits-at net i m v e = each-at (netIn slots net .modules) i m (Stored.holds lawful net (v .1) (v .0) .each) e
+
+-- the call ends no frame that touches place i
+abbrev pub Silent : List ℕ → ℕ → Call → Type 0
+Silent net i (byte mark x room) =
+    (d : Bool) → Passes (byteTable net mark room) → taken (netIn slots net .receiver) x (eqb mark 1) .answer ≡ Ended d
+    → touched true (netIn slots net .receiver .address) (addresses kind (netIn slots net .modules)) i ≡ true → ⊥
+Silent net i (servoSample place raw power ad) = Unit {0}
+Silent net i (ioSample place inputs ad1 ad2 ad3 counter) = Unit {0}
+Silent net i tick = Unit {0}
+
+-- what a call can make of the servo m at place i of a record's network
+pub data Made (net : List ℕ) (i : ℕ) (m : Servo) : Call → Servo → Type 0 where
+  same : (c : Call) → Silent net i c → Made net i m c m
+  framed : (mark x : ℕ) (room : List ℕ) (d : Bool)
+      → Passes (byteTable net mark room)
+      → taken (netIn slots net .receiver) x (eqb mark 1) .answer ≡ Ended d
+      → touched true (netIn slots net .receiver .address) (addresses kind (netIn slots net .modules)) i ≡ true
+      → Made net i m (byte mark x room) (execute (frameIn (netIn slots net .receiver) d) (individually (netIn slots net .receiver .address) (m .station .address)) m)
+  measured : (c : Call) (x : Sample) → (c ≡ tick → ⊥) → Silent net i c → Made net i m c (sampled x m)
+  timed : Made net i m tick (ticked m)
+
+-- after a step that is not refused place i has a servo that such a step can make
+Makes : List ℕ → ℕ → Servo → Call → Type 0
+Makes net i m c = (k : Servo) × (getElem? (event kind (does c) (netIn slots net) .net .modules) i ≡ some (servo, k)) × Made net i m c k
+
+refused-silent : (net : List ℕ) (i : ℕ) (c : Call) → Refuses (refusals net c) → Silent net i c
+refused-silent net i (byte mark x room) r = λ d p e t. r p
+refused-silent net i (servoSample place raw power ad) r = tt
+refused-silent net i (ioSample place inputs ad1 ad2 ad3 counter) r = tt
+refused-silent net i tick r = tt
+
+isTick : Call → Bool
+isTick (byte mark x room) = false
+isTick (servoSample place raw power ad) = false
+isTick (ioSample place inputs ad1 ad2 ad3 counter) = false
+isTick tick = true
+
+no-tick : (c : Call) → isTick c ≡ false → c ≡ tick → ⊥
+unfolding isTick
+no-tick c e q = true≢false (ap isTick (sym q) ∙ e)
+
+module _ (net : List ℕ) (i : ℕ) (m : Servo) (before : At net i m) where
+  abbrev n : Net Module
+  n = netIn slots net
+
+  -- a byte
+  after-frame : (mark x : ℕ) (room : List ℕ) → Passes (byteTable net mark room) → (d : Bool) (r : Receiver) → taken (n .receiver) x (eqb mark 1) ≡ record { next = r; answer = Ended d }
+      → (t : Bool) → touched true (n .receiver .address) (addresses kind (n .modules)) i ≡ t
+      → Makes net i m (byte mark x room)
+  unfolding Makes
+  after-frame mark x room goes d r e t q =
+      let f : Frame = frameIn (n .receiver) d in
+      let p : getElem? (byteStep kind n (byteOf x (eqb mark 1)) .net .modules) i ≡ some (cond t (executed kind f (servo, m)) (servo, m)) =
+      ap (λ (s : Step Module). getElem? (s .net .modules) i) (step-end kind n (byteOf x (eqb mark 1)) r d e)
+      ∙ touched-before kind f (n .modules) i
+      ∙ ap (λ (o : Option Module). Option·map (λ (m : Module). cond (touched true (f .address) (addresses kind (n .modules)) i) (executed kind f m) m) o) before
+      ∙ ap (λ (t : Bool). some (cond t (executed kind f (servo, m)) (servo, m))) q in
+      by t q p
+    where
+      by : (t : Bool) → touched true (n .receiver .address) (addresses kind (n .modules)) i ≡ t
+          → getElem? (byteStep kind n (byteOf x (eqb mark 1)) .net .modules) i ≡ some (cond t (executed kind (frameIn (n .receiver) d) (servo, m)) (servo, m))
+          → Makes net i m (byte mark x room)
+      by true q p = (_, p, framed mark x room d goes (ap (λ (r : Received). r .answer) e) q)
+      by false q p = (m, p, same (byte mark x room) (λ d g a t. false≢true (sym q ∙ t)))
+
+  after-byte : (mark x : ℕ) (room : List ℕ) → Passes (byteTable net mark room) → (a : Answer) (r : Receiver) → taken (n .receiver) x (eqb mark 1) ≡ record { next = r; answer = a }
+      → Makes net i m (byte mark x room)
+  unfolding Makes
+  after-byte mark x room goes Nothing r e =
+      (m, ap (λ (s : Step Module). getElem? (s .net .modules) i) (step-on kind n (byteOf x (eqb mark 1)) r e) ∙ before, same (byte mark x room) (λ d g a t. none d (sym (ap (λ (r : Received). r .answer) e) ∙ a)))
+    where
+      none : (d : Bool) → Nothing ≡ Ended d → ⊥
+      none d q = let z : _≡_ {A = Bool} true false = cc in true≢false z
+  after-byte mark x room goes (Ended d) r e = after-frame mark x room goes d r e (touched true (n .receiver .address) (addresses kind (n .modules)) i) refl
+
+  -- a sample, of whatever type, for place i or another
+  sample-seen : (place : ℕ) (x : AnySample)
+      → getElem? (sampleStep place x n .modules) i ≡ some (cond (eqb i place) (kind .sample x (servo, m)) (servo, m))
+  sample-seen place x =
+      changed-at (kind .sample x) place (n .modules) i
+      ∙ ap (λ (o : Option Module). Option·map (λ (m : Module). cond (eqb i place) (kind .sample x m) m) o) before
+
+  after-sample : (c : Call) (place : ℕ) (x : Sample) → isTick c ≡ false → Silent net i c → (t : Bool)
+      → getElem? (event kind (does c) n .net .modules) i ≡ some (cond t (kind .sample (servo, x) (servo, m)) (servo, m)) → Makes net i m c
+  unfolding Makes
+  after-sample c place x e s true p = (sampled x m, p, measured c x (no-tick c e) s)
+  after-sample c place x e s false p = (m, p, same c s)
+
+  unmoved : (t : Bool) (o : Module) → cond t o o ≡ o
+  unmoved true o = refl
+  unmoved false o = refl
+
+  makes : (c : Call) → Passes (refusals net c) → Makes net i m c
+  unfolding Makes isTick
+  makes (byte mark x room) goes = after-byte mark x room goes (taken (n .receiver) x (eqb mark 1) .answer) (taken (n .receiver) x (eqb mark 1) .next) refl
+  makes (servoSample place raw power ad) goes =
+      after-sample (servoSample place raw power ad) place (record { raw = raw; power = power; ad = ad }) refl tt (eqb i place) (sample-seen place (servoSampleOf raw power ad))
+  makes (ioSample place inputs ad1 ad2 ad3 counter) goes =
+      (m, sample-seen place (ioSampleOf inputs ad1 ad2 ad3 counter) ∙ ap some (unmoved (eqb i place) (servo, m)), same (ioSample place inputs ad1 ad2 ad3 counter) tt)
+  makes tick goes = (ticked m, map-at (kind .tick) (n .modules) i ∙ ap (λ (o : Option Module). Option·map (kind .tick) o) before, timed)
+
+-- the servo that a call leaves, refused or not
+pub made : (net : List ℕ) (c : Call) (i : ℕ) (m : Servo) → Handed c → ValidRecord net → At net i m
+    → (k : Servo) × At (leaves net c) i k × Made net i m c k
+unfolding Makes
+made net c i m h v e = at (passes? (refusals net c))
+  where
+    at : Passes (refusals net c) ⊎ Refuses (refusals net c) → (k : Servo) × At (leaves net c) i k × Made net i m c k
+    at (inl p) =
+        let (k, q, d) = makes net i m e c p in
+        (k, ap (λ (n : Net Module). getElem? (n .modules) i) (passed-leaves net c h v p) ∙ q, d)
+    at (inr r) = (m, ap (λ (s : List ℕ). getElem? (netIn slots s .modules) i) (refused-leaves net c r) ∙ e, same c (refused-silent net i c r))
+
+-- ---- a module stays of its type
+
+abbrev tagIn : Option Module → Option ModuleType
+tagIn none = none
+tagIn (some m) = some (m .0)
+
+tag-mapped : (g : Module → Module) → ((m : Module) → g m .0 ≡ m .0) → (o : Option Module) → tagIn (Option·map g o) ≡ tagIn o
+tag-mapped g h none = refl
+tag-mapped g h (some m) = ap some (h m)
+
+abbrev tagAt : Net Module → ℕ → Option ModuleType
+tagAt n i = tagIn (getElem? (n .modules) i)
+
+either-tag : (t : Bool) (x y : Module) → x .0 ≡ y .0 → cond t x y .0 ≡ y .0
+either-tag true x y e = e
+either-tag false x y e = refl
+
+byte-tag : (n : Net Module) (b : Byte) (i : ℕ) (a : Answer) (r : Receiver) → taken (n .receiver) (b .value) (b .mark) ≡ record { next = r; answer = a }
+    → tagAt (byteStep kind n b .net) i ≡ tagAt n i
+byte-tag n b i Nothing r e = ap (λ (s : Step Module). tagAt (s .net) i) (step-on kind n b r e)
+byte-tag n b i (Ended d) r e =
+    let f : Frame = frameIn (n .receiver) d in
+    ap (λ (s : Step Module). tagAt (s .net) i) (step-end kind n b r d e)
+    ∙ ap tagIn (touched-before kind f (n .modules) i)
+    ∙ tag-mapped (λ m. cond (touched true (f .address) (addresses kind (n .modules)) i) (executed kind f m) m)
+    (λ m. either-tag (touched true (f .address) (addresses kind (n .modules)) i) (executed kind f m) m refl)
+    (getElem? (n .modules) i)
+
+sample-tag : (x : AnySample) (place : ℕ) (n : Net Module) (i : ℕ) → tagAt (sampleStep place x n) i ≡ tagAt n i
+sample-tag x place n i =
+    ap tagIn (changed-at (kind .sample x) place (n .modules) i)
+    ∙ tag-mapped (λ m. cond (eqb i place) (kind .sample x m) m) (λ m. either-tag (eqb i place) (kind .sample x m) m refl) (getElem? (n .modules) i)
+
+event-tag : (c : Call) (n : Net Module) (i : ℕ) → tagAt (event kind (does c) n .net) i ≡ tagAt n i
+event-tag (byte mark x room) n i = byte-tag n (byteOf x (eqb mark 1)) i (taken (n .receiver) x (eqb mark 1) .answer) (taken (n .receiver) x (eqb mark 1) .next) refl
+event-tag (servoSample place raw power ad) n i = sample-tag (servoSampleOf raw power ad) place n i
+event-tag (ioSample place inputs ad1 ad2 ad3 counter) n i = sample-tag (ioSampleOf inputs ad1 ad2 ad3 counter) place n i
+event-tag tick n i = ap tagIn (map-at (kind .tick) (n .modules) i) ∙ tag-mapped (kind .tick) (λ m. refl) (getElem? (n .modules) i)
+
+pub call-tag : (net : List ℕ) (c : Call) (i : ℕ) → Handed c → ValidRecord net → tagAt (netIn slots (leaves net c)) i ≡ tagAt (netIn slots net) i
+call-tag net c i h v = at (passes? (refusals net c))
+  where
+    at : Passes (refusals net c) ⊎ Refuses (refusals net c) → tagAt (netIn slots (leaves net c)) i ≡ tagAt (netIn slots net) i
+    at (inl p) = ap (λ (n : Net Module). tagAt n i) (passed-leaves net c h v p) ∙ event-tag c (netIn slots net) i
+    at (inr r) = ap (λ (s : List ℕ). tagAt (netIn slots s) i) (refused-leaves net c r)
+
+-- where a servo is after a call one was before it
+pub was-servo : (net : List ℕ) (c : Call) (i : ℕ) (k : Servo) → Handed c → ValidRecord net → At (leaves net c) i k → (m : Servo) × At net i m
+was-servo net c i k h v e = at (getElem? (netIn slots net .modules) i) refl (sym (call-tag net c i h v) ∙ ap tagIn e)
+  where
+    at : (o : Option Module) → getElem? (netIn slots net .modules) i ≡ o → tagIn o ≡ some servo → (m : Servo) × At net i m
+    at none q z = let y : _≡_ {A = Bool} true false = cc in absurd (true≢false y)
+    at (some (servo, m)) q z = (m, q)
+    at (some (inout, m)) q z = let y : _≡_ {A = Bool} true false = cc in absurd (true≢false y)
+
+-- ---- after setup every servo is as at power-up
+
+powered-is : (types : List ℕ) (i : ℕ) (k : Servo) → getElem? (map powered types) i ≡ some (servo, k) → started ≡ k
+powered-is [] i k e = let z : _≡_ {A = Bool} true false = cc in absurd (true≢false z)
+powered-is (n ∷ ns) zero k e = at (typeIn n) (ap servoIn e)
+  where
+    at : (t : ModuleType) → servoOf t (rulesOf t .started) ≡ some k → started ≡ k
+    at servo q = cc
+    at inout q = let z : _≡_ {A = Bool} true false = cc in absurd (true≢false z)
+powered-is (n ∷ ns) (suc i) k e = powered-is ns i k e
+
+pub set-up-is : (net types : List ℕ) (i : ℕ) (k : Servo) → Passes (setupTable net types) → At (setupRecord net types) i k → started ≡ k
+set-up-is net types i k p e = powered-is types i k (ap (λ (n : Net Module). getElem? (n .modules) i) (sym (holds .setup net types p)) ∙ e)

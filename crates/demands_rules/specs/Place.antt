@@ -1,0 +1,47 @@
+-- One place of a record through any calls: the servo that stands there after the first n of them, and the frames that it executed.
+use mathlib.Core.Path.{_≡_}
+use Prim.Native.Nat.{ℕ, suc, _<_, _≤_}
+use mathlib.Core.List.{List}
+use mathlib.Core.Bool.{true, false}
+use mathlib.Core.Option.{some}
+use lib.ListN.{getElem?, take}
+use lib.Dec.{eqb}
+use Rattle.line_receiver.specs.declared.Answer.the-variants.{Ended}
+use Rattle.line_receiver.specs.Receive.{taken}
+use Rattle.line_receiver.specs.Frames.{Frame, frameIn}
+use Rattle.chain_rules.specs.Chain.{addresses, touched}
+use Rattle.servo_rules.specs.declared.Servo.{Servo}
+use Rattle.types_rules.specs.Types.{kind, slots}
+use Rattle.net_rules.specs.Record.{netIn}
+use Rattle.api_rules.specs.Table.{byteTable}
+use Rattle.api_rules.specs.Promises.{Passes}
+use Rattle.demands_history_rules.specs.Calls.{Call, byte, leftBy}
+use Rattle.demands_rules.specs.Motion.{At}
+
+module _ (net : List ℕ) (cs : List Call) (i : ℕ) where
+  -- the record after the first n calls, and the servo at place i of it
+  abbrev pub after : ℕ → List ℕ
+  after n = leftBy (take n cs) net
+
+  abbrev pub Stands : ℕ → Servo → Type 0
+  Stands n m = At (after n) i m
+
+  -- call n ended the undamaged frame f, which touched place i, and the servo there executed it: its cause afterwards is 0
+  pub record Executed (n : ℕ) (f : Frame) : Type 0 where
+    pub mark : ℕ
+    pub value : ℕ
+    pub room : List ℕ
+    pub call : getElem? cs n ≡ some (byte mark value room)
+    pub done : Passes (byteTable (after n) mark room)
+    pub ended : taken (netIn slots (after n) .receiver) value (eqb mark 1) .answer ≡ Ended false
+    pub frame : f ≡ frameIn (netIn slots (after n) .receiver) false
+    pub touches : touched true (f .address) (addresses kind (netIn slots (after n) .modules)) i ≡ true
+    pub cause : (m : Servo) → Stands (suc n) m → m .station .cause ≡ 0
+
+  -- no frame such as P was executed here by a call after call a and before call b
+  abbrev pub None : (Frame → Type 0) → ℕ → ℕ → Type 0
+  None P a b = (j : ℕ) (f : Frame) → a < j → j < b → Executed j f → P f → ⊥
+
+  -- after every call from call a on, up to the first n, the servo is such as P
+  abbrev pub Since : ℕ → ℕ → (Servo → Type 0) → Type 0
+  Since a n P = (j : ℕ) (m : Servo) → a < j → j ≤ n → Stands j m → P m
