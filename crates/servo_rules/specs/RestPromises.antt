@@ -17,7 +17,7 @@ use Rattle.servo_rules.specs.declared.Sample.{Sample}
 use Rattle.servo_rules.specs.declared.Mode.{Mode}
 use Rattle.servo_rules.specs.declared.Mode.the-variants.{Velocity, Trapezoid}
 use Rattle.servo_rules.specs.declared.Servo.{Servo}
-use Rattle.servo_rules.specs.State.{position, started, sampled}
+use Rattle.servo_rules.specs.State.{position, servoOff, started, sampled}
 use Rattle.servo_rules.specs.Perform.{can}
 use Rattle.servo_rules.specs.Tick.{ticked}
 use Rattle.servo_rules.specs.Answers.{request, execute}
@@ -59,3 +59,13 @@ OnlyHere =
     → Counted m
     → ((a : Bool) (x : ℕ) → f .damaged ≡ false → request f alone ≡ wants (Stop a Here x) → can (Stop a Here x) m ≡ true → ⊥)
     → (following (execute f alone m) ≡ following m) ⊎ (following (execute f alone m) ≡ pos 0)
+
+-- A frame that turns the servo on, and is no executed Stop Here, puts the setpoint at the position, wherever it was before (01 Start, Stop).
+abbrev pub TurnsOnHere : Type 0
+TurnsOnHere =
+    (f : Frame) (alone : Bool) (m : Servo)
+    → Counted m
+    → ((a : Bool) (x : ℕ) → f .damaged ≡ false → request f alone ≡ wants (Stop a Here x) → can (Stop a Here x) m ≡ true → ⊥)
+    → servoOff (m .run .drive .mode) ≡ true
+    → servoOff (execute f alone m .run .drive .mode) ≡ false
+    → following (execute f alone m) ≡ pos 0
