@@ -1,9 +1,9 @@
 -- What is promised of a servo at rest (01 Tick, what motion is). Each is proved under its name, with small letters, in proofs/.
 use mathlib.Core.Path.{_≡_}
 use mathlib.Core.Logic.{_⊎_}
-use Prim.Native.Nat.{ℕ, _^_, _<_}
+use Prim.Native.Nat.{ℕ, _^_, _<_, _≤_}
 use mathlib.Core.Bool.{Bool, true, false}
-use lib.IntN.{ℤ, pos}
+use lib.IntN.{ℤ, pos, natAbs}
 use Rattle.base_integers.specs.Whole.{difference}
 use Rattle.line_receiver.specs.Frames.{Frame}
 use Rattle.module_rules.specs.Rules.{wants}
@@ -69,3 +69,9 @@ TurnsOnHere =
     → servoOff (m .run .drive .mode) ≡ true
     → servoOff (execute f alone m .run .drive .mode) ≡ false
     → following (execute f alone m) ≡ pos 0
+
+-- No frame raises a speed: only ticks do, toward what a start has given them (01 Tick).
+abbrev pub NoFrameRaises : Type 0
+NoFrameRaises =
+    (f : Frame) (alone : Bool) (m : Servo)
+    → natAbs (execute f alone m .run .profile .speed) ≤ natAbs (m .run .profile .speed)
