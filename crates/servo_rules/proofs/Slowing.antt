@@ -1,5 +1,4 @@
 -- No frame raises a speed: it stays as it was, or ends. Assumes nothing.
-use mathlib.Core.Path.{refl}
 use Prim.Native.Nat.{ℕ, _≤_, zero-le}
 use native.Mathlib.Nat.{le-refl}
 use lib.IntN.{pos, natAbs}
