@@ -17,7 +17,7 @@ use Rattle.servo_rules.specs.Carried.{isSet, needed, carriedAt, carriedI
 use Rattle.servo_rules.specs.BytePromises.{carrying, loadBytes, Fours, LoadParts, LoadCount}
 
 -- a bit is 0 or 1, and set or not accordingly
-set-bit : (k c n : ℕ) → cond (isSet k c) n 0 ≡ n * bit k c
+pub set-bit : (k c n : ℕ) → cond (isSet k c) n 0 ≡ n * bit k c
 set-bit k c n = at (bit k c) (omega arith)
   where
     at : (b : ℕ) → b < 2 → cond (eqb b 1) n 0 ≡ n * b

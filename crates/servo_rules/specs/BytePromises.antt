@@ -1,19 +1,24 @@
 -- What is promised of the data bytes of a servo's own commands: they are put together from parts that are free of each other, and what a
 -- servo then stores and does is said by those parts. Each is proved under its name, with small letters, in proofs/.
 use mathlib.Core.Path.{_≡_}
-use Prim.Native.Nat.{ℕ, _≤_}
+use Prim.Native.Nat.{ℕ, _+_, _≤_}
 use mathlib.Core.List.{List, [], _∷_, _++_}
 use mathlib.Core.Bool.{Bool, true, false, cond, _||_}
 use lib.ListN.{length, getD}
 use lib.IntN.{ℤ, pos, negℤ}
 use Rattle.base_layout.specs.Bytes.{ofLe}
 use Rattle.line_receiver.specs.Frames.{Frame}
+use Rattle.module_rules.specs.Rules.{malformed, wants}
 use Rattle.servo_motion.specs.Profile.{fastest}
+use Rattle.servo_rules.specs.declared.Halt.{Halt}
+use Rattle.servo_rules.specs.declared.Halt.the-variants.{Keep, Release, Abrupt, Smooth, Here}
+use Rattle.servo_rules.specs.declared.Order.the-variants.{Stop}
 use Rattle.servo_rules.specs.declared.Mode.the-variants.{Pwm, Velocity, Trapezoid}
 use Rattle.servo_rules.specs.declared.Way.the-variants.{Pulse, Speed, Move}
 use Rattle.servo_rules.specs.declared.Rates.{Rates}
 use Rattle.servo_rules.specs.declared.Servo.{Servo}
 use Rattle.servo_rules.specs.Carried.{isSet, needed}
+use Rattle.servo_rules.specs.Asks.{stopRequest}
 use Rattle.servo_rules.specs.Answers.{execute}
 
 -- what a bit of the control byte announces: these bytes, or none
@@ -114,3 +119,55 @@ LoadStarts =
     → isSet 7 control ≡ true
     → execute f alone m .station .cause ≡ 0
     → LoadBegun control p v a u m (execute f alone m)
+
+-- the bit of each kind of stop, and how many bytes stand behind the control byte
+abbrev pub stopBit : Halt → ℕ
+stopBit Keep = 0
+stopBit Release = 2
+stopBit Abrupt = 4
+stopBit Smooth = 8
+stopBit Here = 16
+
+abbrev pub behind : Halt → ℕ
+behind Keep = 0
+behind Release = 0
+behind Abrupt = 0
+behind Smooth = 0
+behind Here = 4
+
+-- the data bytes of a stop: the amplifier in bit 0 and the kind's own bit, and the position of Stop Here
+abbrev pub stopBytes : Bool → Halt → List ℕ → List ℕ
+stopBytes amplifier halt x = (stopBit halt + cond amplifier 1 0) ∷ x
+
+-- Such bytes are a Stop of this kind, and no others are one (01 Stop).
+pub record StopBytes : Type 0 where
+  pub taken : (amplifier : Bool) (halt : Halt) (x : List ℕ)
+      → length x ≡ behind halt
+      → stopRequest (stopBytes amplifier halt x) ≡ wants (Stop amplifier halt (ofLe x))
+  pub others : (ds : List ℕ)
+      → ((amplifier : Bool) (halt : Halt) (x : List ℕ) → length x ≡ behind halt → ds ≡ stopBytes amplifier halt x → ⊥)
+      → stopRequest ds ≡ malformed
+
+-- the data bytes of Set Gain: Kp, Kd, Ki, IL, OL, CL, EL, then SR 1, DB 0 and SM
+abbrev pub gainBytes : List ℕ → List ℕ → List ℕ → List ℕ → ℕ → ℕ → List ℕ → ℕ → List ℕ
+gainBytes kp kd ki il ol cl el sm = kp ++ kd ++ ki ++ il ++ ol ∷ cl ∷ [] ++ el ++ 1 ∷ 0 ∷ sm ∷ []
+
+-- an undamaged Set Gain of these bytes, with its values in range
+pub record GainFrame (kp kd ki il : List ℕ) (ol cl : ℕ) (el : List ℕ) (sm : ℕ) (f : Frame) : Type 0 where
+  pub sound : f .damaged ≡ false
+  pub code : f .code ≡ 6
+  pub content : f .content ≡ gainBytes kp kd ki il ol cl el sm
+  pub proportional : (length kp ≡ 2) × (ofLe kp ≤ 32767)
+  pub derivative : (length kd ≡ 2) × (ofLe kd ≤ 32767)
+  pub integral : (length ki ≡ 2) × (ofLe ki ≤ 32767)
+  pub limit : (length il ≡ 2) × (ofLe il ≤ 32767)
+  pub error : (length el ≡ 2) × (ofLe el ≤ 16383)
+
+-- Set Gain stores what its bytes say, at any servo (01 Set Gain).
+abbrev pub GainBytes : Type 0
+GainBytes =
+    (kp kd ki il : List ℕ) (ol cl : ℕ) (el : List ℕ) (sm : ℕ) (f : Frame) (alone : Bool) (m : Servo)
+    → GainFrame kp kd ki il ol cl el sm f
+    → (execute f alone m .station .cause ≡ 0)
+    × (execute f alone m .settings .tuning
+    ≡ record { gains = record { kp = ofLe kp; kd = ofLe kd; ki = ofLe ki; il = ofLe il; ol = ol; el = ofLe el }; cl = cl; sm = sm })
