@@ -2,7 +2,7 @@
 use mathlib.Core.Path.{_≡_, refl, sym, ap, ap₂, _∙_}
 use mathlib.Core.List.{List, [], _∷_}
 use mathlib.Core.Bool.{Bool, true, false, not, cond, _&&_, _||_}
-use Prim.Native.Nat.{ℕ, zero, suc, _+_, _*_, _/_, _%_, _^_, _<_, _≤_}
+use Prim.Native.Nat.{ℕ, zero, suc, _+_, _/_, _%_, _^_, _<_, _≤_}
 use native.Mathlib.Nat.{div-one}
 use native.Mathlib.Omega.{arith}
 use borrow.Author.Tests.{eqb-true, leb-true, le-leb, ne-eqb}
@@ -80,21 +80,19 @@ pub fit : Fit
 unfolding carriedIn gainsIn
 fit ds b =
     let c : ℕ = getD ds 0 0 in
-    let velocity : ℕ = 1 + 4 * bit 0 c in
-    let acceleration : ℕ = velocity + 4 * bit 1 c in
     record {
-      control = b 0;
-      place = or-none (2 ^ 32) (isSet 0 c) _ (omega arith) (four 1 ds b);
-      velocity = or-none (2 ^ 32) (isSet 1 c) _ (omega arith) (four velocity ds b);
-      acceleration = or-none (2 ^ 32) (isSet 2 c) _ (omega arith) (four acceleration ds b);
-      pulse = or-none 256 (isSet 3 c) _ (omega arith) (b (acceleration + 4 * bit 2 c));
-      kp = two 0 ds b;
-      kd = two 2 ds b;
-      ki = two 4 ds b;
-      il = two 6 ds b;
-      ol = b 8;
-      el = two 10 ds b;
-      cl = b 9;
-      sm = b 14;
+      control = b _;
+      place = or-none (2 ^ 32) (isSet 0 c) _ (omega arith) (four _ ds b);
+      velocity = or-none (2 ^ 32) (isSet 1 c) _ (omega arith) (four _ ds b);
+      acceleration = or-none (2 ^ 32) (isSet 2 c) _ (omega arith) (four _ ds b);
+      pulse = or-none 256 (isSet 3 c) _ (omega arith) (b _);
+      kp = two _ ds b;
+      kd = two _ ds b;
+      ki = two _ ds b;
+      il = two _ ds b;
+      ol = b _;
+      el = two _ ds b;
+      cl = b _;
+      sm = b _;
       halt = four 1 ds b;
     }

@@ -37,7 +37,7 @@ module _ (here : ℕ) (h : here < 2 ^ 32) where
   Beside before setpoint =
       (difference (whole setpoint) here ≡ difference (whole before) here) ⊎ (difference (whole setpoint) here ≡ pos 0)
 
-  at-here : difference (whole (setpointAt here)) here ≡ pos 0
+  pub at-here : difference (whole (setpointAt here)) here ≡ pos 0
   unfolding difference signed
   at-here = let w : whole (setpointAt here) ≡ here = omega arith in ap signed (ap (λ (w : ℕ). less w here) w ∙ less-self here h)
 

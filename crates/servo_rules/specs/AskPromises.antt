@@ -10,8 +10,10 @@ use Rattle.servo_motion.specs.Profile.{fastest}
 use Rattle.servo_filter.specs.declared.Gains.{Gains}
 use Rattle.servo_filter.specs.Promises.{Ranged}
 use Rattle.servo_rules.specs.declared.Carried.{Carried}
-use Rattle.servo_rules.specs.declared.Order.the-variants.{LoadTrajectory, SetGain, Stop}
-use Rattle.module_rules.specs.Rules.{malformed, wants}
+use Rattle.servo_rules.specs.declared.Order.{Order}
+use Rattle.servo_rules.specs.declared.Order.the-variants.{ResetPosition, LoadTrajectory, Start, SetGain, Stop, ClearBits}
+use Rattle.module_rules.specs.declared.Setting.the-variants.{Assign, Define, Rate, Nothing}
+use Rattle.module_rules.specs.Rules.{Request, malformed, set, reset, wants}
 use Rattle.servo_rules.specs.Carried.{isSet, needed, carriedIn, inRange}
 use Rattle.servo_rules.specs.Asks.{loadRequest, gainsIn, tuningIn, gainsFit, gainRequest, haltOf, oneHalt, stopCount, stopRequest}
 use Rattle.servo_rules.specs.Answers.{request}
@@ -69,6 +71,30 @@ pub record OneKind (control : ℕ) : Type 0 where
 
 abbrev pub OneHalt : Type 0
 OneHalt = (control : ℕ) → oneHalt control ≡ true → OneKind control
+
+-- with so many data bytes a frame asks this, with any other number it is malformed
+abbrev pub Line : ℕ → Request Order → Frame → Bool → Type 0
+Line count asks f alone =
+    (length (f .content) ≡ count → request f alone ≡ asks) × ((length (f .content) ≡ count → ⊥) → request f alone ≡ malformed)
+
+-- Each code with its count, and what it asks (01 Commands of both types, Servo). Load Trajectory, Set Gain and Stop look at their data, too.
+pub record Code (f : Frame) (alone : Bool) : Type 0 where
+  pub resetPosition : f .code ≡ 0 → Line 0 (wants ResetPosition) f alone
+  pub setAddress : f .code ≡ 1 → Line 2 (set (Assign (getD (f .content) 0 0) (getD (f .content) 1 0))) f alone
+  pub defineStatus : f .code ≡ 2 → Line 1 (set (Define (getD (f .content) 0 0))) f alone
+  pub readStatus : f .code ≡ 3 → Line 1 (set Nothing) f alone
+  pub load : f .code ≡ 4 → request f alone ≡ loadRequest (f .content)
+  pub start : f .code ≡ 5 → Line 0 (wants Start) f alone
+  pub setGain : f .code ≡ 6 → request f alone ≡ gainRequest (f .content)
+  pub stop : f .code ≡ 7 → request f alone ≡ stopRequest (f .content)
+  pub setBaud : f .code ≡ 10 → alone ≡ false → Line 1 (set (Rate (getD (f .content) 0 0))) f alone
+  pub baudAlone : f .code ≡ 10 → alone ≡ true → request f alone ≡ malformed
+  pub clearBits : f .code ≡ 11 → Line 0 (wants ClearBits) f alone
+  pub noOp : f .code ≡ 14 → Line 0 (set Nothing) f alone
+  pub hardReset : f .code ≡ 15 → Line 0 reset f alone
+
+abbrev pub Codes : Type 0
+Codes = (f : Frame) (alone : Bool) → Code f alone
 
 -- A frame with any other code than the twelve is malformed.
 abbrev pub Unknown : Type 0

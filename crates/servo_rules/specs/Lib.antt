@@ -6,6 +6,7 @@ pub mod Perform
 pub mod Tick
 pub mod Answers
 pub mod AskPromises
+pub mod BytePromises
 pub mod Promises
 pub mod LoadPromises
 pub mod StopPromises

@@ -1,9 +1,9 @@
 -- What is promised of a servo at rest (01 Tick, what motion is). Each is proved under its name, with small letters, in proofs/.
 use mathlib.Core.Path.{_≡_}
 use mathlib.Core.Logic.{_⊎_}
-use Prim.Native.Nat.{ℕ, _^_, _<_}
+use Prim.Native.Nat.{ℕ, _^_, _<_, _≤_}
 use mathlib.Core.Bool.{Bool, true, false}
-use lib.IntN.{ℤ, pos}
+use lib.IntN.{ℤ, pos, natAbs}
 use Rattle.base_integers.specs.Whole.{difference}
 use Rattle.line_receiver.specs.Frames.{Frame}
 use Rattle.module_rules.specs.Rules.{wants}
@@ -17,7 +17,7 @@ use Rattle.servo_rules.specs.declared.Sample.{Sample}
 use Rattle.servo_rules.specs.declared.Mode.{Mode}
 use Rattle.servo_rules.specs.declared.Mode.the-variants.{Velocity, Trapezoid}
 use Rattle.servo_rules.specs.declared.Servo.{Servo}
-use Rattle.servo_rules.specs.State.{position, started, sampled}
+use Rattle.servo_rules.specs.State.{position, servoOff, started, sampled}
 use Rattle.servo_rules.specs.Perform.{can}
 use Rattle.servo_rules.specs.Tick.{ticked}
 use Rattle.servo_rules.specs.Answers.{request, execute}
@@ -59,3 +59,19 @@ OnlyHere =
     → Counted m
     → ((a : Bool) (x : ℕ) → f .damaged ≡ false → request f alone ≡ wants (Stop a Here x) → can (Stop a Here x) m ≡ true → ⊥)
     → (following (execute f alone m) ≡ following m) ⊎ (following (execute f alone m) ≡ pos 0)
+
+-- A frame that turns the servo on, and is no executed Stop Here, puts the setpoint at the position, wherever it was before (01 Start, Stop).
+abbrev pub TurnsOnHere : Type 0
+TurnsOnHere =
+    (f : Frame) (alone : Bool) (m : Servo)
+    → Counted m
+    → ((a : Bool) (x : ℕ) → f .damaged ≡ false → request f alone ≡ wants (Stop a Here x) → can (Stop a Here x) m ≡ true → ⊥)
+    → servoOff (m .run .drive .mode) ≡ true
+    → servoOff (execute f alone m .run .drive .mode) ≡ false
+    → following (execute f alone m) ≡ pos 0
+
+-- No frame raises a speed: only ticks do, toward what a start has given them (01 Tick).
+abbrev pub NoFrameRaises : Type 0
+NoFrameRaises =
+    (f : Frame) (alone : Bool) (m : Servo)
+    → natAbs (execute f alone m .run .profile .speed) ≤ natAbs (m .run .profile .speed)
