@@ -11,7 +11,8 @@ use Rattle.line_receiver.specs.Frames.{Frame, frameIn}
 use Rattle.module_rules.specs.Touch.{individually}
 use Rattle.chain_rules.specs.Chain.{Net, addresses, touched}
 use Rattle.servo_rules.specs.declared.Servo.{Servo}
-use Rattle.servo_rules.specs.RestPromises.{Resting}
+use Rattle.servo_rules.specs.State.{sampled}
+use Rattle.servo_rules.specs.RestPromises.{Resting, following}
 use Rattle.servo_rules.proofs.AtRest.{stays-resting}
 use Rattle.servo_slot_rules.specs.Promises.{Fits}
 use Rattle.types_rules.specs.Table.{servo}
@@ -21,50 +22,53 @@ use Rattle.net_rules.specs.Calls.{byteOf}
 use Rattle.api_rules.specs.Promises.{ValidRecord}
 use Rattle.demands_history_rules.specs.Calls.{Call, byte, tick, Handed, AllHanded, leaves, leftBy}
 use Rattle.demands_history_rules.proofs.Calls.{call-kept}
-use Rattle.demands_rules.specs.Motion.{Moves, Bound, Begins, moving, bound, put, Starts, byStart, byLoad, byStopHere, At, LineStarts, CallStarts, EveryCall, StartedBy, Never}
+use Rattle.demands_rules.specs.Motion.{Moves, Bound, SetsOut, Begins, out, LoadStarts, byStart, byLoad, Starts, ofLoad, byStopHere, At, LineStarts, CallStarts, EveryCall, StartedBy, Never}
 use Rattle.demands_rules.proofs.Making.{same-place, fits-at, Made, same, framed, measured, timed, made, set-up-is}
-use Rattle.demands_rules.proofs.Motion.{resting-rests, rests-resting, frame-starts, frame-rests, ticked-bound, ticked-moves, ticked-rests, sampled-begins}
+use Rattle.demands_rules.proofs.Motion.{resting-rests, rests-resting, frame-sets-out, frame-starts, frame-rests, ticked-bound, ticked-moves, ticked-rests, nothing-begins}
 
 -- ---- what begins motion
 
--- where nothing that drives is changed nothing begins
-nothing-begins : (m : Servo) → Begins m m → ⊥
-nothing-begins m (moving n z) = n z
-nothing-begins m (bound n z) = n z
-nothing-begins m (put a z) = a refl
+load-undamaged : (f : Frame) (alone : Bool) (m : Servo) → LoadStarts f alone m → f .damaged ≡ false
+load-undamaged f alone m (byStart a s) = a .undamaged
+load-undamaged f alone m (byLoad c a e s) = a .undamaged
 
 undamaged : (f : Frame) (alone : Bool) (m : Servo) → Starts f alone m → f .damaged ≡ false
-undamaged f alone m (byStart a s) = a .undamaged
-undamaged f alone m (byLoad c a e s) = a .undamaged
+undamaged f alone m (ofLoad s) = load-undamaged f alone m s
 undamaged f alone m (byStopHere h x a r) = a .undamaged
 
 -- a frame that starts the servo that it touches was undamaged
-line-starts : (n : Net Module) (i : ℕ) (m : Servo) (mark x : ℕ) (d : Bool)
+line-starts : (Such : Frame → Bool → Servo → Type 0) → ((f : Frame) (alone : Bool) (m : Servo) → Such f alone m → f .damaged ≡ false)
+    → (n : Net Module) (i : ℕ) (m : Servo) (mark x : ℕ) (d : Bool)
     → taken (n .receiver) x (eqb mark 1) .answer ≡ Ended d
     → touched true (n .receiver .address) (addresses kind (n .modules)) i ≡ true
-    → Starts (frameIn (n .receiver) d) (individually (n .receiver .address) (m .station .address)) m
-    → LineStarts n (byteOf x (eqb mark 1)) i m
-line-starts n i m mark x d e t s =
-    let u : d ≡ false = undamaged (frameIn (n .receiver) d) _ m s in
+    → Such (frameIn (n .receiver) d) (individually (n .receiver .address) (m .station .address)) m
+    → LineStarts Such n (byteOf x (eqb mark 1)) i m
+line-starts Such whole n i m mark x d e t s =
+    let u : d ≡ false = whole (frameIn (n .receiver) d) _ m s in
     record {
       ended = e ∙ ap Ended u;
       touches = t;
-      starts = subst (λ (d : Bool). Starts (frameIn (n .receiver) d) (individually (n .receiver .address) (m .station .address)) m) u s;
+      starts = subst (λ (d : Bool). Such (frameIn (n .receiver) d) (individually (n .receiver .address) (m .station .address)) m) u s;
     }
 
 command : (net : List ℕ) (c : Call) (i : ℕ) (m k : Servo) → Handed c → ValidRecord net → At net i m → At (leaves net c) i k
-    → (c ≡ tick → ⊥) → Begins m k → CallStarts net i m c
-command net c i m k h v e q n b =
+    → (c ≡ tick → ⊥) → (Begins m k → CallStarts Starts net i m c) × (SetsOut m k → CallStarts LoadStarts net i m c)
+command net c i m k h v e q n =
     let (k′, q′, d) = made net c i m h v e in
-    let z : k ≡ k′ = same-place (netIn slots (leaves net c) .modules) i k k′ q q′ in
-    by c k′ d n (subst (Begins m) z b)
+    let z : k′ ≡ k = same-place (netIn slots (leaves net c) .modules) i k′ k q′ q in
+    subst (λ (k : Servo). (Begins m k → CallStarts Starts net i m c) × (SetsOut m k → CallStarts LoadStarts net i m c)) z (by c k′ d n)
   where
-    by : (c : Call) (k : Servo) → Made net i m c k → (c ≡ tick → ⊥) → Begins m k → CallStarts net i m c
-    by _ _ (same c _) n b = absurd (nothing-begins m b)
-    by _ _ (framed mark x room d goes a t) n b =
-        (goes, line-starts (netIn slots net) i m mark x d a t (frame-starts _ _ m (fits-at net i m v e) b))
-    by _ _ (measured c x u _) n b = absurd (sampled-begins x m b)
-    by _ _ timed n b = absurd (n refl)
+    none : (k : Servo) {A B : Type 0} → k .run ≡ m .run → following k ≡ following m → (Begins m k → A) × (SetsOut m k → B)
+    none k r f = (λ b. absurd (nothing-begins m k r f b), λ b. absurd (nothing-begins m k r f (out b)))
+
+    by : (c : Call) (k : Servo) → Made net i m c k → (c ≡ tick → ⊥) → (Begins m k → CallStarts Starts net i m c) × (SetsOut m k → CallStarts LoadStarts net i m c)
+    by _ _ (same c _) n = none m refl refl
+    by _ _ (framed mark x room d goes a t) n = (
+      λ b. (goes, line-starts Starts undamaged (netIn slots net) i m mark x d a t (frame-starts _ _ m (fits-at net i m v e) b)),
+      λ b. (goes, line-starts LoadStarts load-undamaged (netIn slots net) i m mark x d a t (frame-sets-out _ _ m (fits-at net i m v e) b)),
+    )
+    by _ _ (measured c x u _) n = none (sampled x m) refl refl
+    by _ _ timed n = absurd (n refl)
 
 tick-call : (net : List ℕ) (i : ℕ) (m k : Servo) → ValidRecord net → At net i m → At (leaves net tick) i k
     → ((Moves m → ⊥) → Moves k → Bound m) × (Bound k → Bound m)
@@ -91,13 +95,13 @@ every-call = record {
 -- ---- histories of calls
 
 -- at rest a servo stays, unless the call starts it
-stays : (net : List ℕ) (c : Call) (i : ℕ) (m k : Servo) → Fits m → Resting m → Made net i m c k → CallStarts net i m c ⊎ Resting k
+stays : (net : List ℕ) (c : Call) (i : ℕ) (m k : Servo) → Fits m → Resting m → Made net i m c k → CallStarts LoadStarts net i m c ⊎ Resting k
 stays net _ i m _ t r (same c _) = inr r
 stays net _ i m _ t r (framed mark x room d goes a u) = at (frame-rests (frameIn (netIn slots net .receiver) d) _ m t r)
   where
-    at : {A : Type 0} → Starts (frameIn (netIn slots net .receiver) d) (individually (netIn slots net .receiver .address) (m .station .address)) m ⊎ A
-        → CallStarts net i m (byte mark x room) ⊎ A
-    at (inl s) = inl (goes, line-starts (netIn slots net) i m mark x d a u s)
+    at : {A : Type 0} → LoadStarts (frameIn (netIn slots net .receiver) d) (individually (netIn slots net .receiver .address) (m .station .address)) m ⊎ A
+        → CallStarts LoadStarts net i m (byte mark x room) ⊎ A
+    at (inl s) = inl (goes, line-starts LoadStarts load-undamaged (netIn slots net) i m mark x d a u s)
     at (inr z) = inr z
 stays net _ i m _ t r (measured c x u _) = inr (stays-resting .sampling x m r)
 stays net _ i m _ t r timed = inr (ticked-rests m t r)
@@ -122,7 +126,7 @@ rests-on net (c ∷ cs) i m k v h e q r n =
     at (stays net c i m m′ (fits-at net i m v e) r d)
     (λ z. rests-on (leaves net c) cs i m′ k (call-kept net c (h .0) v) (h .1) e′ q z n)
   where
-    at : {A : Type 0} → CallStarts net i m c ⊎ A → (A → StartedBy cs (leaves net c) i) → StartedBy (c ∷ cs) net i
+    at : {A : Type 0} → CallStarts LoadStarts net i m c ⊎ A → (A → StartedBy cs (leaves net c) i) → StartedBy (c ∷ cs) net i
     at (inl s) g = record { before = []; call = c; later = cs; servo = m; split = refl; here = e; starts = s }
     at (inr z) g = later-start c cs net i (g z)
 

@@ -5,8 +5,10 @@ use mathlib.Core.List.{List, [], _∷_, _++_, append-nil}
 use mathlib.Core.Bool.{true, false}
 use mathlib.Core.Option.{some}
 use Prim.Native.Nat.{ℕ, _+_, _≤_}
+use native.Mathlib.Nat.{le-refl}
 use native.Mathlib.Omega.{arith}
 use lib.Count.{ones}
+use lib.Seq.{take-all}
 use lib.ListN.{length, replicate, length-replicate, getElem?}
 use lib.IntN.{ℤ, pos, natAbs}
 use Rattle.base_integers.specs.Whole.{same, signed, difference}
@@ -20,7 +22,7 @@ use Rattle.servo_motion.specs.Setpoint.{distance, moved}
 use Rattle.servo_motion.specs.Velocity.{toward}
 use Rattle.servo_motion.specs.Profile.{trapezoid, stepped, byTrapezoid, byVelocity}
 use Rattle.servo_filter.specs.Filter.{filtered}
-use Rattle.servo_rules.specs.declared.Mode.the-variants.{Velocity, Trapezoid}
+use Rattle.servo_rules.specs.declared.Mode.the-variants.{Pwm, Velocity, Trapezoid}
 use Rattle.servo_rules.specs.declared.Servo.{Servo}
 use Rattle.servo_rules.specs.Carried.{needed, carriedIn, inRange}
 use Rattle.servo_rules.specs.Asks.{loadRequest, haltOf, stopRequest, own}
@@ -45,9 +47,11 @@ use Rattle.demands_history_rules.specs.Events as Events
 use Rattle.demands_history_rules.specs.Calls.{Call, byte, servoSample, tick, AllHanded, refusals, leaves, leftBy, doneBy}
 use Rattle.demands_history_rules.proofs.Singly.{run-singly}
 use Rattle.demands_history_rules.proofs.Calls.{call-kept}
-use Rattle.demands_rules.specs.Motion.{Moves, AtRest, Begins, moving, bound, put, Starts, At, StartedBy, short, fed}
+use Rattle.demands_rules.specs.Motion.{Moves, AtRest, moving, bound, Begins, out, put, turnedOn, Starts, At, StartedBy, short, fed}
 use Rattle.demands_rules.proofs.Calls.{from-setup, any-calls, done-passed}
+use Rattle.demands_rules.specs.Sent.{PulseSent}
 use Rattle.demands_rules.proofs.Motion.{resting-rests, frame-starts}
+use Rattle.demands_rules.proofs.Sent.{what-moves-was-sent}
 use Rattle.demands_rules.proofs.EveryCall.{every-call, never}
 use Rattle.demands_rules.proofs.OnTheLine.{small, fed-handed, fed-done, question-on-the-line}
 
@@ -106,17 +110,21 @@ rests = resting-rests awake (record { speed = refl; pulse = refl; aim = λ e. re
 -- each of the three begins motion
 pub by-start : Begins (execute pulse true awake) (execute go true (execute pulse true awake))
 unfolding Any.execute Any.request asked own ticked ran loadRequest carriedIn inRange loaded loadOf wayOf startable complete start idled signedBy ones
-by-start = moving (still (execute pulse true awake) refl refl) (inr (some-number 99 _ refl))
+by-start = out (moving (still (execute pulse true awake) refl refl) (inr (some-number 99 _ refl)))
 
 pub by-load : Begins awake (execute speed true awake)
 unfolding Any.execute Any.request asked own ticked loadRequest carriedIn inRange loaded loadOf ratesOf wayOf startable complete start toSpeed signedBy ones
-by-load = bound (rests .1) (inl (refl, some-number 99 _ refl))
+by-load = out (bound (rests .1) (inl (refl, some-number 99 _ refl)))
 
 pub by-stop-here : Begins awake (execute here true awake)
 unfolding Any.execute Any.request asked own ticked ran stopRequest haltOf stopped holding difference signed ones
 by-stop-here =
     let e : following (execute here true awake) ≡ pos 100 = refl in
     put (some-number 99 _ e) (some-number 99 _ e)
+
+pub by-turning-on : Begins awake (execute here true awake)
+unfolding Any.execute Any.request asked own ticked ran stopRequest haltOf stopped holding difference signed ones
+by-turning-on = turnedOn refl refl (some-number 99 _ refl)
 
 pub starts : Starts speed true awake
 starts = frame-starts speed true awake awake-fits by-load
@@ -252,6 +260,17 @@ started-rests = every-call .setup zeros types 0 started set-up at-power-up
 
 pub was-started : StartedBy calls lent 0
 was-started = never lent calls 0 started gone valid are-handed at-power-up ends-moving started-rests (λ r. r .0 gone-moves)
+
+-- and what moves was sent
+gone-pulses : gone .run .drive .mode ≡ Pwm
+unfolding Any.execute Any.request asked own ticked loadRequest carriedIn inRange loaded loadOf wayOf startable complete start idled signedBy ones
+gone-pulses = refl
+
+pub was-sent : PulseSent lent calls 0 (length calls)
+was-sent =
+    what-moves-was-sent zeros types calls 0 (length calls) gone set-up are-handed (le-refl (length calls))
+    (ap (λ (cs : List Call). getElem? (netIn slots (leftBy cs lent) .modules) 0) (take-all (length calls) calls (le-refl (length calls))) ∙ ends-moving)
+    .pulse gone-pulses
 
 -- ---- a frame that the host can write
 

@@ -22,12 +22,11 @@ use Rattle.servo_rules.specs.declared.Halt.{Halt}
 use Rattle.servo_rules.specs.declared.Halt.the-variants.{Keep, Release, Abrupt, Smooth, Here}
 use Rattle.servo_rules.specs.declared.Order.{Order}
 use Rattle.servo_rules.specs.declared.Order.the-variants.{ResetPosition, LoadTrajectory, Start, SetGain, Stop, ClearBits}
-use Rattle.servo_rules.specs.declared.Sample.{Sample}
 use Rattle.servo_rules.specs.declared.Mode.{Mode}
 use Rattle.servo_rules.specs.declared.Mode.the-variants.{Off, Pwm, Hold, Velocity, Trapezoid}
 use Rattle.servo_rules.specs.declared.Run.{Run}
 use Rattle.servo_rules.specs.declared.Servo.{Servo}
-use Rattle.servo_rules.specs.State.{position, servoOff, withStation, withProfile, sampled, idled, off}
+use Rattle.servo_rules.specs.State.{position, servoOff, withStation, withProfile, idled, off}
 use Rattle.servo_rules.specs.Loads.{loaded, startsNow, start, toSpeed}
 use Rattle.servo_rules.specs.Perform.{resetPosition, shifted, holding, smooth, haltedBy, stopped, can, perform}
 use Rattle.servo_rules.specs.Tick.{unpowered, advancedBy, advanced, tripped, pulsed, ticked}
@@ -44,11 +43,12 @@ use Rattle.servo_rules.proofs.Shifting.{resets-position}
 use Rattle.servo_rules.proofs.Ends.{tick-ends}
 use Rattle.servo_rules.proofs.AtRest.{stays-resting}
 use Rattle.servo_rules.proofs.Placing.{only-here}
+use Rattle.servo_rules.proofs.TurningOn.{turns-on-here}
 use Rattle.servo_slot_rules.specs.Promises.{Fits}
 use Rattle.servo_slot_rules.proofs.Good.{InMode, good}
 use Rattle.types_rules.specs.Table.{servo}
 use Rattle.types_rules.proofs.Promised.{every-type}
-use Rattle.demands_rules.specs.Motion.{Moves, Bound, AtRest, Begins, moving, bound, put, Asks, Starts, byStart, byLoad, byStopHere, StartsAreExecuted}
+use Rattle.demands_rules.specs.Motion.{Moves, Bound, AtRest, SetsOut, moving, bound, Begins, out, put, turnedOn, Asks, LoadStarts, byStart, byLoad, Starts, ofLoad, byStopHere, StartsAreExecuted}
 use Rattle.demands_rules.proofs.Asking.{Evident, evident}
 
 -- the servos that a slot can hold have counts within their bytes
@@ -135,10 +135,6 @@ bound? m = at (m .run .drive .mode) refl
 
 -- ---- which frames are one of the three
 
--- an order that is none of the three
-abbrev Quiet : Order → Type 0
-Quiet c = (Starting c → ⊥) × ((a : Bool) (x : ℕ) → c ≡ Stop a Here x → ⊥)
-
 abbrev isHere : Halt → Bool
 isHere Keep = false
 isHere Release = false
@@ -146,16 +142,13 @@ isHere Abrupt = false
 isHere Smooth = false
 isHere Here = true
 
-abbrev stopsHere : Order → Bool
-stopsHere ResetPosition = false
-stopsHere (LoadTrajectory c) = false
-stopsHere Start = false
-stopsHere (SetGain t) = false
-stopsHere (Stop a h x) = isHere h
-stopsHere ClearBits = false
-
-no-here : (c : Order) → stopsHere c ≡ false → (a : Bool) (x : ℕ) → c ≡ Stop a Here x → ⊥
-no-here c n a x e = false≢true (sym n ∙ ap stopsHere e)
+abbrev StopsHere : Order → Type 0
+StopsHere ResetPosition = ⊥
+StopsHere (LoadTrajectory c) = ⊥
+StopsHere Start = ⊥
+StopsHere (SetGain t) = ⊥
+StopsHere (Stop a h x) = isHere h ≡ true
+StopsHere ClearBits = ⊥
 
 abbrev orderIn : Request Order → Order
 orderIn malformed = Start
@@ -170,55 +163,75 @@ isWanted reset = false
 isWanted (wants c) = true
 
 module _ (f : Frame) (alone : Bool) (m : Servo) where
-  abbrev Unstarted : Type 0
-  Unstarted = (c : Order) → f .damaged ≡ false → request f alone ≡ wants c → can c m ≡ true → Quiet c
+  -- the frame is an order that is carried out
+  abbrev Obeyed : Order → Type 0
+  Obeyed c = (f .damaged ≡ false) × (request f alone ≡ wants c) × (can c m ≡ true)
+
+  -- no order such as P is carried out
+  abbrev None : (Order → Type 0) → Type 0
+  None P = (c : Order) → Obeyed c → P c → ⊥
+
+  -- what every order such as P brings, if it is carried out, or there is none
+  found : (P : Order → Type 0) (S : Type 0) → ((c : Order) → Obeyed c → S ⊎ (P c → ⊥)) → S ⊎ None P
+  found P S h = at (f .damaged) refl (request f alone) refl
+    where
+      known : (c : Order) → request f alone ≡ wants c → S ⊎ (P c → ⊥) → S ⊎ None P
+      known c e (inl s) = inl s
+      known c e (inr n) = inr (λ b o z. n (subst P (ap orderIn (sym (o .1) ∙ e)) z))
+
+      able : (c : Order) → f .damaged ≡ false → request f alone ≡ wants c → (t : Bool) → can c m ≡ t → S ⊎ None P
+      able c d e true t = known c e (h c (d, e, t))
+      able c d e false t = inr (λ b o z. false≢true (sym t ∙ ap (λ (c : Order). can c m) (ap orderIn (sym e ∙ o .1)) ∙ o .2))
+
+      none : (q : Request Order) → request f alone ≡ q → isWanted q ≡ false → S ⊎ None P
+      none q e n = inr (λ c o z. false≢true (sym n ∙ ap isWanted (sym e ∙ o .1)))
+
+      at : (d : Bool) → f .damaged ≡ d → (q : Request Order) → request f alone ≡ q → S ⊎ None P
+      at true d q e = inr (λ c o z. true≢false (sym d ∙ o .0))
+      at false d malformed e = none malformed e refl
+      at false d (set s) e = none (set s) e refl
+      at false d reset e = none reset e refl
+      at false d (wants c) e = able c d e (can c m) refl
 
   asks : {code count : ℕ} {c : Order} → f .damaged ≡ false → f .code ≡ code → length (f .content) ≡ count → request f alone ≡ wants c
       → Asks f alone code count c
   asks d k n q = record { undamaged = d; named = k; whole = n; order = q }
 
-  by-order : (c : Order) → f .damaged ≡ false → request f alone ≡ wants c → can c m ≡ true → Starts f alone m ⊎ Quiet c
-  by-order ResetPosition d q t = inr (λ s. s, no-here ResetPosition refl)
-  by-order (LoadTrajectory c) d q t = at (startsNow c) refl
+  load-starts? : LoadStarts f alone m ⊎ None Starting
+  load-starts? = found Starting (LoadStarts f alone m) by
     where
-      at : (s : Bool) → startsNow c ≡ s → Starts f alone m ⊎ Quiet (LoadTrajectory c)
-      at true e =
+      by : (c : Order) → Obeyed c → LoadStarts f alone m ⊎ (Starting c → ⊥)
+      by ResetPosition o = inr (λ s. s)
+      by (LoadTrajectory c) (d, q, t) = at (startsNow c) refl
+        where
+          at : (s : Bool) → startsNow c ≡ s → LoadStarts f alone m ⊎ (Starting (LoadTrajectory c) → ⊥)
+          at true e =
+              let v = subst (Evident (f .code) (f .content)) q (evident f alone) in
+              inl (byLoad c (asks d (v .0) (v .1) q) e (starts (loaded c m) .0 (sym (start-now c m .now e) ∙ t)))
+          at false e = inr (λ s. false≢true (sym e ∙ s))
+      by Start (d, q, t) =
           let v = subst (Evident (f .code) (f .content)) q (evident f alone) in
-          inl (byLoad c (asks d (v .0) (v .1) q) e (starts (loaded c m) .0 (sym (start-now c m .now e) ∙ t)))
-      at false e = inr (λ s. false≢true (sym e ∙ s), no-here (LoadTrajectory c) refl)
-  by-order Start d q t =
-      let v = subst (Evident (f .code) (f .content)) q (evident f alone) in
-      inl (byStart (asks d (v .0) (v .1) q) (starts m .0 t))
-  by-order (SetGain g) d q t = inr (λ s. s, no-here (SetGain g) refl)
-  by-order (Stop a Here x) d q t =
-      let v = subst (Evident (f .code) (f .content)) q (evident f alone) refl in
-      inl (byStopHere a x (asks d (v .0) (v .1) q) (stops-now a x m .here .0 t))
-  by-order (Stop a Keep x) d q t = inr (λ s. s, no-here (Stop a Keep x) refl)
-  by-order (Stop a Release x) d q t = inr (λ s. s, no-here (Stop a Release x) refl)
-  by-order (Stop a Abrupt x) d q t = inr (λ s. s, no-here (Stop a Abrupt x) refl)
-  by-order (Stop a Smooth x) d q t = inr (λ s. s, no-here (Stop a Smooth x) refl)
-  by-order ClearBits d q t = inr (λ s. s, no-here ClearBits refl)
+          inl (byStart (asks d (v .0) (v .1) q) (starts m .0 t))
+      by (SetGain g) o = inr (λ s. s)
+      by (Stop a h x) o = inr (λ s. s)
+      by ClearBits o = inr (λ s. s)
 
-  starts? : Starts f alone m ⊎ Unstarted
-  starts? = at (f .damaged) refl (request f alone) refl
+  stops-here? : Starts f alone m ⊎ None StopsHere
+  stops-here? = found StopsHere (Starts f alone m) by
     where
-      known : (c : Order) → request f alone ≡ wants c → Starts f alone m ⊎ Quiet c → Starts f alone m ⊎ Unstarted
-      known c e (inl s) = inl s
-      known c e (inr y) = inr (λ b d q t. subst Quiet (ap orderIn (sym e ∙ q)) y)
-
-      able : (c : Order) → f .damaged ≡ false → request f alone ≡ wants c → (t : Bool) → can c m ≡ t → Starts f alone m ⊎ Unstarted
-      able c d e true t = known c e (by-order c d e t)
-      able c d e false t = inr (λ b g q u. absurd (false≢true (sym t ∙ ap (λ (c : Order). can c m) (ap orderIn (sym e ∙ q)) ∙ u)))
-
-      none : (q : Request Order) → request f alone ≡ q → isWanted q ≡ false → Starts f alone m ⊎ Unstarted
-      none q e n = inr (λ c g r t. absurd (false≢true (sym n ∙ ap isWanted (sym e ∙ r))))
-
-      at : (d : Bool) → f .damaged ≡ d → (q : Request Order) → request f alone ≡ q → Starts f alone m ⊎ Unstarted
-      at true d q e = inr (λ c g r t. absurd (true≢false (sym d ∙ g)))
-      at false d malformed e = none malformed e refl
-      at false d (set s) e = none (set s) e refl
-      at false d reset e = none reset e refl
-      at false d (wants c) e = able c d e (can c m) refl
+      by : (c : Order) → Obeyed c → Starts f alone m ⊎ (StopsHere c → ⊥)
+      by ResetPosition o = inr (λ s. s)
+      by (LoadTrajectory c) o = inr (λ s. s)
+      by Start o = inr (λ s. s)
+      by (SetGain g) o = inr (λ s. s)
+      by (Stop a Here x) (d, q, t) =
+          let v = subst (Evident (f .code) (f .content)) q (evident f alone) refl in
+          inl (byStopHere a x (asks d (v .0) (v .1) q) (stops-now a x m .here .0 t))
+      by (Stop a Keep x) o = inr false≢true
+      by (Stop a Release x) o = inr false≢true
+      by (Stop a Abrupt x) o = inr false≢true
+      by (Stop a Smooth x) o = inr false≢true
+      by ClearBits o = inr (λ s. s)
 
 -- ---- what no other order begins
 
@@ -288,42 +301,55 @@ frame-back : (P : Servo → Type 0) (f : Frame) (alone : Bool) (m : Servo)
     → ((s : Station) → P (withStation s m) → P m)
     → (P (withCause 0 (Answers.servo .renewed m)) → P m)
     → ((c : Order) → (Starting c → ⊥) → P (withCause 0 (perform c m)) → P m)
-    → Unstarted f alone m
+    → None f alone m Starting
     → P (execute f alone m) → P m
 frame-back P f alone m w r o u =
-    leaves (λ (k : Servo). P k → P m) f alone m (record { kept = w; renewed = λ d q. r; performed = λ c d q t. o c (u c d q t .0) })
+    leaves (λ (k : Servo). P k → P m) f alone m (record { kept = w; renewed = λ d q. r; performed = λ c d q t. o c (u c (d, q, t)) })
 
-frame-moves : (f : Frame) (alone : Bool) (m : Servo) → Unstarted f alone m → Moves (execute f alone m) → Moves m
+frame-moves : (f : Frame) (alone : Bool) (m : Servo) → None f alone m Starting → Moves (execute f alone m) → Moves m
 frame-moves f alone m u z =
     frame-back Moves f alone m (λ s z. z) (gone (m .run) (Answers.servo .renewed m .run) refl refl) (λ c s. order-moves c m s) u z
 
-frame-bound : (f : Frame) (alone : Bool) (m : Servo) → Fits m → Unstarted f alone m → Bound (execute f alone m) → Bound m
+frame-bound : (f : Frame) (alone : Bool) (m : Servo) → Fits m → None f alone m Starting → Bound (execute f alone m) → Bound m
 frame-bound f alone m t u b =
     frame-back Bound f alone m (λ s z. z)
     (λ z. absurd (mode-unbound Off refl refl (Answers.servo .renewed m .run) refl z))
     (λ c s. order-bound c m (counted m t) s) u b
 
--- a frame that begins motion is one of the three
-pub frame-starts : (f : Frame) (alone : Bool) (m : Servo) → Fits m → Begins m (execute f alone m) → Starts f alone m
-frame-starts f alone m t b = at (starts? f alone m)
+-- a frame that sets a servo out starts a load
+pub frame-sets-out : (f : Frame) (alone : Bool) (m : Servo) → Fits m → SetsOut m (execute f alone m) → LoadStarts f alone m
+frame-sets-out f alone m t b = at (load-starts? f alone m)
   where
-    none : Unstarted f alone m → Begins m (execute f alone m) → ⊥
+    none : None f alone m Starting → SetsOut m (execute f alone m) → ⊥
     none u (moving n z) = n (frame-moves f alone m u z)
     none u (bound n z) = n (frame-bound f alone m t u z)
-    none u (put a z) = by (only-here f alone m (counted m t) (λ h x d q k. u (Stop h Here x) d q k .1 h x refl))
-      where
-        by : (following (execute f alone m) ≡ following m) ⊎ (following (execute f alone m) ≡ pos 0) → ⊥
-        by (inl e) = a e
-        by (inr e) = z e
 
-    at : Starts f alone m ⊎ Unstarted f alone m → Starts f alone m
+    at : LoadStarts f alone m ⊎ None f alone m Starting → LoadStarts f alone m
     at (inl s) = s
     at (inr u) = absurd (none u b)
 
+-- a frame that begins motion is one of the three
+pub frame-starts : (f : Frame) (alone : Bool) (m : Servo) → Fits m → Begins m (execute f alone m) → Starts f alone m
+frame-starts f alone m t (out b) = ofLoad (frame-sets-out f alone m t b)
+frame-starts f alone m t (put a z) = at (stops-here? f alone m)
+  where
+    by : (following (execute f alone m) ≡ following m) ⊎ (following (execute f alone m) ≡ pos 0) → ⊥
+    by (inl e) = a e
+    by (inr e) = z e
+
+    at : Starts f alone m ⊎ None f alone m StopsHere → Starts f alone m
+    at (inl s) = s
+    at (inr u) = absurd (by (only-here f alone m (counted m t) (λ h x d q k. u (Stop h Here x) (d, q, k) refl)))
+frame-starts f alone m t (turnedOn a b z) = at (stops-here? f alone m)
+  where
+    at : Starts f alone m ⊎ None f alone m StopsHere → Starts f alone m
+    at (inl s) = s
+    at (inr u) = absurd (z (turns-on-here f alone m (counted m t) (λ h x d q k. u (Stop h Here x) (d, q, k) refl) a b))
+
 pub starts-are-executed : StartsAreExecuted
-starts-are-executed f alone m (byStart a s) =
+starts-are-executed f alone m (ofLoad (byStart a s)) =
     ap (λ (k : Servo). k .station .cause) (every-type servo .cause f alone m .executed Start (a .undamaged) (a .order) (starts m .1 s))
-starts-are-executed f alone m (byLoad c a e s) =
+starts-are-executed f alone m (ofLoad (byLoad c a e s)) =
     ap (λ (k : Servo). k .station .cause)
     (every-type servo .cause f alone m .executed (LoadTrajectory c) (a .undamaged) (a .order) (start-now c m .now e ∙ starts (loaded c m) .1 s))
 starts-are-executed f alone m (byStopHere h x a r) =
@@ -370,15 +396,17 @@ module _ (m : Servo) (t : Fits m) where
       at (inl b) = b
       at (inr u) = absurd (rests-still (ticked m) (ticked-rests (rests-resting m (n, u))) z)
 
-pub sampled-begins : (x : Sample) (m : Servo) → Begins m (sampled x m) → ⊥
-sampled-begins x m (moving n z) = n z
-sampled-begins x m (bound n z) = n z
-sampled-begins x m (put a z) = a refl
+-- a sample begins nothing, and no more does what leaves all as it was
+pub nothing-begins : (m k : Servo) → k .run ≡ m .run → following k ≡ following m → Begins m k → ⊥
+nothing-begins m k e q (out (moving n z)) = n (subst Goes e z)
+nothing-begins m k e q (out (bound n z)) = n (subst Aims e z)
+nothing-begins m k e q (put a z) = a q
+nothing-begins m k e q (turnedOn a b z) = true≢false (sym a ∙ ap (λ (r : Run). servoOff (r .drive .mode)) (sym e) ∙ b)
 
--- at rest a servo stays, whatever frame comes, unless it is one of the three
-pub frame-rests : (f : Frame) (alone : Bool) (m : Servo) → Fits m → Resting m → Starts f alone m ⊎ Resting (execute f alone m)
-frame-rests f alone m t r = at (starts? f alone m)
+-- at rest a servo stays, whatever frame comes, unless it starts a load
+pub frame-rests : (f : Frame) (alone : Bool) (m : Servo) → Fits m → Resting m → LoadStarts f alone m ⊎ Resting (execute f alone m)
+frame-rests f alone m t r = at (load-starts? f alone m)
   where
-    at : Starts f alone m ⊎ Unstarted f alone m → Starts f alone m ⊎ Resting (execute f alone m)
+    at : LoadStarts f alone m ⊎ None f alone m Starting → LoadStarts f alone m ⊎ Resting (execute f alone m)
     at (inl s) = inl s
-    at (inr u) = inr (stays-resting .frame f alone m (counted m t) r (λ c d q k. u c d q k .0))
+    at (inr u) = inr (stays-resting .frame f alone m (counted m t) r (λ c d q k. u c (d, q, k)))

@@ -17,7 +17,7 @@ use Rattle.servo_rules.proofs.Starting.{starts, complete-is, start-now, twice a
 use Rattle.servo_rules.proofs.Stopping.{stops, stops-now}
 use Rattle.types_rules.specs.Table.{servo}
 use Rattle.types_rules.proofs.Promised.{every-type}
-use Rattle.demands_rules.specs.Motion.{byStart, byLoad, byStopHere, Missed, elsewhere, damaged, short, NoneReady, IsStart, OnlyTheCause, Question, Twice}
+use Rattle.demands_rules.specs.Motion.{byStart, byLoad, ofLoad, byStopHere, Missed, elsewhere, damaged, short, NoneReady, IsStart, OnlyTheCause, Question, Twice}
 use Rattle.demands_rules.proofs.Asking.{start-asks, short-asks}
 
 -- a cause makes no load complete
@@ -58,9 +58,9 @@ question m load start reached alone apart x n s =
     ap (execute start apart) (k .1) ∙ start-refused (k .0) m start apart n s
 
 pub twice : Twice
-twice m f g alone apart (byStart a s) t =
+twice m f g alone apart (ofLoad (byStart a s)) t =
     twice-from Start m tt .second f g alone apart (a .undamaged) (a .order) (starts m .1 s) (t .0) (start-asks g apart (t .1) (t .2))
-twice m f g alone apart (byLoad c a e s) t =
+twice m f g alone apart (ofLoad (byLoad c a e s)) t =
     twice-from (LoadTrajectory c) m e .second f g alone apart (a .undamaged) (a .order) (start-now c m .now e ∙ starts (loaded c m) .1 s) (t .0) (start-asks g apart (t .1) (t .2))
 twice m f g alone apart (byStopHere a x h r) t =
     let k : Servo = execute f alone m in

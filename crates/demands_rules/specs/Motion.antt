@@ -23,6 +23,7 @@ use Rattle.servo_rules.specs.declared.Order.the-variants.{LoadTrajectory, Start
 use Rattle.servo_rules.specs.declared.Mode.the-variants.{Velocity, Trapezoid}
 use Rattle.servo_rules.specs.declared.Servo.{Servo}
 use Rattle.servo_rules.specs.Carried.{needed}
+use Rattle.servo_rules.specs.State.{servoOff}
 use Rattle.servo_rules.specs.Loads.{complete, loaded, startsNow}
 use Rattle.servo_rules.specs.Answers.{request, withCause, execute}
 use Rattle.servo_rules.specs.LoadPromises.{Ready, Startable}
@@ -77,14 +78,17 @@ Bound m =
 abbrev pub AtRest : Servo → Type 0
 AtRest m = (Moves m → ⊥) × (Bound m → ⊥)
 
--- What begins motion between two records of a servo.
+-- A servo sets out: a speed or a PWM value where there was none, or a goal where there was none.
+pub data SetsOut (before after : Servo) : Type 0 where
+  moving : (Moves before → ⊥) → Moves after → SetsOut before after
+  bound : (Bound before → ⊥) → Bound after → SetsOut before after
+
+-- What begins motion between two records of a servo: it sets out, or its setpoint is put elsewhere than at the position. The setpoint is put where
+-- it is not as far from the position as it was, and wherever it is when the servo is turned on.
 pub data Begins (before after : Servo) : Type 0 where
-  -- a speed or a PWM value where there was none
-  moving : (Moves before → ⊥) → Moves after → Begins before after
-  -- a goal where there was none
-  bound : (Bound before → ⊥) → Bound after → Begins before after
-  -- a setpoint put elsewhere than at the position, and not as far from it as it was
+  out : SetsOut before after → Begins before after
   put : (following after ≡ following before → ⊥) → (following after ≡ pos 0 → ⊥) → Begins before after
+  turnedOn : servoOff (before .run .drive .mode) ≡ true → servoOff (after .run .drive .mode) ≡ false → (following after ≡ pos 0 → ⊥) → Begins before after
 
 -- an undamaged frame with this code and this many data bytes asks for this order
 pub record Asks (f : Frame) (alone : Bool) (code count : ℕ) (c : Order) : Type 0 where
@@ -93,11 +97,15 @@ pub record Asks (f : Frame) (alone : Bool) (code count : ℕ) (c : Order) : Type
   pub whole : length (f .content) ≡ count
   pub order : request f alone ≡ wants c
 
--- The three ways to start, all with power 1 and a clear error bit: a Start where a complete load waits; a Load with start now, of as many
--- bytes as its control byte asks for, that is complete; a Stop Here of five bytes.
+-- The two ways to start a load, both with power 1 and a clear error bit: a Start where a complete load waits; a Load with start now, of as many
+-- bytes as its control byte asks for, that is complete.
+pub data LoadStarts (f : Frame) (alone : Bool) (m : Servo) : Type 0 where
+  byStart : Asks f alone 5 0 Start → Startable m → LoadStarts f alone m
+  byLoad : (c : Carried) → Asks f alone 4 (needed (getD (f .content) 0 0)) (LoadTrajectory c) → startsNow c ≡ true → Startable (loaded c m) → LoadStarts f alone m
+
+-- The third way to start, likewise: a Stop Here of five bytes. It leaves the servo holding, so it is no reason for a speed, a PWM value or a goal.
 pub data Starts (f : Frame) (alone : Bool) (m : Servo) : Type 0 where
-  byStart : Asks f alone 5 0 Start → Startable m → Starts f alone m
-  byLoad : (c : Carried) → Asks f alone 4 (needed (getD (f .content) 0 0)) (LoadTrajectory c) → startsNow c ≡ true → Startable (loaded c m) → Starts f alone m
+  ofLoad : LoadStarts f alone m → Starts f alone m
   byStopHere : (a : Bool) (x : ℕ) → Asks f alone 7 5 (Stop a Here x) → Ready m → Starts f alone m
 
 -- Each of the three is executed: the cause after it is 0.
@@ -108,29 +116,30 @@ StartsAreExecuted = (f : Frame) (alone : Bool) (m : Servo) → Starts f alone m 
 abbrev pub At : List ℕ → ℕ → Servo → Type 0
 At net i m = getElem? (netIn slots net .modules) i ≡ some (servo, m)
 
--- a byte ended an undamaged frame that touched place i, and at the servo there it was one of the three
-pub record LineStarts (n : Net Module) (b : Byte) (i : ℕ) (m : Servo) : Type 0 where
+-- a byte ended an undamaged frame that touched place i, and at the servo there it was such a start
+pub record LineStarts (Such : Frame → Bool → Servo → Type 0) (n : Net Module) (b : Byte) (i : ℕ) (m : Servo) : Type 0 where
   pub ended : taken (n .receiver) (b .value) (b .mark) .answer ≡ Ended false
   pub touches : touched true (n .receiver .address) (addresses kind (n .modules)) i ≡ true
-  pub starts : Starts (frameIn (n .receiver) false) (individually (n .receiver .address) (m .station .address)) m
+  pub starts : Such (frameIn (n .receiver) false) (individually (n .receiver .address) (m .station .address)) m
 
 -- a call that is not refused hands over such a byte: no other call starts anything
-abbrev pub CallStarts : List ℕ → ℕ → Servo → Call → Type 0
-CallStarts net i m (byte mark x room) = Passes (byteTable net mark room) × LineStarts (netIn slots net) (byteOf x (eqb mark 1)) i m
-CallStarts net i m (servoSample place raw power ad) = ⊥
-CallStarts net i m (ioSample place inputs ad1 ad2 ad3 counter) = ⊥
-CallStarts net i m tick = ⊥
+abbrev pub CallStarts : (Frame → Bool → Servo → Type 0) → List ℕ → ℕ → Servo → Call → Type 0
+CallStarts Such net i m (byte mark x room) = Passes (byteTable net mark room) × LineStarts Such (netIn slots net) (byteOf x (eqb mark 1)) i m
+CallStarts Such net i m (servoSample place raw power ad) = ⊥
+CallStarts Such net i m (ioSample place inputs ad1 ad2 ad3 counter) = ⊥
+CallStarts Such net i m tick = ⊥
 
--- Every call, with the servo m at place i before it and k after it. What begins motion is the last byte of one of the three; a tick, which
--- is no command, only goes on toward a goal that m had, and gives none; after setup every servo is at rest.
+-- Every call, with the servo m at place i before it and k after it. What begins motion is the last byte of one of the three, and what sets a
+-- servo out is that of a load's start; a tick, which is no command, only goes on toward a goal that m had, and gives none; after setup every
+-- servo is at rest.
 pub record EveryCall : Type 0 where
   pub command : (net : List ℕ) (c : Call) (i : ℕ) (m k : Servo) → Handed c → ValidRecord net → At net i m → At (leaves net c) i k
-      → (c ≡ tick → ⊥) → Begins m k → CallStarts net i m c
+      → (c ≡ tick → ⊥) → (Begins m k → CallStarts Starts net i m c) × (SetsOut m k → CallStarts LoadStarts net i m c)
   pub tick : (net : List ℕ) (i : ℕ) (m k : Servo) → ValidRecord net → At net i m → At (leaves net tick) i k
       → ((Moves m → ⊥) → Moves k → Bound m) × (Bound k → Bound m)
   pub setup : (net types : List ℕ) (i : ℕ) (k : Servo) → Passes (setupTable net types) → At (setupRecord net types) i k → AtRest k
 
--- one of the calls started the servo at place i
+-- one of the calls started a load of the servo at place i
 pub record StartedBy (cs : List Call) (net : List ℕ) (i : ℕ) : Type 0 where
   pub before : List Call
   pub call : Call
@@ -138,9 +147,9 @@ pub record StartedBy (cs : List Call) (net : List ℕ) (i : ℕ) : Type 0 where
   pub servo : Servo
   pub split : cs ≡ before ++ call ∷ later
   pub here : At (leftBy before net) i servo
-  pub starts : CallStarts (leftBy before net) i servo call
+  pub starts : CallStarts LoadStarts (leftBy before net) i servo call
 
--- Never otherwise: a servo that was at rest and, after any calls, is not was started by one of them.
+-- Never otherwise: a servo that was at rest and, after any calls, is not, had a load started by one of them. (Which, Sent.antt says.)
 abbrev pub Never : Type 0
 Never =
     (net : List ℕ) (cs : List Call) (i : ℕ) (m k : Servo)
