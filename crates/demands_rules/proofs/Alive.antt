@@ -37,7 +37,7 @@ use Rattle.api_rules.specs.Calls.{setupRecord}
 use Rattle.api_rules.specs.Promises.{ValidRecord}
 use Rattle.demands_history_rules.specs.Events.{Event, sent, sampled, ticked, run, Reads, Harmless, Ordinary, metBy}
 use Rattle.demands_history_rules.specs.Calls.{leftBy}
-use Rattle.demands_rules.specs.Motion.{fed}
+use Rattle.demands_rules.specs.Question.{fed}
 use Rattle.demands_rules.specs.Order.{MeetsTheSame, Lives, Alive}
 use Rattle.demands_rules.proofs.Calls.{from-setup, any-calls}
 use Rattle.demands_rules.proofs.Order.{keeps-address, order-does-not-matter, order-of-all, by-calls}

@@ -62,13 +62,13 @@ command net c i m k h v e q n =
     none k r f = (λ b. absurd (nothing-begins m k r f b), λ b. absurd (nothing-begins m k r f (out b)))
 
     by : (c : Call) (k : Servo) → Made net i m c k → (c ≡ tick → ⊥) → (Begins m k → CallStarts Starts net i m c) × (SetsOut m k → CallStarts LoadStarts net i m c)
-    by _ _ (same c _) n = none m refl refl
+    by _ _ (same c _ _) n = none m refl refl
     by _ _ (framed mark x room d goes a t) n = (
       λ b. (goes, line-starts Starts undamaged (netIn slots net) i m mark x d a t (frame-starts _ _ m (fits-at net i m v e) b)),
       λ b. (goes, line-starts LoadStarts load-undamaged (netIn slots net) i m mark x d a t (frame-sets-out _ _ m (fits-at net i m v e) b)),
     )
-    by _ _ (measured c x u _) n = none (sampled x m) refl refl
-    by _ _ timed n = absurd (n refl)
+    by _ _ (measured c x u _ _) n = none (sampled x m) refl refl
+    by _ _ (timed _) n = absurd (n refl)
 
 tick-call : (net : List ℕ) (i : ℕ) (m k : Servo) → ValidRecord net → At net i m → At (leaves net tick) i k
     → ((Moves m → ⊥) → Moves k → Bound m) × (Bound k → Bound m)
@@ -81,9 +81,9 @@ tick-call net i m k v e q =
     t = fits-at net i m v e
 
     by : (k : Servo) → Made net i m tick k → ((Moves m → ⊥) → Moves k → Bound m) × (Bound k → Bound m)
-    by _ (same c _) = (λ n z. absurd (n z), λ b. b)
-    by _ (measured c x u _) = absurd (u refl)
-    by _ timed = (ticked-moves m t, ticked-bound m t)
+    by _ (same c _ _) = (λ n z. absurd (n z), λ b. b)
+    by _ (measured c x u _ _) = absurd (u refl)
+    by _ (timed _) = (ticked-moves m t, ticked-bound m t)
 
 pub every-call : EveryCall
 every-call = record {
@@ -96,15 +96,15 @@ every-call = record {
 
 -- at rest a servo stays, unless the call starts it
 stays : (net : List ℕ) (c : Call) (i : ℕ) (m k : Servo) → Fits m → Resting m → Made net i m c k → CallStarts LoadStarts net i m c ⊎ Resting k
-stays net _ i m _ t r (same c _) = inr r
+stays net _ i m _ t r (same c _ _) = inr r
 stays net _ i m _ t r (framed mark x room d goes a u) = at (frame-rests (frameIn (netIn slots net .receiver) d) _ m t r)
   where
     at : {A : Type 0} → LoadStarts (frameIn (netIn slots net .receiver) d) (individually (netIn slots net .receiver .address) (m .station .address)) m ⊎ A
         → CallStarts LoadStarts net i m (byte mark x room) ⊎ A
     at (inl s) = inl (goes, line-starts LoadStarts load-undamaged (netIn slots net) i m mark x d a u s)
     at (inr z) = inr z
-stays net _ i m _ t r (measured c x u _) = inr (stays-resting .sampling x m r)
-stays net _ i m _ t r timed = inr (ticked-rests m t r)
+stays net _ i m _ t r (measured c x u _ _) = inr (stays-resting .sampling x m r)
+stays net _ i m _ t r (timed _) = inr (ticked-rests m t r)
 
 -- a start in what comes after the first call
 later-start : (c : Call) (cs : List Call) (net : List ℕ) (i : ℕ) → StartedBy cs (leaves net c) i → StartedBy (c ∷ cs) net i

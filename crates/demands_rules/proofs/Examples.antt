@@ -47,7 +47,8 @@ use Rattle.demands_history_rules.specs.Events as Events
 use Rattle.demands_history_rules.specs.Calls.{Call, byte, servoSample, tick, AllHanded, refusals, leaves, leftBy, doneBy}
 use Rattle.demands_history_rules.proofs.Singly.{run-singly}
 use Rattle.demands_history_rules.proofs.Calls.{call-kept}
-use Rattle.demands_rules.specs.Motion.{Moves, AtRest, moving, bound, Begins, out, put, turnedOn, Starts, At, StartedBy, short, fed}
+use Rattle.demands_rules.specs.Motion.{Moves, AtRest, moving, bound, Begins, out, put, turnedOn, Starts, At, StartedBy}
+use Rattle.demands_rules.specs.Question.{short, fed}
 use Rattle.demands_rules.proofs.Calls.{from-setup, any-calls, done-passed}
 use Rattle.demands_rules.specs.Sent.{PulseSent}
 use Rattle.demands_rules.proofs.Motion.{resting-rests, frame-starts}

@@ -4,6 +4,8 @@ mod Alike
 pub mod Calls
 pub mod Motion
 mod Making
+mod Placing
+pub mod InTime
 mod Sending
 pub mod Sent
 pub mod EveryCall

@@ -31,15 +31,17 @@ use Rattle.net_rules.specs.Record.{netIn}
 use Rattle.net_rules.specs.Calls.{byteOf, sampleStep}
 use Rattle.net_rules.specs.Promises.{Each}
 use Rattle.net_rules.proofs.Stored as Stored
-use Rattle.api_rules.specs.Table.{setupTable, byteTable}
+use Rattle.api_rules.specs.Table.{setupTable, byteTable, servoSampleTable, tickTable}
 use Rattle.api_rules.specs.Calls.{setupRecord, servoSampleOf, ioSampleOf}
 use Rattle.api_rules.specs.Promises.{ValidRecord, Refuses, Passes}
 use Rattle.api_rules.proofs.Kept.{holds}
+use Rattle.api_rules.proofs.Refused.{refused, done}
 use Rattle.demands_history_rules.specs.Events.{event}
 use Rattle.demands_history_rules.specs.Calls.{Call, byte, servoSample, ioSample, tick, Handed, refusals, leaves, does}
 use Rattle.demands_history_rules.proofs.Events.{changed-at, map-at}
 use Rattle.demands_history_rules.proofs.Calls.{passes?, refused-leaves, passed-leaves}
 use Rattle.demands_rules.specs.Motion.{At}
+use Rattle.demands_rules.specs.Place.{inTime}
 
 -- the servo that a module is, if it is one
 abbrev pub servoOf : (t : ModuleType) → Of t → Option Servo
@@ -73,14 +75,14 @@ Silent net i tick = Unit {0}
 
 -- what a call can make of the servo m at place i of a record's network
 pub data Made (net : List ℕ) (i : ℕ) (m : Servo) : Call → Servo → Type 0 where
-  same : (c : Call) → Silent net i c → Made net i m c m
+  same : (c : Call) → Silent net i c → inTime net i c m ≡ m → Made net i m c m
   framed : (mark x : ℕ) (room : List ℕ) (d : Bool)
       → Passes (byteTable net mark room)
       → taken (netIn slots net .receiver) x (eqb mark 1) .answer ≡ Ended d
       → touched true (netIn slots net .receiver .address) (addresses kind (netIn slots net .modules)) i ≡ true
       → Made net i m (byte mark x room) (execute (frameIn (netIn slots net .receiver) d) (individually (netIn slots net .receiver .address) (m .station .address)) m)
-  measured : (c : Call) (x : Sample) → (c ≡ tick → ⊥) → Silent net i c → Made net i m c (sampled x m)
-  timed : Made net i m tick (ticked m)
+  measured : (c : Call) (x : Sample) → (c ≡ tick → ⊥) → Silent net i c → inTime net i c m ≡ sampled x m → Made net i m c (sampled x m)
+  timed : inTime net i tick m ≡ ticked m → Made net i m tick (ticked m)
 
 -- after a step that is not refused place i has a servo that such a step can make
 Makes : List ℕ → ℕ → Servo → Call → Type 0
@@ -91,6 +93,12 @@ refused-silent net i (byte mark x room) r = λ d p e t. r p
 refused-silent net i (servoSample place raw power ad) r = tt
 refused-silent net i (ioSample place inputs ad1 ad2 ad3 counter) r = tt
 refused-silent net i tick r = tt
+
+refused-time : (net : List ℕ) (i : ℕ) (m : Servo) (c : Call) → Refuses (refusals net c) → inTime net i c m ≡ m
+refused-time net i m (byte mark x room) r = refl
+refused-time net i m (servoSample place raw power ad) r = sym (refused (servoSampleTable net place power) m _ refl r)
+refused-time net i m (ioSample place inputs ad1 ad2 ad3 counter) r = refl
+refused-time net i m tick r = sym (refused (tickTable net) m _ refl r)
 
 isTick : Call → Bool
 isTick (byte mark x room) = false
@@ -124,13 +132,13 @@ module _ (net : List ℕ) (i : ℕ) (m : Servo) (before : At net i m) where
           → getElem? (byteStep kind n (byteOf x (eqb mark 1)) .net .modules) i ≡ some (cond t (executed kind (frameIn (n .receiver) d) (servo, m)) (servo, m))
           → Makes net i m (byte mark x room)
       by true q p = (_, p, framed mark x room d goes (ap (λ (r : Received). r .answer) e) q)
-      by false q p = (m, p, same (byte mark x room) (λ d g a t. false≢true (sym q ∙ t)))
+      by false q p = (m, p, same (byte mark x room) (λ d g a t. false≢true (sym q ∙ t)) refl)
 
   after-byte : (mark x : ℕ) (room : List ℕ) → Passes (byteTable net mark room) → (a : Answer) (r : Receiver) → taken (n .receiver) x (eqb mark 1) ≡ record { next = r; answer = a }
       → Makes net i m (byte mark x room)
   unfolding Makes
   after-byte mark x room goes Nothing r e =
-      (m, ap (λ (s : Step Module). getElem? (s .net .modules) i) (step-on kind n (byteOf x (eqb mark 1)) r e) ∙ before, same (byte mark x room) (λ d g a t. none d (sym (ap (λ (r : Received). r .answer) e) ∙ a)))
+      (m, ap (λ (s : Step Module). getElem? (s .net .modules) i) (step-on kind n (byteOf x (eqb mark 1)) r e) ∙ before, same (byte mark x room) (λ d g a t. none d (sym (ap (λ (r : Received). r .answer) e) ∙ a)) refl)
     where
       none : (d : Bool) → Nothing ≡ Ended d → ⊥
       none d q = let z : _≡_ {A = Bool} true false = cc in true≢false z
@@ -143,11 +151,11 @@ module _ (net : List ℕ) (i : ℕ) (m : Servo) (before : At net i m) where
       changed-at (kind .sample x) place (n .modules) i
       ∙ ap (λ (o : Option Module). Option·map (λ (m : Module). cond (eqb i place) (kind .sample x m) m) o) before
 
-  after-sample : (c : Call) (place : ℕ) (x : Sample) → isTick c ≡ false → Silent net i c → (t : Bool)
+  after-sample : (c : Call) (x : Sample) → isTick c ≡ false → Silent net i c → (t : Bool) → inTime net i c m ≡ cond t (sampled x m) m
       → getElem? (event kind (does c) n .net .modules) i ≡ some (cond t (kind .sample (servo, x) (servo, m)) (servo, m)) → Makes net i m c
   unfolding Makes
-  after-sample c place x e s true p = (sampled x m, p, measured c x (no-tick c e) s)
-  after-sample c place x e s false p = (m, p, same c s)
+  after-sample c x e s true q p = (sampled x m, p, measured c x (no-tick c e) s q)
+  after-sample c x e s false q p = (m, p, same c s q)
 
   unmoved : (t : Bool) (o : Module) → cond t o o ≡ o
   unmoved true o = refl
@@ -157,10 +165,11 @@ module _ (net : List ℕ) (i : ℕ) (m : Servo) (before : At net i m) where
   unfolding Makes isTick
   makes (byte mark x room) goes = after-byte mark x room goes (taken (n .receiver) x (eqb mark 1) .answer) (taken (n .receiver) x (eqb mark 1) .next) refl
   makes (servoSample place raw power ad) goes =
-      after-sample (servoSample place raw power ad) place (record { raw = raw; power = power; ad = ad }) refl tt (eqb i place) (sample-seen place (servoSampleOf raw power ad))
+      after-sample (servoSample place raw power ad) (record { raw = raw; power = power; ad = ad }) refl tt (eqb i place)
+      (sym (done (servoSampleTable net place power) m _ refl goes)) (sample-seen place (servoSampleOf raw power ad))
   makes (ioSample place inputs ad1 ad2 ad3 counter) goes =
-      (m, sample-seen place (ioSampleOf inputs ad1 ad2 ad3 counter) ∙ ap some (unmoved (eqb i place) (servo, m)), same (ioSample place inputs ad1 ad2 ad3 counter) tt)
-  makes tick goes = (ticked m, map-at (kind .tick) (n .modules) i ∙ ap (λ (o : Option Module). Option·map (kind .tick) o) before, timed)
+      (m, sample-seen place (ioSampleOf inputs ad1 ad2 ad3 counter) ∙ ap some (unmoved (eqb i place) (servo, m)), same (ioSample place inputs ad1 ad2 ad3 counter) tt refl)
+  makes tick goes = (ticked m, map-at (kind .tick) (n .modules) i ∙ ap (λ (o : Option Module). Option·map (kind .tick) o) before, timed (sym (done (tickTable net) m _ refl goes)))
 
 -- the servo that a call leaves, refused or not
 pub made : (net : List ℕ) (c : Call) (i : ℕ) (m : Servo) → Handed c → ValidRecord net → At net i m
@@ -172,7 +181,7 @@ made net c i m h v e = at (passes? (refusals net c))
     at (inl p) =
         let (k, q, d) = makes net i m e c p in
         (k, ap (λ (n : Net Module). getElem? (n .modules) i) (passed-leaves net c h v p) ∙ q, d)
-    at (inr r) = (m, ap (λ (s : List ℕ). getElem? (netIn slots s .modules) i) (refused-leaves net c r) ∙ e, same c (refused-silent net i c r))
+    at (inr r) = (m, ap (λ (s : List ℕ). getElem? (netIn slots s .modules) i) (refused-leaves net c r) ∙ e, same c (refused-silent net i c r) (refused-time net i m c r))
 
 -- ---- a module stays of its type
 

@@ -28,7 +28,7 @@ use Rattle.demands_history_rules.specs.Calls.{Call, byte, AllHanded, refusals, 
 use Rattle.demands_history_rules.proofs.Events.{whole-event, event-idle}
 use Rattle.demands_history_rules.proofs.Singly.{run-singly}
 use Rattle.demands_history_rules.proofs.Calls.{call-kept}
-use Rattle.demands_rules.specs.Motion.{fed, QuestionOnTheLine}
+use Rattle.demands_rules.specs.Question.{fed, QuestionOnTheLine}
 use Rattle.demands_rules.proofs.Calls.{done-passed, any-calls}
 use Rattle.demands_rules.proofs.Order.{keeps-address, kept-handed}
 use Rattle.demands_rules.proofs.Question.{question}

@@ -17,7 +17,8 @@ use Rattle.servo_rules.proofs.Starting.{starts, complete-is, start-now, twice a
 use Rattle.servo_rules.proofs.Stopping.{stops, stops-now}
 use Rattle.types_rules.specs.Table.{servo}
 use Rattle.types_rules.proofs.Promised.{every-type}
-use Rattle.demands_rules.specs.Motion.{byStart, byLoad, ofLoad, byStopHere, Missed, elsewhere, damaged, short, NoneReady, IsStart, OnlyTheCause, Question, Twice}
+use Rattle.demands_rules.specs.Motion.{byStart, byLoad, ofLoad, byStopHere, OnlyTheCause}
+use Rattle.demands_rules.specs.Question.{Missed, elsewhere, damaged, short, NoneReady, IsStart, Question, Twice}
 use Rattle.demands_rules.proofs.Asking.{start-asks, short-asks}
 
 -- a cause makes no load complete
@@ -39,7 +40,7 @@ pub start-refused : (c : ℕ) (m : Servo) (f : Frame) (apart : Bool) → NoneRea
 start-refused c m f apart n s = every-type servo .cause f apart (withCause c m) .notNow Start (s .0) (start-asks f apart (s .1) (s .2)) (unready c m n)
 
 -- what a load that was missed leaves: its own cause, or none
-missed-is : (load : Frame) (alone reached : Bool) (m : Servo) → Missed reached load → (c : ℕ) × (cond reached (execute load alone m) m ≡ withCause c m)
+pub missed-is : (load : Frame) (alone reached : Bool) (m : Servo) → Missed reached load → (c : ℕ) × (cond reached (execute load alone m) m ≡ withCause c m)
 missed-is load alone false m x = (m .station .cause, refl)
 missed-is load alone true m (elsewhere e) = absurd (true≢false e)
 missed-is load alone true m (damaged d) = (1, every-type servo .cause load alone m .damaged d)

@@ -20,7 +20,7 @@ use Rattle.servo_rules.specs.declared.Way.the-variants.{Pulse, Speed, Move}
 use Rattle.servo_rules.specs.declared.Run.{Run}
 use Rattle.servo_rules.specs.declared.Servo.{Servo}
 use Rattle.servo_rules.specs.Carried.{carriedIn}
-use Rattle.servo_rules.specs.State.{position, setpointAt, servoOff}
+use Rattle.servo_rules.specs.State.{setpointAt, servoOff}
 use Rattle.servo_rules.specs.Loads.{loadOf, signedBy, start}
 use Rattle.servo_rules.specs.LoadPromises.{Movable, Completes}
 use Rattle.servo_rules.specs.StopPromises.{Slows}

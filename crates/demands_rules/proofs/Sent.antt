@@ -1,13 +1,13 @@
 -- From setup, through any calls: what moves, or holds, was sent. Assumes nothing.
 use mathlib.Core.Path.{_≡_, refl, sym, ap, subst, _∙_}
 use mathlib.Core.Logic.{_⊎_, inl, inr}
-use mathlib.Core.List.{List, [], _∷_}
+use mathlib.Core.List.{List}
 use mathlib.Core.Bool.{Bool, true, false, cond, true≢false, false≢true}
 use mathlib.Core.Option.{some, none}
 use Prim.Native.Nat.{ℕ, zero, suc, _+_, _%_, _^_, _<_, _≤_}
 use native.Mathlib.Omega.{arith}
 use native.Mathlib.Nat.{le-refl}
-use lib.ListN.{length, getElem?, take}
+use lib.ListN.{length, getElem?}
 use lib.Dec.{eqb}
 use Rattle.base_integers.specs.Whole.{less}
 use Rattle.line_receiver.specs.declared.Receiver.{Receiver}
@@ -48,15 +48,17 @@ use Rattle.net_rules.specs.Record.{netIn}
 use Rattle.api_rules.specs.Table.{byteTable}
 use Rattle.api_rules.specs.Calls.{setupRecord}
 use Rattle.api_rules.specs.Promises.{ValidRecord, Passes}
-use Rattle.api_rules.proofs.Kept.{kept, holds}
-use Rattle.demands_history_rules.specs.Calls.{Call, byte, tick, Handed, AllHanded, leaves, leftBy}
+use Rattle.api_rules.proofs.Kept.{kept}
+use Rattle.demands_history_rules.specs.Calls.{Call, byte, tick, AllHanded}
 use Rattle.demands_history_rules.proofs.Calls.{call-kept}
-use Rattle.demands_rules.specs.Motion.{At, IsStart}
+use Rattle.demands_rules.specs.Motion.{At}
+use Rattle.demands_rules.specs.Question.{IsStart}
 use Rattle.demands_rules.specs.Place.{after, Stands, Executed}
 use Rattle.demands_rules.specs.Sent.{control, Has, Lacks, WholeLoad, Halts, Drops, Replaces, encoder, Loaded, Given, itself, byStart, WasSent, WhatMovesWasSent, numberIn}
 use Rattle.demands_rules.proofs.Known.{Known, known, BitOf, haltBits, halt-bits, keep-spares}
 use Rattle.demands_rules.proofs.Alike.{Alike, alike, shift-alike, tick-alike}
-use Rattle.demands_rules.proofs.Making.{same-place, fits-at, Silent, Made, same, framed, measured, timed, made, was-servo, set-up-is}
+use Rattle.demands_rules.proofs.Making.{same-place, fits-at, Silent, Made, same, framed, measured, timed, made, set-up-is}
+use Rattle.demands_rules.proofs.Placing.{untouched, call-at, stood-before}
 use Rattle.demands_rules.proofs.Sending.{brought, Only, none-yet, loaded-on, off-sent, alike-sent, start-sent, hold-sent, slow-sent}
 
 -- what takes a number's place drops a waiting load too
@@ -307,10 +309,7 @@ module _ (net : List ℕ) (cs : List Call) (i : ℕ) where
     caused-told c z st o = idle-told (withCause c m) o (λ g x. z (x .cause (withCause c m) st)) refl refl (inr (alike m (withCause c m) refl refl refl refl))
 
     silent-none : (c : Call) → getElem? cs n ≡ some c → Silent (after net cs i n) i c → (g : Frame) → Executed net cs i n g → ⊥
-    silent-none c e s g x =
-        let z : c ≡ byte (x .mark) (x .value) (x .room) = let y : some c ≡ some (byte (x .mark) (x .value) (x .room)) = sym e ∙ x .call in cc in
-        subst (Silent (after net cs i n) i) z s false (x .done) (x .ended)
-        (subst (λ (f : Frame). touched true (f .address) (addresses kind (netIn slots (after net cs i n) .modules)) i ≡ true) (x .frame) (x .touches))
+    silent-none c e s g x = untouched net cs i n c e s g (x .met)
 
     -- the frame that this call ends undamaged
     module _ (mark value : ℕ) (room : List ℕ) (call : getElem? cs n ≡ some (byte mark value room)) (goes : Passes (byteTable (after net cs i n) mark room))
@@ -323,19 +322,13 @@ module _ (net : List ℕ) (cs : List Call) (i : ℕ) where
 
       exec-by : taken r value (eqb mark 1) .answer ≡ Ended false → (k : Servo) → Only net cs i (suc n) k → k .station .cause ≡ 0 → Executed net cs i n ending
       exec-by e k o z = record {
-        mark = mark;
-        value = value;
-        room = room;
-        call = call;
-        done = goes;
-        ended = e;
-        frame = refl;
-        touches = touches;
+        met = record { mark = mark; value = value; room = room; call = call; done = goes; ended = e; frame = refl; touches = touches };
+        undamaged = refl;
         cause = λ m st. ap (λ (k : Servo). k .station .cause) (o m st) ∙ z;
       }
 
       only-one : (g : Frame) → Executed net cs i n g → g ≡ ending
-      only-one g x = x .frame
+      only-one g x = x .met .frame ∙ ap (frameIn r) (x .undamaged)
 
       settled-told : (alone : Bool) → taken r value (eqb mark 1) .answer ≡ Ended false → (q : Request Order) → Known ending q
           → Stands net cs i (suc n) (settled Answers.servo q m) → Only net cs i (suc n) (settled Answers.servo q m) → Told (suc n) (settled Answers.servo q m)
@@ -363,19 +356,12 @@ module _ (net : List ℕ) (cs : List Call) (i : ℕ) where
 
     made-told : (c : Call) (k : Servo) → getElem? cs n ≡ some c → Made (after net cs i n) i m c k → Stands net cs i (suc n) k → Only net cs i (suc n) k → Told (suc n) k
     unfolding ticked
-    made-told _ _ e (same c s) st o = idle-told m o (silent-none c e s) refl refl (inr (alike m m refl refl refl refl))
+    made-told _ _ e (same c s _) st o = idle-told m o (silent-none c e s) refl refl (inr (alike m m refl refl refl refl))
     made-told _ _ e (framed mark x room d goes a u) st o = framed-told mark x room e goes u d _ a st o
-    made-told _ _ e (measured c x u s) st o = idle-told (sampled x m) o (silent-none c e s) refl refl (inr (alike m (sampled x m) refl refl refl refl))
-    made-told _ _ e timed st o = idle-told (ticked m) o (silent-none tick e tt) refl refl (tick-alike m)
+    made-told _ _ e (measured c x u s _) st o = idle-told (sampled x m) o (silent-none c e s) refl refl (inr (alike m (sampled x m) refl refl refl refl))
+    made-told _ _ e (timed _) st o = idle-told (ticked m) o (silent-none tick e tt) refl refl (tick-alike m)
 
 -- ---- through any calls
-
--- call n, and the record after it
-pub call-at : (cs : List Call) (net : List ℕ) (n : ℕ) → n < length cs → AllHanded cs
-    → (c : Call) × (getElem? cs n ≡ some c) × (leftBy (take (suc n) cs) net ≡ leaves (leftBy (take n cs) net) c) × Handed c
-call-at [] net n l h = absurd (omega arith)
-call-at (c ∷ cs) net zero l h = (c, refl, refl, h .0)
-call-at (c ∷ cs) net (suc n) l h = call-at cs (leaves net c) n (omega arith) (h .1)
 
 -- the servo after n calls, where place i had one before them
 stands-after : (net : List ℕ) (cs : List Call) (i : ℕ) (s : Servo) → ValidRecord net → AllHanded cs → At net i s → Told net cs i 0 s
@@ -391,20 +377,6 @@ stands-after net cs i s v h e q (suc n) l =
       made-told net cs i n m st (fits-at (after net cs i n) i m v′ st) told c k g d st′ (λ m e. same-place (netIn slots (after net cs i (suc n)) .modules) i m k e st′),
       subst ValidRecord (sym z) (call-kept (after net cs i n) c hc v′),
     )
-
-valid-after : (net : List ℕ) (cs : List Call) (i n : ℕ) → ValidRecord net → AllHanded cs → n ≤ length cs → ValidRecord (after net cs i n)
-valid-after net cs i zero v h l = v
-valid-after net cs i (suc n) v h l =
-    let (c, g, z, hc) = call-at cs net n (omega arith) h in
-    subst ValidRecord (sym z) (call-kept (after net cs i n) c hc (valid-after net cs i n v h (omega arith)))
-
--- a servo after n calls was one before them
-stood-before : (net : List ℕ) (cs : List Call) (i n : ℕ) (k : Servo) → ValidRecord net → AllHanded cs → n ≤ length cs → Stands net cs i n k → (m : Servo) × At net i m
-stood-before net cs i zero k v h l e = (k, e)
-stood-before net cs i (suc n) k v h l e =
-    let (c, g, z, hc) = call-at cs net n (omega arith) h in
-    let (m, q) = was-servo (after net cs i n) c i k hc (valid-after net cs i n v h (omega arith)) (subst (λ (r : List ℕ). At r i k) z e) in
-    stood-before net cs i n m v h (omega arith) q
 
 -- at power-up nothing was sent
 started-told : (net : List ℕ) (cs : List Call) (i : ℕ) → Told net cs i 0 started

@@ -1,5 +1,6 @@
 pub mod Motion
 pub mod Place
+pub mod Question
 pub mod Sent
 pub mod Meaning
 pub mod Order

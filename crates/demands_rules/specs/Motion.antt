@@ -1,16 +1,16 @@
 -- Demand 1: any calls do no harm; only a complete load or a complete Stop Here starts motion. Each promise is proved under its name in proofs/.
 use mathlib.Core.Path.{_≡_}
 use mathlib.Core.Logic.{_⊎_}
-use Prim.Native.Nat.{ℕ, _≤_}
-use mathlib.Core.List.{List, _∷_, _++_, map}
-use mathlib.Core.Bool.{Bool, true, false, cond}
+use Prim.Native.Nat.{ℕ}
+use mathlib.Core.List.{List, _∷_, _++_}
+use mathlib.Core.Bool.{Bool, true, false}
 use mathlib.Core.Option.{some}
 use lib.IntN.{pos}
 use lib.ListN.{length, getD, getElem?}
 use lib.Dec.{eqb}
 use Rattle.line_receiver.specs.declared.Answer.the-variants.{Ended}
-use Rattle.line_receiver.specs.Receive.{idle, taken}
-use Rattle.line_receiver.specs.Frames.{Byte, Frame, frameIn, values, AreBytes}
+use Rattle.line_receiver.specs.Receive.{taken}
+use Rattle.line_receiver.specs.Frames.{Byte, Frame, frameIn}
 use Rattle.module_rules.specs.Touch.{individually}
 use Rattle.module_rules.specs.Rules.{wants}
 use Rattle.module_rules.specs.Promises.{Cause}
@@ -24,18 +24,18 @@ use Rattle.servo_rules.specs.declared.Mode.the-variants.{Velocity, Trapezoid}
 use Rattle.servo_rules.specs.declared.Servo.{Servo}
 use Rattle.servo_rules.specs.Carried.{needed}
 use Rattle.servo_rules.specs.State.{servoOff}
-use Rattle.servo_rules.specs.Loads.{complete, loaded, startsNow}
-use Rattle.servo_rules.specs.Answers.{request, withCause, execute}
+use Rattle.servo_rules.specs.Loads.{loaded, startsNow}
+use Rattle.servo_rules.specs.Answers.{request, execute}
 use Rattle.servo_rules.specs.LoadPromises.{Ready, Startable}
 use Rattle.servo_rules.specs.RestPromises.{following}
 use Rattle.types_rules.specs.Table.{ModuleType, servo, rulesOf}
 use Rattle.types_rules.specs.Types.{Module, kind, slots}
-use Rattle.net_rules.specs.Record.{netIn, roomSize}
+use Rattle.net_rules.specs.Record.{netIn}
 use Rattle.net_rules.specs.Calls.{byteOf, setUp}
 use Rattle.api_rules.specs.Table.{setupTable, byteTable}
 use Rattle.api_rules.specs.Calls.{setupRecord}
 use Rattle.api_rules.specs.Promises.{Passes, Refuses, ValidRecord}
-use Rattle.demands_history_rules.specs.Events.{run, Reads}
+use Rattle.demands_history_rules.specs.Events.{run}
 use Rattle.demands_history_rules.specs.Calls.{Call, byte, servoSample, ioSample, tick, Handed, AllHanded, refusals, leaves, leftBy, writtenBy, doneBy}
 
 -- Setup, unless it is refused, leaves a valid record of the modules at power-up, whatever was lent.
@@ -155,49 +155,3 @@ Never =
     (net : List ℕ) (cs : List Call) (i : ℕ) (m k : Servo)
     → ValidRecord net → AllHanded cs → At net i m → At (leftBy cs net) i k
     → AtRest m → (AtRest k → ⊥) → StartedBy cs net i
-
--- ---- The mill's question: "If the scanner sends a short load and the Start comes through, does the spindle carriage go anyway?"
-
--- the ways to miss a load: it was for another module, it came damaged, or it has not as many data bytes as its control byte asks for
-pub data Missed (reached : Bool) (load : Frame) : Type 0 where
-  elsewhere : reached ≡ false → Missed reached load
-  damaged : load .damaged ≡ true → Missed reached load
-  short : load .code ≡ 4 → (length (load .content) ≡ needed (getD (load .content) 0 0) → ⊥) → Missed reached load
-
--- no complete load waits: none at all, or one that is incomplete
-abbrev pub NoneReady : Servo → Type 0
-NoneReady m = (m .settings .load .waits ≡ false) ⊎ (complete m ≡ false)
-
--- an undamaged Start: code 5, no data
-abbrev pub IsStart : Frame → Type 0
-IsStart f = (f .damaged ≡ false) × (f .code ≡ 5) × (length (f .content) ≡ 0)
-
--- It does not: after the missed load and the Start the servo is in every part what it was, and its cause is 3.
-abbrev pub Question : Type 0
-Question =
-    (m : Servo) (load start : Frame) (reached alone apart : Bool)
-    → Missed reached load → NoneReady m → IsStart start
-    → execute start apart (cond reached (execute load alone m) m) ≡ withCause 3 m
-
--- Twice: after any of the three starts a Start is 3 and changes nothing else.
-abbrev pub Twice : Type 0
-Twice =
-    (m : Servo) (f g : Frame) (alone apart : Bool) → Starts f alone m → IsStart g
-    → execute g apart (execute f alone m) ≡ withCause 3 (execute f alone m)
-
--- the byte call with each of these bytes and marks
-abbrev pub fed : List ℕ → List Byte → List Call
-fed room = map (λ (b : Byte). byte (cond (b .mark) 1 0) (b .value) room)
-
--- The same on the line, at any place of any valid record, through the exported call: the bytes of a Load that the servo misses in any of the
--- three ways, then those of a Start for it.
-abbrev pub QuestionOnTheLine : Type 0
-QuestionOnTheLine =
-    (net room : List ℕ) (i : ℕ) (m : Servo) (loadBytes startBytes : List Byte) (load start : Frame)
-    → ValidRecord net → roomSize ≤ length room → AreBytes (values (loadBytes ++ startBytes))
-    → netIn slots net .receiver ≡ idle → At net i m → NoneReady m
-    → Reads loadBytes load → load .code ≡ 4
-    → Missed (touched true (load .address) (addresses kind (netIn slots net .modules)) i) load
-    → Reads startBytes start → IsStart start
-    → touched true (start .address) (addresses kind (netIn slots net .modules)) i ≡ true
-    → At (leftBy (fed room (loadBytes ++ startBytes)) net) i (withCause 3 m)

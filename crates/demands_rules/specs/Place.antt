@@ -1,8 +1,8 @@
 -- One place of a record through any calls: the servo that stands there after the first n of them, and the frames that it executed.
 use mathlib.Core.Path.{_≡_}
 use Prim.Native.Nat.{ℕ, suc, _<_, _≤_}
-use mathlib.Core.List.{List}
-use mathlib.Core.Bool.{true, false}
+use mathlib.Core.List.{List, [], _∷_}
+use mathlib.Core.Bool.{true, false, cond}
 use mathlib.Core.Option.{some}
 use lib.ListN.{getElem?, take}
 use lib.Dec.{eqb}
@@ -11,11 +11,14 @@ use Rattle.line_receiver.specs.Receive.{taken}
 use Rattle.line_receiver.specs.Frames.{Frame, frameIn}
 use Rattle.chain_rules.specs.Chain.{addresses, touched}
 use Rattle.servo_rules.specs.declared.Servo.{Servo}
+use Rattle.servo_rules.specs.State.{sampled}
+use Rattle.servo_rules.specs.Tick.{ticked}
 use Rattle.types_rules.specs.Types.{kind, slots}
 use Rattle.net_rules.specs.Record.{netIn}
-use Rattle.api_rules.specs.Table.{byteTable}
+use Rattle.api_rules.specs.Table.{byteTable, servoSampleTable, tickTable}
+use Rattle.api_rules.specs.Calls.{unless}
 use Rattle.api_rules.specs.Promises.{Passes}
-use Rattle.demands_history_rules.specs.Calls.{Call, byte, leftBy}
+use Rattle.demands_history_rules.specs.Calls.{Call, byte, servoSample, ioSample, tick, leaves, leftBy}
 use Rattle.demands_rules.specs.Motion.{At}
 
 module _ (net : List ℕ) (cs : List Call) (i : ℕ) where
@@ -26,16 +29,21 @@ module _ (net : List ℕ) (cs : List Call) (i : ℕ) where
   abbrev pub Stands : ℕ → Servo → Type 0
   Stands n m = At (after n) i m
 
-  -- call n ended the undamaged frame f, which touched place i, and the servo there executed it: its cause afterwards is 0
-  pub record Executed (n : ℕ) (f : Frame) : Type 0 where
+  -- call n ended the frame f, damaged or not, which touched place i
+  pub record Touched (n : ℕ) (f : Frame) : Type 0 where
     pub mark : ℕ
     pub value : ℕ
     pub room : List ℕ
     pub call : getElem? cs n ≡ some (byte mark value room)
     pub done : Passes (byteTable (after n) mark room)
-    pub ended : taken (netIn slots (after n) .receiver) value (eqb mark 1) .answer ≡ Ended false
-    pub frame : f ≡ frameIn (netIn slots (after n) .receiver) false
+    pub ended : taken (netIn slots (after n) .receiver) value (eqb mark 1) .answer ≡ Ended (f .damaged)
+    pub frame : f ≡ frameIn (netIn slots (after n) .receiver) (f .damaged)
     pub touches : touched true (f .address) (addresses kind (netIn slots (after n) .modules)) i ≡ true
+
+  -- it was undamaged, and the servo there executed it: its cause afterwards is 0
+  pub record Executed (n : ℕ) (f : Frame) : Type 0 where
+    pub met : Touched n f
+    pub undamaged : f .damaged ≡ false
     pub cause : (m : Servo) → Stands (suc n) m → m .station .cause ≡ 0
 
   -- no frame such as P was executed here by a call after call a and before call b
@@ -45,3 +53,15 @@ module _ (net : List ℕ) (cs : List Call) (i : ℕ) where
   -- after every call from call a on, up to the first n, the servo is such as P
   abbrev pub Since : ℕ → ℕ → (Servo → Type 0) → Type 0
   Since a n P = (j : ℕ) (m : Servo) → a < j → j ≤ n → Stands j m → P m
+
+-- what the samples and ticks among calls make of the servo m at place i; a refused one makes nothing
+abbrev pub inTime : List ℕ → ℕ → Call → Servo → Servo
+inTime net i (byte mark x room) m = m
+inTime net i (servoSample place raw power ad) m =
+    unless (servoSampleTable net place power) m (cond (eqb i place) (sampled (record { raw = raw; power = power; ad = ad }) m) m)
+inTime net i (ioSample place inputs ad1 ad2 ad3 counter) m = m
+inTime net i tick m = unless (tickTable net) m (ticked m)
+
+abbrev pub throughTime : List ℕ → ℕ → List Call → Servo → Servo
+throughTime net i [] m = m
+throughTime net i (c ∷ cs) m = throughTime (leaves net c) i cs (inTime net i c m)

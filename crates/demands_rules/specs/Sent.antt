@@ -18,7 +18,7 @@ use Rattle.api_rules.specs.Table.{setupTable}
 use Rattle.api_rules.specs.Calls.{setupRecord}
 use Rattle.api_rules.specs.Promises.{Passes}
 use Rattle.demands_history_rules.specs.Calls.{Call, AllHanded}
-use Rattle.demands_rules.specs.Motion.{IsStart}
+use Rattle.demands_rules.specs.Question.{IsStart}
 use Rattle.demands_rules.specs.Place.{Stands, Executed, None, Since}
 
 -- ---- data bytes (01 Load Trajectory, Stop): a control byte; of a Load then four bytes for each of bits 0 to 2 that is set, and one for bit 3

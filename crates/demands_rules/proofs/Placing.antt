@@ -1,0 +1,53 @@
+-- One place through any calls: each call, the record after it, and what it may have ended. Assumes nothing.
+use mathlib.Core.Path.{_≡_, refl, sym, ap, subst, _∙_}
+use mathlib.Core.List.{List, [], _∷_}
+use mathlib.Core.Bool.{Bool, true, false, true≢false}
+use mathlib.Core.Option.{some}
+use Prim.Native.Nat.{ℕ, zero, suc, _<_, _≤_}
+use native.Mathlib.Omega.{arith}
+use lib.ListN.{length, getElem?, take}
+use Rattle.line_receiver.specs.Frames.{Frame}
+use Rattle.chain_rules.specs.Chain.{addresses, touched}
+use Rattle.servo_rules.specs.declared.Servo.{Servo}
+use Rattle.types_rules.specs.Types.{kind, slots}
+use Rattle.net_rules.specs.Record.{netIn}
+use Rattle.api_rules.specs.Promises.{ValidRecord}
+use Rattle.demands_history_rules.specs.Calls.{Call, byte, Handed, AllHanded, leaves, leftBy}
+use Rattle.demands_history_rules.proofs.Calls.{call-kept}
+use Rattle.demands_rules.specs.Motion.{At}
+use Rattle.demands_rules.specs.Place.{after, Stands, Touched, inTime, throughTime}
+use Rattle.demands_rules.proofs.Making.{Silent, was-servo}
+
+-- call n, the record after it, and what time makes of a servo by it
+pub call-at : (cs : List Call) (net : List ℕ) (n : ℕ) → n < length cs → AllHanded cs
+    → (c : Call) × (getElem? cs n ≡ some c) × (leftBy (take (suc n) cs) net ≡ leaves (leftBy (take n cs) net) c) × Handed c
+call-at [] net n l h = absurd (omega arith)
+call-at (c ∷ cs) net zero l h = (c, refl, refl, h .0)
+call-at (c ∷ cs) net (suc n) l h = call-at cs (leaves net c) n (omega arith) (h .1)
+
+pub time-at : (cs : List Call) (net : List ℕ) (i n : ℕ) (m : Servo) (c : Call) → getElem? cs n ≡ some c
+    → throughTime net i (take (suc n) cs) m ≡ inTime (leftBy (take n cs) net) i c (throughTime net i (take n cs) m)
+time-at [] net i n m c e = let z : _≡_ {A = Bool} true false = cc in absurd (true≢false z)
+time-at (d ∷ cs) net i zero m c e = let z : d ≡ c = cc in ap (λ (c : Call). inTime net i c m) z
+time-at (d ∷ cs) net i (suc n) m c e = time-at cs (leaves net d) i n (inTime net i d m) c e
+
+pub valid-after : (net : List ℕ) (cs : List Call) (i n : ℕ) → ValidRecord net → AllHanded cs → n ≤ length cs → ValidRecord (after net cs i n)
+valid-after net cs i zero v h l = v
+valid-after net cs i (suc n) v h l =
+    let (c, g, z, hc) = call-at cs net n (omega arith) h in
+    subst ValidRecord (sym z) (call-kept (after net cs i n) c hc (valid-after net cs i n v h (omega arith)))
+
+-- a servo after n calls was one before them
+pub stood-before : (net : List ℕ) (cs : List Call) (i n : ℕ) (k : Servo) → ValidRecord net → AllHanded cs → n ≤ length cs → Stands net cs i n k → (m : Servo) × At net i m
+stood-before net cs i zero k v h l e = (k, e)
+stood-before net cs i (suc n) k v h l e =
+    let (c, g, z, hc) = call-at cs net n (omega arith) h in
+    let (m, q) = was-servo (after net cs i n) c i k hc (valid-after net cs i n v h (omega arith)) (subst (λ (r : List ℕ). At r i k) z e) in
+    stood-before net cs i n m v h (omega arith) q
+
+-- a call that ends no frame for place i touches nothing there
+pub untouched : (net : List ℕ) (cs : List Call) (i n : ℕ) (c : Call) → getElem? cs n ≡ some c → Silent (after net cs i n) i c → (g : Frame) → Touched net cs i n g → ⊥
+untouched net cs i n c e s g x =
+    let z : c ≡ byte (x .mark) (x .value) (x .room) = let y : some c ≡ some (byte (x .mark) (x .value) (x .room)) = sym e ∙ x .call in cc in
+    subst (Silent (after net cs i n) i) z s (g .damaged) (x .done) (x .ended)
+    (subst (λ (f : Frame). touched true (f .address) (addresses kind (netIn slots (after net cs i n) .modules)) i ≡ true) (x .frame) (x .touches))
