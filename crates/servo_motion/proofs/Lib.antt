@@ -4,5 +4,6 @@ pub mod Speeds
 pub mod Velocity
 pub mod Apart
 pub mod Near
+pub mod Moves
 pub mod Runs
 pub mod Tests

@@ -3,7 +3,7 @@ use mathlib.Core.Path.{_≡_}
 use mathlib.Core.Logic.{_⊎_, _↔_}
 use mathlib.Core.Bool.{true, false}
 use Prim.Native.Nat.{ℕ, _+_, _-_, _*_, _^_, _≤_, _<_, min}
-use lib.IntN.{ℤ, pos, natAbs, _-ℤ_}
+use lib.IntN.{ℤ, pos, natAbs, _+ℤ_, _-ℤ_}
 use lib.Signed.{leZ}
 use Rattle.base_integers.specs.Whole.{less}
 use Rattle.servo_motion.specs.declared.Profile.{Profile}
@@ -94,6 +94,35 @@ pub record Toward (a : ℕ) (goal v w : ℤ) : Type 0 where
 -- Velocity mode goes from the old speed to the goal by as much as the acceleration allows, and never past the goal.
 abbrev pub Velocity : Type 0
 Velocity = (a : ℕ) (goal v : ℤ) → Toward a goal v (toward a goal v)
+
+-- 01 Tick: the setpoint q is p moved by w, but for whole turns of 2 ^ 48.
+pub record Moved (p : ℕ) (w : ℤ) (q : ℕ) : Type 0 where
+  pub over : ℕ
+  pub under : ℕ
+  pub sum : pos (q + over * 2 ^ 48) ≡ pos (p + under * 2 ^ 48) +ℤ w
+  pub small : q < 2 ^ 48
+
+-- To move a setpoint by a speed is to add the speed, sign and all, modulo 2 ^ 48.
+abbrev pub Adds : Type 0
+Adds = (p : ℕ) (w : ℤ) → p < 2 ^ 48 → natAbs w ≤ 2 ^ 48 → Moved p w (moved p w)
+
+-- A tick of either mode moves the setpoint by its new speed.
+abbrev pub Moves : Type 0
+Moves =
+    (p : Profile)
+    → (byVelocity p .setpoint ≡ moved (p .setpoint) (byVelocity p .speed))
+    × (byTrapezoid p .setpoint ≡ moved (p .setpoint) (byTrapezoid p .speed))
+
+-- velocity mode at rest at 0, with acceleration 5 and goal speed 5
+abbrev pub settingOut : ℕ → ℕ → Profile
+settingOut goal top = record { setpoint = 0; speed = pos 0; goal = goal; aim = pos 5; acceleration = 5; top = top }
+
+-- So the first tick after a start already moves: where it stands after one tick, and after two.
+abbrev pub FirstTick : Type 0
+FirstTick =
+    (goal top : ℕ)
+    → (byVelocity (settingOut goal top) .setpoint ≡ 5)
+    × (byVelocity (byVelocity (settingOut goal top)) .setpoint ≡ 10)
 
 -- Both ticks keep the ranges of a stored profile.
 abbrev pub InRange : Type 0
