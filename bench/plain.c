@@ -144,6 +144,12 @@ static int64_t distance(const struct plain_servo *s)
     return (int64_t)(int32_t)(s->goal - s->setpoint) * 65536 - s->fraction;
 }
 
+/* As far one way as the other: such a distance has no sign. */
+static bool is_half_the_range(uint32_t goal, uint32_t setpoint)
+{
+    return goal - setpoint == UINT32_C(0x80000000);
+}
+
 static void move_setpoint(struct plain_servo *s, int32_t speed)
 {
     uint64_t at = ((uint64_t)s->setpoint << 16 | s->fraction) + (uint64_t)(int64_t)speed;
@@ -242,7 +248,7 @@ static bool can_start(const struct plain_servo *s, const struct plain_load *load
         return true;
     uint32_t from = servo_is_off(s) ? position(s) : s->setpoint;
     return load->has_position && rates->velocity > 0 && s->speed == 0 &&
-           load->position - from != UINT32_C(0x80000000);
+           !is_half_the_range(load->position, from);
 }
 
 /* Starts the waiting load and uses it up. */
@@ -742,9 +748,11 @@ static bool ranges_hold(const struct plain_servo *s)
            within(s->output, MOST_OUTPUT) && s->error <= 1 && s->amplifier <= 1;
 }
 
-/* A trapezoid runs toward its goal and can still stop within the distance left. */
+/* A trapezoid runs toward a goal that is not half the range away and can still stop within the distance left. */
 static bool trapezoid_holds(const struct plain_servo *s)
 {
+    if (is_half_the_range(s->goal, s->setpoint))
+        return false;
     int64_t d = distance(s), a = s->acceleration;
     int64_t v = s->speed < 0 ? -s->speed : s->speed;
     if (a == 0 || v > s->top_speed || (d > 0 && s->speed < 0) || (d < 0 && s->speed > 0))

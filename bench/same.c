@@ -495,8 +495,10 @@ static void spoil_record(void)
     static const uint8_t words[] = {41, 45, 61, 63, 67, 71, 75, 79, 83, 87, 91, 96, 100};
     static const uint32_t edges[] = {0, 1, 255, 256, 16383, 16384, 32767, 32768, FASTEST, FASTEST + 1};
     uint8_t *slot = record + SLOTS_AT + SLOT_LEN * below(plain->chain);
-    uint32_t kind = below(11);
-    if (kind == 10) {
+    uint32_t kind = below(12);
+    if (kind == 11) {
+        put32(slot + 71, number_at(slot, 63, 4) + UINT32_C(0x7FFFFFFF) + below(3));
+    } else if (kind == 10) {
         swing(slot);
     } else if (kind < 2) {
         uint8_t byte = some_byte();

@@ -374,6 +374,7 @@ branches! {
         ListTrapezoidAgainst: "list, servo: trapezoid's speed against d",
         ListTrapezoidTop: "list, servo: trapezoid above its top speed",
         ListTrapezoidStop: "list, servo: trapezoid that cannot stop within d",
+        ListTrapezoidHalfTurn: "list, servo: trapezoid to 2^31 counts from its setpoint",
         ListUnpulsed: "list, servo: PWM value outside PWM",
         ListClear: "list, servo: running with the error bit",
         ListAlive: "list, servo: running at power 0",

@@ -17,5 +17,7 @@ pub use io::{Io, IoSample, BITS};
 pub use line::{sum, Frame, Receiver, HEADER};
 pub use network::{Ended, Module, Network};
 pub use replay::replay;
-pub use servo::{distance, greatest_speed, stopping_sum, Gains, Load, Mode, Servo, ServoSample, Way, SPEED_MOST};
+pub use servo::{
+    distance, greatest_speed, is_half_turn, stopping_sum, Gains, Load, Mode, Servo, ServoSample, Way, SPEED_MOST,
+};
 pub use station::{Device, Station, Touch, DAMAGED, EXECUTED, MALFORMED, NOT_NOW};

@@ -4,8 +4,8 @@
 use crate::branches::{all_hold, either, reach, Branch};
 use crate::calls::*;
 use crate::model::{
-    self, stopping_sum, Device, Gains, Io, IoSample, Load, Mode, Module, Network, Receiver, Servo, ServoSample,
-    Station, Way, SPEED_MOST,
+    self, is_half_turn, stopping_sum, Device, Gains, Io, IoSample, Load, Mode, Module, Network, Receiver, Servo,
+    ServoSample, Station, Way, SPEED_MOST,
 };
 use crate::slips::Slip;
 
@@ -257,11 +257,13 @@ fn trapezoid_in_order(servo: &Servo, slip: Slip) -> bool {
     let straight = servo.speed == 0 || d == 0 || (servo.speed < 0) == (d < 0);
     // without an acceleration there is no sum to look at
     let stops = a == 0 || stopping_sum(size - a, a) <= d.abs() || slip == Slip::RecordStopUntested;
+    let half_turn = is_half_turn(servo.goal, servo.setpoint) && slip != Slip::RecordHalfTurnUntested;
     all_hold(&[
         (a >= 1, Branch::ListTrapezoidForce),
         (straight, Branch::ListTrapezoidAgainst),
         (size <= i64::from(servo.top), Branch::ListTrapezoidTop),
         (stops, Branch::ListTrapezoidStop),
+        (!half_turn, Branch::ListTrapezoidHalfTurn),
     ])
 }
 

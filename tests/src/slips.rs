@@ -153,6 +153,7 @@ slips! {
     RecordIdleUntested: "an idle receiver may have bytes stored",
     RecordRunningUntested: "a record may run with the error bit set",
     RecordStopUntested: "a record's trapezoid need not be able to stop within d",
+    RecordHalfTurnUntested: "a record's trapezoid may have its goal 2^31 counts away",
     RecordOutputUntested: "a record may drive a motor that is off",
     RecordBeyondChainTested: "places beyond the chain are looked at",
 }

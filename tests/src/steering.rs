@@ -472,8 +472,18 @@ const NUMBER_EDGES: &[i32] =
 /// What a trapezoid's way to stop hangs on.
 const STOPPING: &[usize] = &[at::SETPOINT, at::SPEED, at::GOAL, at::RUNNING_ACCELERATION];
 
+/// A goal half the range from the setpoint, or a count beside it.
+fn far_goal(dice: &mut Dice, slot: &mut [u8]) {
+    let whole = u32::from_le_bytes(slot[at::SETPOINT + 2..at::SETPOINT + 6].try_into().expect("four bytes"));
+    let goal = whole.wrapping_add(dice.pick(&[(1 << 31) - 1, 1 << 31, (1 << 31) + 1]));
+    slot[at::GOAL..at::GOAL + 4].copy_from_slice(&goal.to_le_bytes());
+}
+
 fn damage_number(dice: &mut Dice, slot: &mut [u8]) {
     let trapezoid = slot[at::MODE] == Mode::Trapezoid as u8 && dice.percent(60);
+    if trapezoid && dice.percent(20) {
+        return far_goal(dice, slot);
+    }
     let at = dice.pick(if trapezoid { STOPPING } else { NUMBERS });
     let old = i32::from_le_bytes(slot[at..at + 4].try_into().expect("four bytes"));
     let new = match dice.below(5) {
@@ -486,6 +496,19 @@ fn damage_number(dice: &mut Dice, slot: &mut [u8]) {
     slot[at..at + 4].copy_from_slice(&new.to_le_bytes());
 }
 
+/// Some place of the chain, often one with a trapezoid: no other mode is asked that much.
+fn place_to_damage(dice: &mut Dice, net: &[u8]) -> usize {
+    let places = usize::from(net[COUNT]).min(MOST_MODULES);
+    let runs =
+        |place: &usize| net[slot(*place)] == Servo::TYPE && net[slot(*place) + at::MODE] == Mode::Trapezoid as u8;
+    let trapezoids: Vec<usize> = (0..places).filter(runs).collect();
+    if !trapezoids.is_empty() && dice.percent(30) {
+        dice.pick(&trapezoids)
+    } else {
+        dice.below(places)
+    }
+}
+
 pub fn damaged_record(dice: &mut Dice, net: &[u8]) -> Vec<u8> {
     let mut damaged = net.to_vec();
     if dice.percent(5) {
@@ -493,7 +516,7 @@ pub fn damaged_record(dice: &mut Dice, net: &[u8]) -> Vec<u8> {
         return damaged;
     }
     for _ in 0..1 + dice.below(2) {
-        let place = dice.below(usize::from(net[COUNT]).min(MOST_MODULES));
+        let place = place_to_damage(dice, net);
         let is_servo = net[slot(place)] == Servo::TYPE;
         match dice.below(10) {
             0..=3 if is_servo => {

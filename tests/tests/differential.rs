@@ -14,7 +14,7 @@ use doljurven_tests::model::Mode;
 use doljurven_tests::seen::{Change, Seen, CHANGES};
 use doljurven_tests::slips::Slip;
 
-const SESSIONS: usize = 14_000;
+const SESSIONS: usize = 18_000;
 const SEED: u64 = 0x00D0_17C3;
 
 /// A number from the environment, if it is there.

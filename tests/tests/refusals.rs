@@ -442,6 +442,28 @@ fn servo_record_with_a_trapezoid_that_cannot_stop() {
 }
 
 #[test]
+fn servo_record_with_a_goal_half_the_range_away() {
+    const HALF: u32 = 1 << 31;
+    let fractions = |whole| [0, 1, 65_535].map(|fraction| (whole, fraction));
+    for (whole, fraction) in [0, 1, HALF - 1, HALF, HALF + 1, u32::MAX].into_iter().flat_map(fractions) {
+        let to = |mode, away| {
+            let slot = Slot::new(mode).two(at::SETPOINT, fraction).four(at::SETPOINT + 2, whole as i32);
+            slot.four(at::GOAL, whole.wrapping_add(away) as i32)
+        };
+        let from = format!("from {whole} and {fraction} of 65,536");
+        for mode in [OFF, PWM, HOLDING, VELOCITY] {
+            to(mode, HALF).passes(&format!("no trapezoid, {from}"));
+        }
+        for speed in [0, 1, 2] {
+            to(TRAPEZOID, HALF - 1).four(at::SPEED, speed).passes(&format!("forth by a count less, {from}"));
+            to(TRAPEZOID, HALF).four(at::SPEED, speed).breaks(&format!("half the range at {speed}, {from}"));
+            to(TRAPEZOID, HALF).four(at::SPEED, -speed).breaks(&format!("half the range at -{speed}, {from}"));
+            to(TRAPEZOID, HALF + 1).four(at::SPEED, -speed).passes(&format!("back by a count less, {from}"));
+        }
+    }
+}
+
+#[test]
 fn servo_record_bytes_that_may_be_anything() {
     let bytes = [1, 2, 6, 7, at::OL, at::CL, at::SM, at::LOAD_PWM, at::WAITING + 5, at::LATCHED + 5];
     let fours = [at::WAITING, at::LATCHED, at::OFFSET, at::LAST_POSITION, at::LOAD_POSITION, at::GOAL, at::SETPOINT];

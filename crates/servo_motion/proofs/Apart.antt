@@ -42,7 +42,7 @@ wraps g q h k = either (decLe q g)
     either (yes y) = (0, omega arith, omega arith)
     either (no f) = let y = lt-of-not-le f in (1, omega arith, omega arith)
 
-neg-times : (a b : ℕ) → negℤ (pos a) *ℤ pos b ≡ negℤ (pos (a * b))
+pub neg-times : (a b : ℕ) → negℤ (pos a) *ℤ pos b ≡ negℤ (pos (a * b))
 neg-times zero b = simp zero-mul
 neg-times (suc a) b = refl
 

@@ -3,5 +3,7 @@ pub mod Search
 pub mod Speeds
 pub mod Velocity
 pub mod Apart
+pub mod Near
+pub mod Moves
 pub mod Runs
 pub mod Tests

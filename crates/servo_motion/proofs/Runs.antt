@@ -1,7 +1,7 @@
 -- Rest, Taken, Runs, Gentle and InRange: what ticks keep of a profile. Assumes nothing.
 use mathlib.Core.Path.{_≡_, refl, ap}
 use mathlib.Core.Bool.{true, false, false≢true}
-use Prim.Native.Nat.{ℕ, zero, suc, _+_, _-_, _≤_, _<_, min}
+use Prim.Native.Nat.{ℕ, zero, suc, _+_, _-_, _^_, _≤_, _<_, min}
 use native.Mathlib.Omega.{arith}
 use borrow.Author.Tests.{lt-leb}
 use lib.IntN.{ℤ, pos, negsuc, negℤ, natAbs, _-ℤ_}
@@ -16,15 +16,17 @@ use Rattle.servo_motion.proofs.Stopping.{stop-zero, stop-step}
 use Rattle.servo_motion.proofs.Speeds.{next, stillStops, nextSpeed-most}
 use Rattle.servo_motion.proofs.Velocity.{toward-most}
 use Rattle.servo_motion.proofs.Apart.{moved-turned, distance-moved}
+use Rattle.servo_motion.proofs.Near.{near}
 
 pub rest : Rest
-rest p h e =
+rest p h e n =
     let z : natAbs (p .speed) - p .acceleration ≡ 0 = omega (arith, ap natAbs e) in
     record {
       force = h;
       forth = λ _. rw e refl;
       back = λ _. rw e refl;
       stops = record { slow = omega (arith, ap natAbs e); room = rw (z, stop-zero) (omega arith) };
+      near = n;
     }
 
 -- the new speed's size
@@ -101,13 +103,16 @@ runs p r s =
     let w : ℤ = trapezoid a (p .top) z (p .speed) in
     let l = speed-within a (p .top) (s .force) z (p .speed) (s .stops) in
     let e = taken p r s in
+    let size = left-size z w (l .0) (l .1) in
+    let shorter : natAbs (left (byTrapezoid p)) < 2 ^ 47 = rw e (omega (arith, near (p .goal) (p .setpoint) .0 (s .near), size)) in
     record {
       force = s .force;
       forth = λ f. still-forth z w (l .0) (l .1) (rw e at f);
       back = λ f. still-back z w (l .0) (l .1) (rw e at f);
       stops =
-          rw (e, left-size z w (l .0) (l .1), trapezoid-size a (p .top) z (p .speed))
+          rw (e, size, trapezoid-size a (p .top) z (p .speed))
           (stillStops a (p .top) (natAbs z) (natAbs (p .speed)) (s .force) (s .stops) .1);
+      near = near (p .goal) (byTrapezoid p .setpoint) .1 shorter;
     }
 
 pub gentle : Gentle

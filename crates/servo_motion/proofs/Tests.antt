@@ -1,7 +1,7 @@
 -- Tested and InRanges: the tests of a profile say all that its records do. Assumes nothing.
-use mathlib.Core.Path.{_≡_, refl, sym}
-use mathlib.Core.Bool.{Bool, true, false, _&&_, _||_, false≢true}
-use borrow.Author.Tests.{leb-true, le-leb, ltb-true, lt-ltb}
+use mathlib.Core.Path.{_≡_, refl, sym, ap}
+use mathlib.Core.Bool.{Bool, true, false, not, _&&_, _||_, false≢true}
+use borrow.Author.Tests.{eqb-false, ne-eqb, leb-true, le-leb, ltb-true, lt-ltb, not-true}
 use Rattle.servo_motion.specs.Profile.{inRange, heads, running}
 use Rattle.servo_motion.specs.Promises.{Tested, InRanges}
 
@@ -25,7 +25,8 @@ pub tested : Tested
 unfolding running heads
 tested p = (
   λ e.
-      let s = both _ _ e in
+      let n = both _ _ e in
+      let s = both _ _ (n .0) in
       let h = both _ _ (s .0) in
       let f = both _ _ (h .0) in
       let w = both _ _ (h .1) in
@@ -34,11 +35,14 @@ tested p = (
         forth = instead _ _ (w .0);
         back = instead _ _ (w .1);
         stops = record { slow = leb-true _ _ (f .1); room = leb-true _ _ (s .1) };
+        near = eqb-false _ _ (not-true _ (n .1));
       },
   λ r.
       join
+      (join
       (join (join (lt-ltb _ _ (r .force)) (le-leb _ _ (r .stops .slow))) (join (unless _ _ (r .forth)) (unless _ _ (r .back))))
-      (le-leb _ _ (r .stops .room)),
+      (le-leb _ _ (r .stops .room)))
+      (ap not (ne-eqb _ _ (r .near))),
 )
 
 pub in-ranges : InRanges

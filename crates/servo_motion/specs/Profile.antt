@@ -1,13 +1,14 @@
 -- A profile and its step in either mode (document 01, "Tick").
 use mathlib.Core.List.{List, [], _∷_}
-use mathlib.Core.Bool.{Bool, _&&_, _||_}
+use mathlib.Core.Bool.{Bool, not, _&&_, _||_}
 use Prim.Native.Nat.{ℕ, zero, suc, _-_, _^_, _≤_, _<_}
-use lib.Dec.{leb, ltb}
+use lib.Dec.{eqb, leb, ltb}
 use lib.IntN.{ℤ, pos, negsuc, negℤ, natAbs}
 use lib.Signed.{leZ}
+use Rattle.base_integers.specs.Whole.{less}
 use Rattle.servo_motion.specs.declared.Profile.{Profile}
 use Rattle.servo_motion.specs.Trapezoid.{stop, nextSpeed}
-use Rattle.servo_motion.specs.Setpoint.{distance, moved}
+use Rattle.servo_motion.specs.Setpoint.{whole, distance, moved}
 use Rattle.servo_motion.specs.Velocity.{toward}
 
 -- 01 Servo: the greatest velocity and acceleration that a load can carry.
@@ -37,17 +38,22 @@ trapezoid a top (negsuc d) v = negℤ (pos (nextSpeed a top (suc d) (natAbs v)))
 abbrev pub left : Profile → ℤ
 left p = distance (p .goal) (p .setpoint)
 
+-- 01 Start: how many whole counts its goal is away, modulo 2 ^ 32; half the range is as far one way as the other.
+abbrev pub away : Profile → ℕ
+away p = less (p .goal) (whole (p .setpoint))
+
 -- 01 Numbers given back: whether the speed v goes the way of the distance d; with no distance left it may have either sign.
 unfoldable pub heads : ℤ → ℤ → Bool
 heads d v = (leZ d (pos 0) || leZ (pos 0) v) && (leZ (pos 0) d || leZ v (pos 0))
 
--- 01 Numbers given back: whether a trapezoid runs toward its goal and can still stop.
+-- 01 Numbers given back: whether a trapezoid runs toward a goal that is not half the range away and can still stop.
 unfoldable pub running : Profile → Bool
 running p =
     ltb 0 (p .acceleration)
     && leb (natAbs (p .speed)) (p .top)
     && heads (left p) (p .speed)
     && leb (stop (natAbs (p .speed) - p .acceleration) (p .acceleration)) (natAbs (left p))
+    && not (eqb (away p) (2 ^ 31))
 
 -- 01 Tick: a profile after a tick at the speed w.
 unfoldable pub stepped : Profile → ℤ → Profile

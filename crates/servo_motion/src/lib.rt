@@ -172,7 +172,7 @@ impl Profile {
             & (self.top <= FASTEST)
     }
 
-    // Whether a trapezoid runs toward its goal and can still stop.
+    // Whether a trapezoid runs toward a goal that is not half the range away and can still stop.
     pub fn is_running(self) -> bool
         requires { ⌜ Ranged self ⌝ }
         ensures { λ r. ⌜ r ≡ running self ⌝ }
@@ -184,7 +184,8 @@ impl Profile {
         let v = base_integers::size(self.speed) as u32;
         let d = distance(self.goal, self.setpoint);
         let stops = can_stop(lowered(v, a), a, base_integers::size(d));
-        (v <= self.top) & is_heading(d, self.speed) & stops
+        let away = base_integers::less(self.goal, whole(self.setpoint));
+        (v <= self.top) & is_heading(d, self.speed) & stops & !(away == 0x8000_0000)
     }
 
     // A tick at the speed w.

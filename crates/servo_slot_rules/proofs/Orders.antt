@@ -1,16 +1,17 @@
 -- Set Gain, Reset Position, Stop and Clear Bits leave a servo such as a slot can hold. Assumes nothing.
-use mathlib.Core.Path.{_≡_, refl}
+use mathlib.Core.Path.{_≡_, refl, ap}
 use mathlib.Core.List.{List}
 use mathlib.Core.Bool.{Bool, true, false, cond}
 use Prim.Native.Nat.{ℕ, _^_, _<_}
 use native.Mathlib.Omega.{arith}
-use lib.IntN.{pos}
+use lib.IntN.{pos, natAbs}
 use Rattle.base_integers.specs.Whole.{less}
 use Rattle.base_integers.proofs.Same.{same-eq}
 use Rattle.base_layout.specs.Bytes.{Bytes}
 use Rattle.servo_motion.specs.declared.Profile.{Profile}
-use Rattle.servo_motion.specs.Profile.{Ranged}
+use Rattle.servo_motion.specs.Profile.{Ranged, left}
 use Rattle.servo_motion.proofs.Runs.{rest}
+use Rattle.servo_motion.proofs.Near.{near}
 use Rattle.servo_rules.specs.declared.Halt.{Halt}
 use Rattle.servo_rules.specs.declared.Halt.the-variants.{Keep, Release, Abrupt, Smooth, Here}
 use Rattle.servo_rules.specs.declared.Order.the-variants.{SetGain, ClearBits}
@@ -24,6 +25,7 @@ use Rattle.servo_rules.specs.Loads.{atRest, toSpeed}
 use Rattle.servo_rules.specs.Perform.{shifted, resetPosition, holding, smooth, haltedBy, drops, stopped, canHalt, perform}
 use Rattle.servo_rules.proofs.Bounds.{gain-range, fit}
 use Rattle.servo_rules.proofs.Keeping.{either}
+use Rattle.servo_rules.proofs.Shifting.{resets-position}
 use Rattle.servo_slot_rules.specs.Slot.{gains, settings}
 use Rattle.servo_slot_rules.proofs.Good.{Live, InMode, Sane, Good}
 use Rattle.servo_slot_rules.proofs.Replaced.{counts-good, settings-good, run-good, dropped-fits, blank-kept, resting-ranged, off-sane, ready-live}
@@ -43,9 +45,9 @@ shifted-ranged x p r = record {
 }
 
 module _ {power : ℕ} {r : Run} (s : Sane power r) where
-  shifted-sane : (x : ℕ) → atRest r ≡ true → Sane power (withProfile (shifted x (r .profile)) r)
+  shifted-sane : (x : ℕ) → atRest r ≡ true → left (shifted x (r .profile)) ≡ left (r .profile) → Sane power (withProfile (shifted x (r .profile)) r)
   unfolding shifted
-  shifted-sane x e = record {
+  shifted-sane x e same = record {
     profile = shifted-ranged x (r .profile) (s .profile);
     memory = s .memory;
     pulse = s .pulse;
@@ -59,7 +61,10 @@ module _ {power : ℕ} {r : Run} (s : Sane power r) where
       at Pwm t = t
       at Hold t = t
       at Velocity t = t
-      at Trapezoid t = (t .0, t .1, rest _ (t .2 .force) (same-eq _ _ e))
+      at Trapezoid t =
+          let p : Profile = shifted x (r .profile) in
+          let short = near (r .profile .goal) (r .profile .setpoint) .0 (t .2 .near) in
+          (t .0, t .1, rest p (t .2 .force) (same-eq _ _ e) (near (p .goal) (p .setpoint) .1 (omega (arith, ap natAbs same))))
 
   holding-sane : (x : ℕ) → x < 2 ^ 32 → Live power (r .drive .error) → Sane power (holding x r)
   unfolding holding
@@ -120,8 +125,9 @@ module _ {m : Servo} (g : Good m) where
   pub reset-good : atRest (m .run) ≡ true → Good (resetPosition m)
   unfolding resetPosition
   reset-good e =
+      let same = resets-position m (record { profile = g .sane .profile; raw = g .samples .1 .0; last = g .counts .1 }) .far in
       counts-good
-      (settings-good (run-good g _ (shifted-sane (g .sane) (position m) e)) _ (dropped-fits (m .settings) (g .settings)))
+      (settings-good (run-good g _ (shifted-sane (g .sane) (position m) e same)) _ (dropped-fits (m .settings) (g .settings)))
       (record { offset = m .samples .latched .raw; last = less (m .counts .last) (position m) })
       (g .samples .1 .0, omega arith)
 

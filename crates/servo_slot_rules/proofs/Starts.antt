@@ -4,6 +4,7 @@ use mathlib.Core.List.{List, [], _∷_}
 use mathlib.Core.Bool.{Bool, true, false, cond, not, _||_}
 use Prim.Native.Nat.{ℕ, _^_, _<_, _≤_}
 use native.Mathlib.Omega.{arith}
+use borrow.Author.Tests.{eqb-false, not-true}
 use lib.Dec.{eqb, ltb}
 use lib.IntN.{ℤ, pos, natAbs}
 use Rattle.base_integers.specs.Whole.{less}
@@ -57,9 +58,9 @@ module _ {power : ℕ} {r : Run} (s : Sane power r) (l : Live power (r .drive .e
       }
 
   toPlace-sane : (x goal a top : ℕ) → x < 2 ^ 48 → goal < 2 ^ 32 → 0 < a → a ≤ fastest → top ≤ fastest → r .profile .speed ≡ pos 0
-      → Sane power (toPlace x goal a top r)
+      → (less goal (whole x) ≡ 2 ^ 31 → ⊥) → Sane power (toPlace x goal a top r)
   unfolding toPlace
-  toPlace-sane x goal a top h i f k j e =
+  toPlace-sane x goal a top h i f k j e n =
       let p = s .profile in
       record {
         profile = record { setpoint = h; speed = p .speed; goal = i; aim = p .aim; acceleration = k; top = j };
@@ -67,7 +68,7 @@ module _ {power : ℕ} {r : Run} (s : Sane power r) (l : Live power (r .drive .e
         pulse = omega arith;
         output = s .output;
         powerless = s .powerless;
-        mode = (refl, l, rest _ f e);
+        mode = (refl, l, rest _ f e n);
       }
 
 module _ {m : Servo} (g : Good m) where
@@ -91,7 +92,7 @@ module _ {m : Servo} (g : Good m) where
       let away : Bool = not (eqb (less (x .load .place) (whole (beginning m))) (2 ^ 31)) in
       let h = every-hold (x .rates .paced ∷ x .rates .ramped ∷ x .load .placed ∷ ltb 0 (x .rates .velocity) ∷ atRest (m .run) ∷ away ∷ []) c in
       toPlace-sane (g .sane) l (beginning m) (x .load .place) _ _ (beginning-small m (g .sane .profile)) (g .settings .1 .1 .1 .1 .1 .0)
-      (rated .force (h .1 .0)) (rated .acceleration) (rated .velocity) (same-eq _ _ (h .1 .1 .1 .1 .0))
+      (rated .force (h .1 .0)) (rated .acceleration) (rated .velocity) (same-eq _ _ (h .1 .1 .1 .1 .0)) (eqb-false _ _ (not-true _ (h .1 .1 .1 .1 .1 .0)))
 
   pub start-good : startable m ≡ true → Good (start m)
   unfolding startable complete start

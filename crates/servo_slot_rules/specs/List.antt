@@ -43,7 +43,7 @@ still p = same (p .speed) (pos 0)
 abbrev pub live : ℕ → Drive → Bool
 live power d = not (d .error) && not (eqb power 0)
 
--- each mode's own conditions; a trapezoid goes toward its goal and can still stop within the distance left
+-- each mode's own conditions; a trapezoid goes toward a goal that is not half the range away, and can still stop within the distance left
 abbrev pub modeFits : Mode → ℕ → Run → Bool
 modeFits Off power r = still (r .profile) && silent (r .drive) && emptied (r .memory) && unpulsed (r .drive)
 modeFits Pwm power r = still (r .profile) && emptied (r .memory) && live power (r .drive)

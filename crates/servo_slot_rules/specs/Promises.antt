@@ -75,7 +75,7 @@ pub record Lines (s : List ℕ) (m : Servo) : Type 0 where
   pub pwm : m .run .drive .mode ≡ Pwm → m .run .profile .speed ≡ pos 0
   pub pwmEmpty : m .run .drive .mode ≡ Pwm → (m .run .memory .integral ≡ pos 0) × (m .run .memory .previous ≡ pos 0)
   pub hold : m .run .drive .mode ≡ Hold → m .run .profile .speed ≡ pos 0
-  -- a trapezoid goes toward its goal and can still stop
+  -- a trapezoid goes toward a goal that is not half the range away, and can still stop
   pub trapezoid : m .run .drive .mode ≡ Trapezoid → Running (m .run .profile)
   -- the PWM value is 0 in every mode but PWM; every mode but off has a clear error bit and power that is not low
   pub unpulsed : (m .run .drive .mode ≡ Pwm → ⊥) → m .run .drive .pulse ≡ pos 0

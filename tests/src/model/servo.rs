@@ -121,6 +121,11 @@ pub fn distance(goal: u32, setpoint: i64) -> i64 {
     i64::from(goal.wrapping_sub(whole(setpoint)) as i32) * 65_536 - (setpoint & 0xFFFF)
 }
 
+/// Whether a goal is as far from a setpoint the one way round as the other.
+pub fn is_half_turn(goal: u32, setpoint: i64) -> bool {
+    goal.wrapping_sub(whole(setpoint)) == HALF_TURN
+}
+
 /// w + (w - a) + (w - 2a) + ..., the positive terms, counted and summed at once.
 pub fn stopping_sum(w: i64, a: i64) -> i64 {
     if w <= 0 {
@@ -345,7 +350,7 @@ impl Servo {
     fn trapezoid_needs(&self, from: i64, branch: impl Fn(Branch, Branch) -> Branch, slip: Slip) -> Vec<(bool, Branch)> {
         let load = &self.load;
         let judged = if slip == Slip::HalfTurnFromOldSetpoint { self.setpoint } else { from };
-        let half_turn = load.position_carried && load.position.wrapping_sub(whole(judged)) == HALF_TURN;
+        let half_turn = load.position_carried && is_half_turn(load.position, judged);
         let half_turn_as = if self.servo_off() {
             branch(Branch::StartHalfTurnFromOff, Branch::NowHalfTurnFromOff)
         } else {
