@@ -49,7 +49,7 @@ changed-at g zero (m ∷ ms) (suc i) = rw (eqb·suc-zero i) (sym (map-same (getE
 changed-at g (suc j) (m ∷ ms) zero = rw (eqb·zero-suc j)
 changed-at g (suc j) (m ∷ ms) (suc i) = rw (eqb·suc-suc i j) (changed-at g j ms i)
 
-pub map-at : {M : Type 0} (g : M → M) (ms : List M) (i : ℕ) → getElem? (map g ms) i ≡ Option·map g (getElem? ms i)
+pub map-at : {M A : Type 0} (g : M → A) (ms : List M) (i : ℕ) → getElem? (map g ms) i ≡ Option·map g (getElem? ms i)
 map-at g [] i = refl
 map-at g (m ∷ ms) zero = refl
 map-at g (m ∷ ms) (suc i) = map-at g ms i

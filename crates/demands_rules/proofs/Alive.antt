@@ -257,7 +257,7 @@ same-met zero = refl
 same-met (suc zero) = refl
 same-met (suc (suc i)) = refl
 
-pub called : netIn slots (leftBy (fed room (noOp 1 ++ noOp 2)) addressed) ≡ netIn slots (leftBy (fed room (noOp 2 ++ noOp 1)) addressed)
+pub called : leftBy (fed room (noOp 1 ++ noOp 2)) addressed ≡ leftBy (fed room (noOp 2 ++ noOp 1)) addressed
 called =
     by-calls addressed (fed room (noOp 1 ++ noOp 2)) (fed room (noOp 2 ++ noOp 1)) firstThenSecond secondThenFirst
     addressed-valid

@@ -2,17 +2,26 @@
 use mathlib.Core.Path.{_≡_, refl, sym, ap, ap₂, _∙_}
 use mathlib.Core.Logic.{_⊎_, inl, inr}
 use mathlib.Core.List.{List, [], _∷_, _++_, append-assoc}
-use Prim.Native.Nat.{ℕ}
+use Prim.Native.Nat.{ℕ, _≤_}
+use native.Mathlib.Omega.{arith}
+use lib.ListN.{length, length-map}
 use Rattle.chain_rules.specs.Chain.{Net, Reply, flat}
 use Rattle.types_rules.specs.Types.{Module, AnySample, kind, slots}
-use Rattle.net_rules.specs.Record.{netIn}
-use Rattle.api_rules.specs.Promises.{Refuses, Passes}
+use Rattle.types_rules.proofs.Laws.{lawful}
+use Rattle.net_rules.specs.Record.{chainMost, netIn, stored}
+use Rattle.net_rules.proofs.Valid.{valid-is}
+use Rattle.net_rules.proofs.Stored as Stored
+use Rattle.net_rules.proofs.Stored.{there, stored-twice}
+use Rattle.api_rules.specs.Table.{byteTable, servoSampleTable, ioSampleTable, tickTable}
+use Rattle.api_rules.specs.Calls.{byteRecord, sampleRecord, tickRecord}
+use Rattle.api_rules.specs.Promises.{ValidRecord, Refuses, Passes}
 use Rattle.api_rules.proofs.Kept.{kept, holds}
 use Rattle.api_rules.proofs.Refused.{refused, done}
 use Rattle.demands_history_rules.specs.Events.{Event, event, run}
-use Rattle.demands_history_rules.specs.Calls.{Call, refusals, leaves, leftBy, writes, writtenBy, does, doneBy}
+use Rattle.demands_history_rules.specs.Calls.{Call, byte, servoSample, ioSample, tick, AllHanded, refusals, leaves, leftBy, writes, writtenBy, does, doneBy}
 use Rattle.demands_history_rules.proofs.Calls.{passes?, call-kept, refused-leaves, refused-writes, passed-leaves, passed-writes}
-use Rattle.demands_rules.specs.Motion.{FromSetup, Through, AnyCalls, RefusedIsNoStep}
+use Rattle.demands_rules.proofs.Types.{typeOf, types, event-types, call-types, same-sizes}
+use Rattle.demands_rules.specs.Motion.{FromSetup, AnyCalls, RefusedIsNoStep}
 
 pub from-setup : FromSetup
 from-setup net types p = (kept .setup net types p, holds .setup net types p)
@@ -31,14 +40,61 @@ done-refused : (c : Call) (cs : List Call) (net : List ℕ) → Refuses (refusal
 done-refused c cs net r =
     ap (λ (l : List (Event AnySample)). l ++ doneBy cs (leaves net c)) (sym (refused (refusals net c) [] (does c ∷ []) refl r))
 
-pub any-calls : AnyCalls
-any-calls net [] v h = record { valid = v; network = refl; replies = refl }
-any-calls net (c ∷ cs) v h = at (passes? (refusals net c)) (any-calls (leaves net c) cs (call-kept net c (h .0) v) (h .1))
+-- ---- the bytes that hold nothing
+
+-- a call leaves the record as it was, or with another network of the same types in it
+record Left (net r : List ℕ) : Type 0 where
+  net′ : Net Module
+  types : types (net′ .modules) ≡ types (netIn slots net .modules)
+  left : r ≡ stored slots net′ net
+
+passed-stored : (net : List ℕ) (c : Call) → Passes (refusals net c) → leaves net c ≡ stored slots (event kind (does c) (netIn slots net) .net) net
+unfolding byteRecord sampleRecord tickRecord
+passed-stored net (byte mark x room) p = sym (done (byteTable net mark room) net _ refl p)
+passed-stored net (servoSample place raw power ad) p = sym (done (servoSampleTable net place power) net _ refl p)
+passed-stored net (ioSample place inputs ad1 ad2 ad3 counter) p = sym (done (ioSampleTable net place inputs) net _ refl p)
+passed-stored net tick p = sym (done (tickTable net) net _ refl p)
+
+left-by : (net : List ℕ) (c : Call) → ValidRecord net → Left net (leaves net c)
+left-by net c v = at (passes? (refusals net c))
+  where
+    same : leaves net c ≡ net → Left net (leaves net c)
+    same e = record { net′ = netIn slots net; types = refl; left = e ∙ sym (there lawful net (v .1) (v .0)) }
+
+    at : Passes (refusals net c) ⊎ Refuses (refusals net c) → Left net (leaves net c)
+    at (inl p) = record { net′ = event kind (does c) (netIn slots net) .net; types = event-types c (netIn slots net); left = passed-stored net c p }
+    at (inr r) = same (refused-leaves net c r)
+
+-- as many modules as there are types
+as-many : (ms ns : List Module) → types ms ≡ types ns → length ns ≤ chainMost → length ms ≤ chainMost
+as-many ms ns e h = let q : length ms ≡ length ns = sym (length-map ms typeOf) ∙ ap length e ∙ length-map ns typeOf in omega arith
+
+-- a network of the same types, written into the record after any calls, is as if written into the record before them
+written-after : (net : List ℕ) (cs : List Call) (n : Net Module) → ValidRecord net → AllHanded cs → types (n .modules) ≡ types (netIn slots net .modules)
+    → stored slots n (leftBy cs net) ≡ stored slots n net
+written-after net [] n v h e = refl
+written-after net (c ∷ cs) n v h e =
+    let l = left-by net c v in
+    let most : length (netIn slots net .modules) ≤ chainMost = Stored.holds lawful net (v .1) (v .0) .most in
+    written-after (leaves net c) cs n (call-kept net c (h .0) v) (h .1) (e ∙ sym (call-types net c (h .0) v))
+    ∙ ap (stored slots n) (l .left)
+    ∙ stored-twice lawful (l .net′) n net (valid-is slots net (v .0) .size) (as-many (l .net′ .modules) (netIn slots net .modules) (l .types) most) (as-many (n .modules) (netIn slots net .modules) e most) (same-sizes (l .net′ .modules) (n .modules) (l .types ∙ sym e))
+
+-- ---- any calls
+
+record Ran (net : List ℕ) (cs : List Call) : Type 0 where
+  valid : ValidRecord (leftBy cs net)
+  network : netIn slots (leftBy cs net) ≡ run kind (doneBy cs net) (netIn slots net) .net
+  replies : writtenBy cs net ≡ flat (run kind (doneBy cs net) (netIn slots net) .replies)
+
+ran : (net : List ℕ) (cs : List Call) → ValidRecord net → AllHanded cs → Ran net cs
+ran net [] v h = record { valid = v; network = refl; replies = refl }
+ran net (c ∷ cs) v h = at (passes? (refusals net c)) (ran (leaves net c) cs (call-kept net c (h .0) v) (h .1))
   where
     later : List (Event AnySample)
     later = doneBy cs (leaves net c)
 
-    at : Passes (refusals net c) ⊎ Refuses (refusals net c) → Through (leaves net c) cs → Through net (c ∷ cs)
+    at : Passes (refusals net c) ⊎ Refuses (refusals net c) → Ran (leaves net c) cs → Ran net (c ∷ cs)
     at (inl p) t =
         let e : netIn slots (leaves net c) ≡ event kind (does c) (netIn slots net) .net = passed-leaves net c (h .0) v p in
         let d = done-passed c cs net p in
@@ -69,6 +125,23 @@ any-calls net (c ∷ cs) v h = at (passes? (refusals net c)) (any-calls (leaves 
               ∙ ap (λ (n : Net Module). flat (run kind later n .replies)) e
               ∙ ap (λ (l : List (Event AnySample)). flat (run kind l (netIn slots net) .replies)) (sym d);
         }
+
+types-after : (net : List ℕ) (cs : List Call) → ValidRecord net → AllHanded cs → types (netIn slots (leftBy cs net) .modules) ≡ types (netIn slots net .modules)
+types-after net [] v h = refl
+types-after net (c ∷ cs) v h = types-after (leaves net c) cs (call-kept net c (h .0) v) (h .1) ∙ call-types net c (h .0) v
+
+pub any-calls : AnyCalls
+any-calls net cs v h =
+    let r = ran net cs v h in
+    record {
+      valid = r .valid;
+      network = r .network;
+      bytes =
+          sym (there lawful (leftBy cs net) (r .valid .1) (r .valid .0))
+          ∙ written-after net cs (netIn slots (leftBy cs net)) v h (types-after net cs v h)
+          ∙ ap (λ (n : Net Module). stored slots n net) (r .network);
+      replies = r .replies;
+    }
 
 pub refused-is-no-step : RefusedIsNoStep
 refused-is-no-step net [] later c r = (

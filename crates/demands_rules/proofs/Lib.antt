@@ -1,4 +1,5 @@
 mod Asking
+mod Types
 mod Known
 mod Alike
 pub mod Calls

@@ -12,7 +12,7 @@ use Rattle.line_receiver.specs.declared.Received.{Received}
 use Rattle.line_receiver.specs.declared.Answer.{Answer}
 use Rattle.line_receiver.specs.declared.Answer.the-variants.{Ended, Nothing}
 use Rattle.line_receiver.specs.Receive.{taken}
-use Rattle.line_receiver.specs.Frames.{Byte, Frame, frameIn}
+use Rattle.line_receiver.specs.Frames.{Frame, frameIn}
 use Rattle.module_rules.specs.Touch.{individually}
 use Rattle.module_rules.specs.Kind.{executed}
 use Rattle.chain_rules.specs.Chain.{Net, Step, addresses, touched, byteStep}
@@ -42,6 +42,7 @@ use Rattle.demands_history_rules.proofs.Events.{changed-at, map-at}
 use Rattle.demands_history_rules.proofs.Calls.{passes?, refused-leaves, passed-leaves}
 use Rattle.demands_rules.specs.Motion.{At}
 use Rattle.demands_rules.specs.Place.{inTime}
+use Rattle.demands_rules.proofs.Types.{typeOf, call-types}
 
 -- the servo that a module is, if it is one
 abbrev pub servoOf : (t : ModuleType) → Of t → Option Servo
@@ -183,57 +184,16 @@ made net c i m h v e = at (passes? (refusals net c))
         (k, ap (λ (n : Net Module). getElem? (n .modules) i) (passed-leaves net c h v p) ∙ q, d)
     at (inr r) = (m, ap (λ (s : List ℕ). getElem? (netIn slots s .modules) i) (refused-leaves net c r) ∙ e, same c (refused-silent net i c r) (refused-time net i m c r))
 
--- ---- a module stays of its type
-
-abbrev tagIn : Option Module → Option ModuleType
-tagIn none = none
-tagIn (some m) = some (m .0)
-
-tag-mapped : (g : Module → Module) → ((m : Module) → g m .0 ≡ m .0) → (o : Option Module) → tagIn (Option·map g o) ≡ tagIn o
-tag-mapped g h none = refl
-tag-mapped g h (some m) = ap some (h m)
-
-abbrev tagAt : Net Module → ℕ → Option ModuleType
-tagAt n i = tagIn (getElem? (n .modules) i)
-
-either-tag : (t : Bool) (x y : Module) → x .0 ≡ y .0 → cond t x y .0 ≡ y .0
-either-tag true x y e = e
-either-tag false x y e = refl
-
-byte-tag : (n : Net Module) (b : Byte) (i : ℕ) (a : Answer) (r : Receiver) → taken (n .receiver) (b .value) (b .mark) ≡ record { next = r; answer = a }
-    → tagAt (byteStep kind n b .net) i ≡ tagAt n i
-byte-tag n b i Nothing r e = ap (λ (s : Step Module). tagAt (s .net) i) (step-on kind n b r e)
-byte-tag n b i (Ended d) r e =
-    let f : Frame = frameIn (n .receiver) d in
-    ap (λ (s : Step Module). tagAt (s .net) i) (step-end kind n b r d e)
-    ∙ ap tagIn (touched-before kind f (n .modules) i)
-    ∙ tag-mapped (λ m. cond (touched true (f .address) (addresses kind (n .modules)) i) (executed kind f m) m)
-    (λ m. either-tag (touched true (f .address) (addresses kind (n .modules)) i) (executed kind f m) m refl)
-    (getElem? (n .modules) i)
-
-sample-tag : (x : AnySample) (place : ℕ) (n : Net Module) (i : ℕ) → tagAt (sampleStep place x n) i ≡ tagAt n i
-sample-tag x place n i =
-    ap tagIn (changed-at (kind .sample x) place (n .modules) i)
-    ∙ tag-mapped (λ m. cond (eqb i place) (kind .sample x m) m) (λ m. either-tag (eqb i place) (kind .sample x m) m refl) (getElem? (n .modules) i)
-
-event-tag : (c : Call) (n : Net Module) (i : ℕ) → tagAt (event kind (does c) n .net) i ≡ tagAt n i
-event-tag (byte mark x room) n i = byte-tag n (byteOf x (eqb mark 1)) i (taken (n .receiver) x (eqb mark 1) .answer) (taken (n .receiver) x (eqb mark 1) .next) refl
-event-tag (servoSample place raw power ad) n i = sample-tag (servoSampleOf raw power ad) place n i
-event-tag (ioSample place inputs ad1 ad2 ad3 counter) n i = sample-tag (ioSampleOf inputs ad1 ad2 ad3 counter) place n i
-event-tag tick n i = ap tagIn (map-at (kind .tick) (n .modules) i) ∙ tag-mapped (kind .tick) (λ m. refl) (getElem? (n .modules) i)
-
-pub call-tag : (net : List ℕ) (c : Call) (i : ℕ) → Handed c → ValidRecord net → tagAt (netIn slots (leaves net c)) i ≡ tagAt (netIn slots net) i
-call-tag net c i h v = at (passes? (refusals net c))
-  where
-    at : Passes (refusals net c) ⊎ Refuses (refusals net c) → tagAt (netIn slots (leaves net c)) i ≡ tagAt (netIn slots net) i
-    at (inl p) = ap (λ (n : Net Module). tagAt n i) (passed-leaves net c h v p) ∙ event-tag c (netIn slots net) i
-    at (inr r) = ap (λ (s : List ℕ). tagAt (netIn slots s) i) (refused-leaves net c r)
-
 -- where a servo is after a call one was before it
 pub was-servo : (net : List ℕ) (c : Call) (i : ℕ) (k : Servo) → Handed c → ValidRecord net → At (leaves net c) i k → (m : Servo) × At net i m
-was-servo net c i k h v e = at (getElem? (netIn slots net .modules) i) refl (sym (call-tag net c i h v) ∙ ap tagIn e)
+was-servo net c i k h v e =
+    at (getElem? (netIn slots net .modules) i) refl
+    (sym (map-at typeOf (netIn slots net .modules) i)
+    ∙ ap (λ (ts : List ModuleType). getElem? ts i) (sym (call-types net c h v))
+    ∙ map-at typeOf (netIn slots (leaves net c) .modules) i
+    ∙ ap (Option·map typeOf) e)
   where
-    at : (o : Option Module) → getElem? (netIn slots net .modules) i ≡ o → tagIn o ≡ some servo → (m : Servo) × At net i m
+    at : (o : Option Module) → getElem? (netIn slots net .modules) i ≡ o → Option·map typeOf o ≡ some servo → (m : Servo) × At net i m
     at none q z = let y : _≡_ {A = Bool} true false = cc in absurd (true≢false y)
     at (some (servo, m)) q z = (m, q)
     at (some (inout, m)) q z = let y : _≡_ {A = Bool} true false = cc in absurd (true≢false y)

@@ -18,7 +18,7 @@ use Rattle.module_rules.specs.declared.Station.{Station}
 use Rattle.types_rules.specs.Types.{Module, AnySample, kind, slots}
 use Rattle.types_rules.proofs.Promised.{every-type}
 use Rattle.types_rules.proofs.Kept.{given-address}
-use Rattle.net_rules.specs.Record.{netIn}
+use Rattle.net_rules.specs.Record.{netIn, stored}
 use Rattle.demands_history_rules.specs.Events.{Event, sent, sampled, ticked, Outcome, event, run, Harmless, Ordinary, singly, metBy, metInTurn, alone, aloneReplies}
 use Rattle.demands_history_rules.specs.Calls.{Call, doneBy}
 use Rattle.demands_rules.specs.Order.{EachAlone, MeetsTheSame, EndsTheSame, KeepsAddress, OrderDoesNotMatter, OrderOfAll, OfAnyKind, Product, ByCalls}
@@ -139,10 +139,9 @@ by-calls net cs₁ cs₂ h₁ h₂ v a₁ a₂ z o₁ o₂ d₁ d₂ same =
     let q = order-of-all kind keeps-address (netIn slots net) h₁ h₂ z o₁ o₂ same in
     let x = outcome-of net cs₁ h₁ d₁ in
     let y = outcome-of net cs₂ h₂ d₂ in (
-      any-calls net cs₁ v a₁ .network
-          ∙ ap (λ (o : Outcome Module). o .net) x
-          ∙ q .0
-          ∙ sym (any-calls net cs₂ v a₂ .network ∙ ap (λ (o : Outcome Module). o .net) y),
+      any-calls net cs₁ v a₁ .bytes
+          ∙ ap (λ (n : Net Module). stored slots n net) (ap (λ (o : Outcome Module). o .net) x ∙ q .0 ∙ sym (ap (λ (o : Outcome Module). o .net) y))
+          ∙ sym (any-calls net cs₂ v a₂ .bytes),
       λ i.
           ap (λ (o : Outcome Module). repliesOf i (o .replies)) x
           ∙ q .1 i

@@ -30,7 +30,7 @@ use Rattle.servo_rules.specs.LoadPromises.{Ready, Startable}
 use Rattle.servo_rules.specs.RestPromises.{following}
 use Rattle.types_rules.specs.Table.{ModuleType, servo, rulesOf}
 use Rattle.types_rules.specs.Types.{Module, kind, slots}
-use Rattle.net_rules.specs.Record.{netIn}
+use Rattle.net_rules.specs.Record.{netIn, stored}
 use Rattle.net_rules.specs.Calls.{byteOf, setUp}
 use Rattle.api_rules.specs.Table.{setupTable, byteTable}
 use Rattle.api_rules.specs.Calls.{setupRecord}
@@ -44,10 +44,12 @@ FromSetup =
     (net types : List ℕ) → Passes (setupTable net types)
     → ValidRecord (setupRecord net types) × (netIn slots (setupRecord net types) ≡ setUp types)
 
--- the record is valid, it holds what the calls that were not refused make of the network, and the bytes written are its replies
+-- the record is valid, it holds what the calls that were not refused make of the network, every byte that holds nothing of a network is as it was
+-- lent, and the bytes written are its replies
 pub record Through (net : List ℕ) (cs : List Call) : Type 0 where
   pub valid : ValidRecord (leftBy cs net)
   pub network : netIn slots (leftBy cs net) ≡ run kind (doneBy cs net) (netIn slots net) .net
+  pub bytes : leftBy cs net ≡ stored slots (run kind (doneBy cs net) (netIn slots net) .net) net
   pub replies : writtenBy cs net ≡ flat (run kind (doneBy cs net) (netIn slots net) .replies)
 
 -- So it is after any bytes, samples and ticks, in any order, from any valid record.

@@ -62,7 +62,7 @@ OfAnyKind = (M S : Type 0) (K : Kind M S) → EachAlone K × (KeepsAddress K →
 abbrev pub Product : Type 0
 Product = KeepsAddress kind × EachAlone kind × OrderDoesNotMatter kind × OrderOfAll kind
 
--- By calls: two lists of exported calls that do, a byte at a time, what two such histories say leave records of the same network, and every
+-- By calls: two lists of exported calls that do, a byte at a time, what two such histories say leave the same record, byte for byte, and every
 -- place has given the same replies.
 abbrev pub ByCalls : Type 0
 ByCalls =
@@ -70,7 +70,7 @@ ByCalls =
     → ValidRecord net → AllHanded cs₁ → AllHanded cs₂ → netIn slots net .receiver ≡ idle → Ordinary h₁ → Ordinary h₂
     → doneBy cs₁ net ≡ singly h₁ → doneBy cs₂ net ≡ singly h₂
     → ((i : ℕ) → i < length (netIn slots net .modules) → MeetsTheSame kind (netIn slots net) h₁ h₂ i)
-    → (netIn slots (leftBy cs₁ net) ≡ netIn slots (leftBy cs₂ net))
+    → (leftBy cs₁ net ≡ leftBy cs₂ net)
     × ((i : ℕ) → repliesOf i (run kind (doneBy cs₁ net) (netIn slots net) .replies) ≡ repliesOf i (run kind (doneBy cs₂ net) (netIn slots net) .replies))
 
 -- a network in which a servo drives its motor with 100, an I/O module puts out 0x234, and both have replied: status, asked items, sum

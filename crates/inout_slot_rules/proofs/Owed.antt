@@ -1,12 +1,12 @@
 -- What the I/O module owes as a module type. Assumes nothing.
-use mathlib.Core.Path.{_≡_, refl, ap}
+use mathlib.Core.Path.{_≡_, refl, sym, ap, _∙_}
 use mathlib.Core.List.{List}
 use mathlib.Core.Bool.{true}
 use Prim.Native.Nat.{ℕ}
 use native.Mathlib.Omega.{arith}
 use borrow.Author.Tests.{eqb-true}
 use borrow.Author.Needs.{needs}
-use lib.ListN.{getD}
+use lib.ListN.{length, getD}
 use Rattle.base_layout.specs.Bytes.{pasted}
 use Rattle.base_layout.proofs.Every.{every-hold}
 use Rattle.base_layout.proofs.Pasted.{pasted-start}
@@ -25,6 +25,10 @@ lawful : Lawful slots
 unfolding encodeOf decodeOf okOf
 lawful = slotted-lawful slot (omega arith)
 
+sized : (m n : Io) → length (encodeOf m) ≡ length (encodeOf n)
+unfolding encodeOf
+sized m n = slot .lawful .length-enc m ∙ sym (slot .lawful .length-enc n)
+
 begins : (m : Io) (s : List ℕ) → getD (pasted 0 (encodeOf m) s) 0 0 ≡ typeNumber
 unfolding encodeOf
 begins m s = ap (λ (l : List ℕ). getD l 0 0) (pasted-start (encodeOf m) s)
@@ -41,6 +45,7 @@ pub owes : Owes inout slots (sample .codec .fits)
 owes = record {
   apart = apart;
   lawful = lawful;
+  sized = sized;
   begins = begins;
   typed = typed;
   stationed = stationed;

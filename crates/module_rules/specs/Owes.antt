@@ -35,6 +35,8 @@ module _ {M S C : Type 0} (T : Rules M S C) (L : Slots M) (Good : S → Type 0) 
     pub apart : Apart T
     -- slots are lawful; they begin with the type's number, and the station comes next
     pub lawful : Lawful L
+    -- all modules of the type have as many bytes
+    pub sized : (m n : M) → length (L .enc m) ≡ length (L .enc n)
     pub begins : (m : M) (s : List ℕ) → getD (pasted 0 (L .enc m) s) 0 0 ≡ T .number
     pub typed : (s : List ℕ) → L .ok s ≡ true → getD s 0 0 ≡ T .number
     pub stationed : (s : List ℕ) → T .station (L .dec s) ≡ station .codec .dec stationAt s

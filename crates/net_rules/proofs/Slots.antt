@@ -1,5 +1,5 @@
 -- The slots of a record as a list by themselves: modules written into them, there and back. Assumes nothing.
-use mathlib.Core.Path.{_≡_, refl, ap, ap₂, _∙_}
+use mathlib.Core.Path.{_≡_, refl, sym, ap, ap₂, _∙_}
 use mathlib.Core.List.{List, [], _∷_, _++_, append-assoc}
 use mathlib.Core.Bool.{Bool, true, _&&_}
 use Prim.Native.Nat.{ℕ, zero, suc, _+_, _*_, _≤_}
@@ -11,7 +11,7 @@ use Rattle.base_layout.specs.Bytes.{pasted, Bytes}
 use Rattle.module_rules.specs.Slots.{Slots, slotSize, Lawful}
 use Rattle.net_rules.specs.Record.{modulesIn, okSlots, putModules}
 use Rattle.net_rules.specs.Promises.{Each}
-use Rattle.base_layout.proofs.Pasted.{pasted-first, length-within, bytes-pasted}
+use Rattle.base_layout.proofs.Pasted.{pasted-start, pasted-first, length-within, bytes-pasted}
 use Rattle.base_layout.proofs.Laws.{bytes-take, bytes-drop, bytes-append}
 use Rattle.net_rules.proofs.Tests.{and-true}
 
@@ -114,3 +114,33 @@ module _ {M : Type 0} {L : Slots M} (law : Lawful L) where
     law .sound (take slotSize t) (first-long k t h) (bytes-take slotSize t b) (first-ok k t v),
     slots-fit k (drop slotSize t) (rest-long k t h) (bytes-drop slotSize t b) (rest-ok k t v),
   )
+
+-- ---- written twice
+
+-- pair by pair the bytes of two lists of modules are as many
+abbrev pub SameSizes : {M : Type 0} → Slots M → List M → List M → Type 0
+SameSizes L [] [] = Unit {0}
+SameSizes L [] (n ∷ ns) = ⊥
+SameSizes L (m ∷ ms) [] = ⊥
+SameSizes L (m ∷ ms) (n ∷ ns) = (length (L .enc m) ≡ length (L .enc n)) × SameSizes L ms ns
+
+-- what is put over as many bytes leaves nothing of them
+over-put : (x y t : List ℕ) → length x ≡ length y → pasted 0 y (pasted 0 x t) ≡ pasted 0 y t
+over-put x y t e =
+    pasted-start y (pasted 0 x t)
+    ∙ ap (λ (l : List ℕ). y ++ l) (ap₂ (λ (n : ℕ) (l : List ℕ). drop n l) (sym e) (pasted-start x t) ∙ drop-at x (drop (length x) t) (length x) refl ∙ ap (λ (n : ℕ). drop n t) e)
+    ∙ sym (pasted-start y t)
+
+module _ {M : Type 0} {L : Slots M} (law : Lawful L) where
+  pub put-twice : (ms ns : List M) (t : List ℕ) → slotSize * length ms ≤ length t → SameSizes L ms ns → putSlots L ns (putSlots L ms t) ≡ putSlots L ns t
+  unfolding putSlots
+  put-twice [] [] t h e = refl
+  put-twice [] (n ∷ ns) t h e = absurd e
+  put-twice (m ∷ ms) [] t h e = absurd e
+  put-twice (m ∷ ms) (n ∷ ns) t h (e, es) =
+      let x : List ℕ = pasted 0 (L .enc m) (take slotSize t) in
+      let z : slotSize ≤ length t = omega (arith, mul-suc slotSize (length ms)) in
+      let l : length x ≡ slotSize = length-within slotSize (L .enc m) t (law .short m) z in
+      let rest : List ℕ = putSlots L ms (drop slotSize t) in
+      ap₂ (λ (a b : List ℕ). pasted 0 (L .enc n) a ++ putSlots L ns b) (take-at x rest slotSize l) (drop-at x rest slotSize l)
+      ∙ ap₂ (λ (a b : List ℕ). a ++ b) (over-put (L .enc m) (L .enc n) (take slotSize t) e) (put-twice ms ns (drop slotSize t) (rest-long (length ms) t h) es)

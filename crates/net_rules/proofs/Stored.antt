@@ -9,11 +9,12 @@ use lib.Seq.{drop-cons, append-snoc, drop-at, getD-at}
 use Rattle.base_layout.specs.Bytes.{pasted, Bytes}
 use Rattle.line_receiver.specs.declared.Receiver.{Receiver}
 use Rattle.module_rules.specs.Slots.{Slots, slotSize, Lawful}
+use Rattle.chain_rules.specs.Chain.{Net}
 use Rattle.net_rules.specs.Record.{countAt, slotsAt, recordSize, receiverIn, receiverBytes, okReceiver, modulesIn, okSlots, netIn, putModules, stored, valid, chainMost}
 use Rattle.net_rules.specs.Promises.{SoundNet, Holds, There, Back}
 use Rattle.base_layout.proofs.Pasted.{pasted-start}
 use Rattle.base_layout.proofs.Laws.{bytes-drop, bytes-append, bytes-one}
-use Rattle.net_rules.proofs.Slots.{putSlots, length-modules, put-is, length-put, bytes-put, slots-back, slots-there, slots-fit}
+use Rattle.net_rules.proofs.Slots.{putSlots, SameSizes, length-modules, put-is, length-put, put-twice, bytes-put, slots-back, slots-there, slots-fit}
 use Rattle.net_rules.proofs.Head.{length-receiver, receiver-there, receiver-sound, receiver-back, receiver-ok, bytes-receiver}
 use Rattle.net_rules.proofs.Valid.{Valid, valid-is, is-valid}
 
@@ -167,3 +168,24 @@ module _ {M : Type 0} {L : Slots M} (law : Lawful L) where
         subst⁻¹ Bytes q (out-bytes (n .receiver) (n .modules) t h l c),
         ap length q ∙ out-length (n .receiver) (n .modules) t h l c,
       )
+
+  -- a network written over another of the same sizes leaves nothing of it
+  pub stored-twice : (n k : Net M) (s : List ℕ) → length s ≡ recordSize → length (n .modules) ≤ chainMost → length (k .modules) ≤ chainMost
+      → SameSizes L (n .modules) (k .modules) → stored L k (stored L n s) ≡ stored L k s
+  stored-twice n k s e h g z =
+      let t : List ℕ = drop slotsAt s in
+      let long : slotSize * length (n .modules) ≤ length t = omega (arith, length-drop slotsAt s) in
+      let w : stored L n s ≡ front (n .receiver) (length (n .modules)) ++ putSlots L (n .modules) t = stored-is (n .receiver) (n .modules) s e h in
+      let size : length (stored L n s) ≡ recordSize =
+      ap length w
+      ∙ length-append (front (n .receiver) (length (n .modules))) (putSlots L (n .modules) t)
+      ∙ ap₂ _+_ (length-front (n .receiver) (length (n .modules))) (length-put law (n .modules) t long)
+      ∙ whole-size in
+      stored-is (k .receiver) (k .modules) (stored L n s) size g
+      ∙ ap (λ (l : List ℕ). front (k .receiver) (length (k .modules)) ++ putSlots L (k .modules) l)
+      (ap (drop slotsAt) w ∙ front-slots (n .receiver) (length (n .modules)) (putSlots L (n .modules) t))
+      ∙ ap (λ (l : List ℕ). front (k .receiver) (length (k .modules)) ++ l) (put-twice law (n .modules) (k .modules) t long z)
+      ∙ sym (stored-is (k .receiver) (k .modules) s e g)
+    where
+      whole-size : slotsAt + length (drop slotsAt s) ≡ recordSize
+      whole-size = omega (arith, length-drop slotsAt s)

@@ -1,12 +1,12 @@
 -- What the servo owes as a module type. Assumes nothing.
-use mathlib.Core.Path.{_≡_, refl, ap}
+use mathlib.Core.Path.{_≡_, refl, sym, ap, _∙_}
 use mathlib.Core.List.{List}
 use mathlib.Core.Bool.{true}
 use Prim.Native.Nat.{ℕ, zero, suc}
 use native.Mathlib.Omega.{arith}
 use borrow.Author.Tests.{eqb-true}
 use borrow.Author.Needs.{needs}
-use lib.ListN.{getD}
+use lib.ListN.{length, getD}
 use lib.IntN.{pos}
 use lib.Signed.{ltZ}
 use Rattle.base_layout.specs.Bytes.{pasted, Bytes}
@@ -37,6 +37,10 @@ use Rattle.servo_slot_rules.proofs.Ticks.{tick-good}
 lawful : Lawful slots
 unfolding encodeOf decodeOf okOf
 lawful = slotted-lawful slot (omega arith)
+
+sized : (m n : Servo) → length (encodeOf m) ≡ length (encodeOf n)
+unfolding encodeOf
+sized m n = slot .lawful .length-enc m ∙ sym (slot .lawful .length-enc n)
 
 begins : (m : Servo) (s : List ℕ) → getD (pasted 0 (encodeOf m) s) 0 0 ≡ typeNumber
 unfolding encodeOf
@@ -73,6 +77,7 @@ unfolding decodeOf outputsFrom
 owes = record {
   apart = apart;
   lawful = lawful;
+  sized = sized;
   begins = begins;
   typed = typed;
   stationed = λ s. refl;

@@ -1,0 +1,89 @@
+-- A module stays of its type, whatever call comes, and so it stays as many bytes. Assumes nothing.
+use mathlib.Core.Path.{_≡_, refl, sym, ap, ap₂, _∙_}
+use mathlib.Core.Logic.{_⊎_, inl, inr}
+use mathlib.Core.List.{List, [], _∷_, map}
+use mathlib.Core.Bool.{Bool, true, false, cond, _&&_, true≢false}
+use Prim.Native.Nat.{ℕ, zero, suc}
+use lib.ListN.{length}
+use lib.Dec.{eqb}
+use Rattle.line_receiver.specs.declared.Receiver.{Receiver}
+use Rattle.line_receiver.specs.declared.Answer.{Answer}
+use Rattle.line_receiver.specs.declared.Answer.the-variants.{Ended, Nothing}
+use Rattle.line_receiver.specs.Receive.{taken}
+use Rattle.line_receiver.specs.Frames.{Byte, Frame, frameIn}
+use Rattle.module_rules.specs.Touch.{named}
+use Rattle.module_rules.specs.Kind.{executed}
+use Rattle.chain_rules.specs.Chain.{Net, Step, handed, byteStep, changed}
+use Rattle.chain_rules.proofs.Bytes.{step-on, step-end}
+use Rattle.types_rules.specs.Table.{ModuleType, Of, rulesOf, slotsOf}
+use Rattle.types_rules.specs.Types.{Module, kind, slots}
+use Rattle.types_rules.proofs.Owed.{owes}
+use Rattle.net_rules.specs.Record.{netIn}
+use Rattle.net_rules.specs.Calls.{byteOf}
+use Rattle.net_rules.proofs.Slots.{SameSizes}
+use Rattle.api_rules.specs.Calls.{servoSampleOf, ioSampleOf}
+use Rattle.api_rules.specs.Promises.{ValidRecord, Refuses, Passes}
+use Rattle.demands_history_rules.specs.Events.{event}
+use Rattle.demands_history_rules.specs.Calls.{Call, byte, servoSample, ioSample, tick, Handed, refusals, leaves, does}
+use Rattle.demands_history_rules.proofs.Calls.{passes?, refused-leaves, passed-leaves}
+
+abbrev pub typeOf : Module → ModuleType
+typeOf m = m .0
+
+abbrev pub types : List Module → List ModuleType
+types ms = map typeOf ms
+
+either-type : (t : Bool) (x y : Module) → typeOf x ≡ typeOf y → typeOf (cond t x y) ≡ typeOf y
+either-type true x y e = e
+either-type false x y e = refl
+
+handed-types : (f : Frame) (enabled : Bool) (ms : List Module) → types (handed kind f enabled ms) ≡ types ms
+handed-types f enabled [] = refl
+handed-types f enabled (m ∷ ms) =
+    ap₂ (λ (t : ModuleType) (ts : List ModuleType). t ∷ ts) (either-type (enabled && named (f .address) (kind .address m)) (executed kind f m) m refl) (handed-types f (kind .address m .low) ms)
+
+changed-types : (g : Module → Module) → ((m : Module) → typeOf (g m) ≡ typeOf m) → (i : ℕ) (ms : List Module) → types (changed g i ms) ≡ types ms
+changed-types g h i [] = refl
+changed-types g h zero (m ∷ ms) = ap (λ (t : ModuleType). t ∷ types ms) (h m)
+changed-types g h (suc i) (m ∷ ms) = ap (λ (ts : List ModuleType). typeOf m ∷ ts) (changed-types g h i ms)
+
+ticked-types : (ms : List Module) → types (map (kind .tick) ms) ≡ types ms
+ticked-types [] = refl
+ticked-types (m ∷ ms) = ap (λ (ts : List ModuleType). typeOf m ∷ ts) (ticked-types ms)
+
+byte-types : (n : Net Module) (b : Byte) (a : Answer) (r : Receiver) → taken (n .receiver) (b .value) (b .mark) ≡ record { next = r; answer = a }
+    → types (byteStep kind n b .net .modules) ≡ types (n .modules)
+byte-types n b Nothing r e = ap (λ (s : Step Module). types (s .net .modules)) (step-on kind n b r e)
+byte-types n b (Ended d) r e =
+    ap (λ (s : Step Module). types (s .net .modules)) (step-end kind n b r d e) ∙ handed-types (frameIn (n .receiver) d) true (n .modules)
+
+pub event-types : (c : Call) (n : Net Module) → types (event kind (does c) n .net .modules) ≡ types (n .modules)
+event-types (byte mark x room) n =
+    byte-types n (byteOf x (eqb mark 1)) (taken (n .receiver) x (eqb mark 1) .answer) (taken (n .receiver) x (eqb mark 1) .next) refl
+event-types (servoSample place raw power ad) n = changed-types (kind .sample (servoSampleOf raw power ad)) (λ m. refl) place (n .modules)
+event-types (ioSample place inputs ad1 ad2 ad3 counter) n = changed-types (kind .sample (ioSampleOf inputs ad1 ad2 ad3 counter)) (λ m. refl) place (n .modules)
+event-types tick n = ticked-types (n .modules)
+
+pub call-types : (net : List ℕ) (c : Call) → Handed c → ValidRecord net → types (netIn slots (leaves net c) .modules) ≡ types (netIn slots net .modules)
+call-types net c h v = at (passes? (refusals net c))
+  where
+    at : Passes (refusals net c) ⊎ Refuses (refusals net c) → types (netIn slots (leaves net c) .modules) ≡ types (netIn slots net .modules)
+    at (inl p) = ap (λ (n : Net Module). types (n .modules)) (passed-leaves net c h v p) ∙ event-types c (netIn slots net)
+    at (inr r) = ap (λ (s : List ℕ). types (netIn slots s .modules)) (refused-leaves net c r)
+
+-- ---- bytes
+
+abbrev sizeOf : ModuleType → ℕ
+sizeOf t = length (slotsOf t .enc (rulesOf t .started))
+
+sized : (t : ModuleType) (m : Of t) → length (slotsOf t .enc m) ≡ sizeOf t
+sized t m = owes t .sized m (rulesOf t .started)
+
+pub same-sizes : (ms ns : List Module) → types ms ≡ types ns → SameSizes slots ms ns
+same-sizes [] [] e = tt
+same-sizes [] (n ∷ ns) e = let z : _≡_ {A = Bool} true false = cc in absurd (true≢false z)
+same-sizes (m ∷ ms) [] e = let z : _≡_ {A = Bool} true false = cc in absurd (true≢false z)
+same-sizes (m ∷ ms) (n ∷ ns) e =
+    let t : typeOf m ≡ typeOf n = cc in
+    let ts : types ms ≡ types ns = cc in
+    (sized (m .0) (m .1) ∙ ap sizeOf t ∙ sym (sized (n .0) (n .1)), same-sizes ms ns ts)
