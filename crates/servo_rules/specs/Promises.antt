@@ -1,5 +1,5 @@
--- What is promised of a servo's frames, answers and samples, besides what is promised of every module type; Load-, Stop-, Tick- and
--- RestPromises have the rest. Each is proved under its name, with small letters, in proofs/.
+-- What is promised of a servo's frames, answers, power-up and samples, besides what is promised of every module type; Ask-, Byte-, Store-,
+-- Load-, Stop-, Tick- and RestPromises have the rest. Each is proved under its name, with small letters, in proofs/.
 use mathlib.Core.Path.{_≡_}
 use mathlib.Core.Logic.{_↔_}
 use Prim.Native.Nat.{_%_, _^_, _<_}
