@@ -3,10 +3,10 @@ use mathlib.Core.Path.{_≡_}
 use mathlib.Core.Bool.{true, false}
 use mathlib.Core.List.{List}
 use Prim.Native.Nat.{ℕ, _≤_, _<_}
-use lib.IntN.{ℤ, pos, negℤ, natAbs}
+use lib.IntN.{ℤ, pos, negℤ, natAbs, _+ℤ_, _-ℤ_, _*ℤ_}
 use Rattle.servo_filter.specs.declared.Gains.{Gains}
 use Rattle.servo_filter.specs.declared.Memory.{Memory}
-use Rattle.servo_filter.specs.Filter.{Kept, summed, driven, output, filtered, blank, told, after}
+use Rattle.servo_filter.specs.Filter.{Kept, held, summed, driven, output, filtered, blank, told, after}
 
 -- 01 Servo: what Set Gain takes.
 pub record Ranged (g : Gains) : Type 0 where
@@ -30,6 +30,21 @@ Works =
     → natAbs e ≤ g .el
     → told (filtered g m e)
     ≡ record { trips = false; memory = record { integral = summed g m e; previous = e }; output = output (g .ol) (driven g m e) }
+
+-- g with other gains, and with the same limits
+abbrev pub only : ℕ → ℕ → ℕ → Gains → Gains
+only kp kd ki g = record { kp = kp; kd = kd; ki = ki; il = g .il; ol = g .ol; el = g .el }
+
+-- u is the sum of three terms, and each gain has its own: alone, Kp gives Kp times the error, Kd gives Kd times the error's change, and Ki
+-- gives Ki times the new integral.
+pub record Sums (g : Gains) (m : Memory) (e : ℤ) : Type 0 where
+  pub proportional : driven (only (g .kp) 0 0 g) m e ≡ pos (g .kp) *ℤ e
+  pub derivative : driven (only 0 (g .kd) 0 g) m e ≡ pos (g .kd) *ℤ (e -ℤ m .previous)
+  pub integral : driven (only 0 0 (g .ki) g) m e ≡ pos (g .ki) *ℤ held (g .il) (m .integral +ℤ e)
+  pub sum : driven g m e ≡ driven (only (g .kp) 0 0 g) m e +ℤ driven (only 0 (g .kd) 0 g) m e +ℤ driven (only 0 0 (g .ki) g) m e
+
+abbrev pub Terms : Type 0
+Terms = (g : Gains) (m : Memory) (e : ℤ) → Sums g m e
 
 -- The output is within OL, whatever came in.
 abbrev pub Within : Type 0

@@ -41,4 +41,4 @@ status-bits m =
 pub numbers-fit : NumbersFit
 unfolding numbersOf
 numbers-fit m h =
-    (omega arith, (h, (omega arith, (omega arith, (omega arith, (omega arith, (omega arith, (omega arith, tt))))))))
+    (omega arith, (omega arith, (omega arith, (omega arith, (omega arith, (omega arith, (omega arith, (omega arith, tt))))))))

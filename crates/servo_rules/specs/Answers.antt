@@ -31,6 +31,10 @@ typeNumber = 0
 abbrev pub typeAndVersion : ℕ
 typeAndVersion = 2560
 
+-- 01 Servo, Items: home is 0
+abbrev pub home : ℕ
+home = 0
+
 -- 01 Tick, Move done: off, PWM, holding; goal speed reached; no distance and no speed left
 abbrev pub doneBy : Mode → Run → Bool
 doneBy Off r = true
@@ -59,7 +63,7 @@ numbersOf x k y =
     ∷ x .ad
     ∷ less (positionAt x k) (k .last) % 65536
     ∷ 0
-    ∷ 0
+    ∷ home
     ∷ typeAndVersion
     ∷ word (y .previous) % 65536
     ∷ 0

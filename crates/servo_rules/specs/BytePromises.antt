@@ -36,7 +36,7 @@ pub record Fours (p v a : List ℕ) : Type 0 where
   pub velocity : length v ≡ 4
   pub acceleration : length a ≡ 4
 
--- These are as many as the control byte asks for, and any data bytes that are so many are such ones (01 Load Trajectory).
+-- data bytes that are put together so, with their parts
 pub record LoadParts (ds : List ℕ) : Type 0 where
   pub place : List ℕ
   pub velocity : List ℕ
@@ -45,6 +45,7 @@ pub record LoadParts (ds : List ℕ) : Type 0 where
   pub fours : Fours place velocity acceleration
   pub whole : ds ≡ loadBytes (getD ds 0 0) place velocity acceleration pulse
 
+-- A load's bytes are as many as its control byte asks for, and data bytes that are so many are a load's bytes (01 Load Trajectory).
 pub record LoadCount : Type 0 where
   pub needs : (control : ℕ) (p v a : List ℕ) (u : ℕ) → Fours p v a → length (loadBytes control p v a u) ≡ needed control
   pub parts : (ds : List ℕ) → length ds ≡ needed (getD ds 0 0) → LoadParts ds

@@ -8,6 +8,7 @@ pub mod Answers
 pub mod AskPromises
 pub mod BytePromises
 pub mod Promises
+pub mod StorePromises
 pub mod LoadPromises
 pub mod StopPromises
 pub mod TickPromises

@@ -1,16 +1,17 @@
--- What is promised of a servo's frames, answers and samples, besides what is promised of every module type; Load-, Stop-, Tick- and
--- RestPromises have the rest. Each is proved under its name, with small letters, in proofs/.
+-- What is promised of a servo's frames, answers, power-up and samples, besides what is promised of every module type; Ask-, Byte-, Store-,
+-- Load-, Stop-, Tick- and RestPromises have the rest. Each is proved under its name, with small letters, in proofs/.
 use mathlib.Core.Path.{_≡_}
 use mathlib.Core.Logic.{_↔_}
 use Prim.Native.Nat.{_%_, _^_, _<_}
-use mathlib.Core.List.{[]}
+use mathlib.Core.List.{[], _∷_}
 use mathlib.Core.Bool.{Bool, true, false, not}
 use lib.ListN.{length, getD}
 use lib.Dec.{eqb}
 use lib.IntN.{pos, natAbs}
 use lib.Signed.{ltZ}
 use Rattle.base_integers.specs.Bits.{bit}
-use Rattle.base_integers.specs.Whole.{less}
+use Rattle.base_integers.specs.Whole.{less, word}
+use Rattle.base_layout.specs.Bytes.{le}
 use Rattle.line_receiver.specs.Frames.{Frame}
 use Rattle.module_rules.specs.Report.{Fit}
 use Rattle.servo_motion.specs.Profile.{left}
@@ -20,11 +21,11 @@ use Rattle.servo_rules.specs.declared.Sample.{Sample}
 use Rattle.servo_rules.specs.declared.Mode.the-variants.{Off, Velocity, Trapezoid}
 use Rattle.servo_rules.specs.declared.Servo.{Servo}
 use Rattle.servo_rules.specs.Asks.{gainsIn, tuningIn, gainsFit}
-use Rattle.servo_rules.specs.State.{position, powered, fresh, withSettings, sampled, withTuning}
+use Rattle.servo_rules.specs.State.{position, powered, fresh, started, withSettings, sampled, withTuning}
 use Rattle.servo_rules.specs.Loads.{signedBy}
 use Rattle.servo_rules.specs.Perform.{perform}
 use Rattle.servo_rules.specs.Tick.{ticked}
-use Rattle.servo_rules.specs.Answers.{done, bitAt, status, numbers, sizes, outputsOf, withCause, execute, reply}
+use Rattle.servo_rules.specs.Answers.{done, bitAt, status, numbers, sizes, outputsOf, servo, withCause, execute, reply}
 
 -- The status byte: bit 0 move done, 1 cause not 0, 3 power 1, 4 the error bit, and no other bit (01 Servo, Status bits).
 pub record Status (m : Servo) : Type 0 where
@@ -51,6 +52,63 @@ MoveDone = (m : Servo) → Finished m
 -- Every item's number fits into its bytes, so that a reply spells it whole.
 abbrev pub NumbersFit : Type 0
 NumbersFit = (m : Servo) → m .samples .latched .ad < 256 → Fit sizes (numbers m)
+
+-- Each item by its number, of as many bytes as its size; the type's byte comes before the version's (01 Servo, Items).
+pub record Items (m : Servo) : Type 0 where
+  pub place : getD (numbers m) 0 0 ≡ less (m .samples .latched .raw) (m .counts .offset)
+  pub ad : getD (numbers m) 1 0 ≡ m .samples .latched .ad
+  pub change : getD (numbers m) 2 0 ≡ less (position m) (m .counts .last) % 65536
+  pub zero : (getD (numbers m) 3 0 ≡ 0) × (getD (numbers m) 7 0 ≡ 0)
+  pub home : getD (numbers m) 4 0 ≡ 0
+  pub version : le (getD sizes 5 0) (getD (numbers m) 5 0) ≡ 0 ∷ 10 ∷ []
+  pub error : getD (numbers m) 6 0 ≡ word (m .run .memory .previous) % 65536
+  pub bytes : sizes ≡ 4 ∷ 1 ∷ 2 ∷ 1 ∷ 4 ∷ 2 ∷ 2 ∷ 1 ∷ []
+
+abbrev pub ItemsAre : Type 0
+ItemsAre = (m : Servo) → Items m
+
+-- what a servo is after power-up and after Hard Reset: off and done, the error bit set, SM 1, nothing loaded, nothing assigned, the rest 0
+pub record Blank (m : Servo) : Type 0 where
+  pub mode : m .run .drive .mode ≡ Off
+  pub finished : done (m .run) ≡ true
+  pub error : m .run .drive .error ≡ true
+  pub amplifier : m .run .drive .amplifier ≡ false
+  pub output : m .run .drive .output ≡ pos 0
+  pub pulse : m .run .drive .pulse ≡ pos 0
+  pub speed : m .run .profile .speed ≡ pos 0
+  pub profile : m .run .profile ≡ record { setpoint = 0; speed = pos 0; goal = 0; aim = pos 0; acceleration = 0; top = 0 }
+  pub integral : m .run .memory .integral ≡ pos 0
+  pub previous : m .run .memory .previous ≡ pos 0
+  pub kp : m .settings .tuning .gains .kp ≡ 0
+  pub kd : m .settings .tuning .gains .kd ≡ 0
+  pub ki : m .settings .tuning .gains .ki ≡ 0
+  pub il : m .settings .tuning .gains .il ≡ 0
+  pub ol : m .settings .tuning .gains .ol ≡ 0
+  pub el : m .settings .tuning .gains .el ≡ 0
+  pub cl : m .settings .tuning .cl ≡ 0
+  pub sm : m .settings .tuning .sm ≡ 1
+  pub waits : m .settings .load .waits ≡ false
+  pub paced : m .settings .rates .paced ≡ false
+  pub ramped : m .settings .rates .ramped ≡ false
+  pub velocity : m .settings .rates .velocity ≡ 0
+  pub acceleration : m .settings .rates .acceleration ≡ 0
+  pub individual : m .station .address .individual ≡ 0
+  pub group : m .station .address .group ≡ 255
+  pub leader : m .station .address .leader ≡ false
+  pub low : m .station .address .low ≡ false
+  pub cause : m .station .cause ≡ 0
+  pub items : m .station .items ≡ 0
+  pub baud : m .station .baud ≡ 0
+
+-- Power-up: all samples and counts 0, and the status byte has bits 0 and 4 (01 Who is touched, Servo).
+pub record PowerUp : Type 0 where
+  pub blank : Blank started
+  pub renewed : (m : Servo) → Blank (servo .renewed m)
+  pub waiting : (started .samples .waiting .raw ≡ 0) × (started .samples .waiting .power ≡ 0) × (started .samples .waiting .ad ≡ 0)
+  pub latched : (started .samples .latched .raw ≡ 0) × (started .samples .latched .power ≡ 0) × (started .samples .latched .ad ≡ 0)
+  pub counts : (started .counts .offset ≡ 0) × (started .counts .last ≡ 0)
+  pub here : position started ≡ 0
+  pub status : status started ≡ 17
 
 -- Hard Reset, which has no data: the power-up record with both samples kept, position and last tick's change 0, and no reply.
 pub record AfterReset (f : Frame) (alone : Bool) (m : Servo) : Type 0 where

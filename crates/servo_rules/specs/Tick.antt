@@ -10,8 +10,7 @@ use Rattle.servo_motion.specs.Setpoint.{whole}
 use Rattle.servo_motion.specs.Profile.{Ranged, byTrapezoid, byVelocity}
 use Rattle.servo_filter.specs.declared.Gains.{Gains}
 use Rattle.servo_filter.specs.declared.Filtered.{Filtered}
-use Rattle.servo_filter.specs.declared.Filtered.the-variants as Filters
-use Rattle.servo_filter.specs.Filter.{Kept, held, filtered}
+use Rattle.servo_filter.specs.Filter.{Kept, held, filtered, told}
 use Rattle.servo_rules.specs.declared.Mode.{Mode}
 use Rattle.servo_rules.specs.declared.Mode.the-variants.{Off, Pwm, Hold, Velocity, Trapezoid}
 use Rattle.servo_rules.specs.declared.Run.{Run}
@@ -41,9 +40,9 @@ putOut power u = cond (good power) u (pos 0)
 unfoldable pub tripped : Profile → Run → Run
 tripped p r = erring true (off (withProfile p r))
 
+-- 01 Filter: what the filter's answer says, after the profile's step to p: it trips, or brings its memory and an output
 abbrev pub filteredTo : Filtered → ℕ → Profile → Run → Run
-filteredTo (Filters.Output y u) power p r = running p y (putting (putOut power u) (r .drive))
-filteredTo Filters.Off power p r = tripped p r
+filteredTo a power p r = cond (told a .trips) (tripped p r) (running p (told a .memory) (putting (putOut power (told a .output)) (r .drive)))
 
 -- 01 Filter: the following error, at the new setpoint and the position here
 abbrev pub followedAt : ℕ → Run → ℤ
