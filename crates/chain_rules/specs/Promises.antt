@@ -64,6 +64,20 @@ RepliesAre {M} K =
     ≡ once (cond (touched true (f .address) (addresses K ms) i) (replied K f m) []))
     × ((f : Frame) (ms : List M) (i : ℕ) → getElem? ms i ≡ none → repliesOf i (repliesFrom 0 (said K f true ms)) ≡ [])
 
+-- Of a touched module that the frame names individually, or that leads its group, the reply is among those to the frame; of a touched one that
+-- is neither there is none (01 Who is touched).
+pub record Heard {M S : Type 0} (K : Kind M S) (f : Frame) (m : M) (replies : List (List ℕ)) : Type 0 where
+  pub alone : K .address m .individual ≡ f .address → replies ≡ once (K .reply f (executed K f m))
+  pub leader : K .address m .leader ≡ true → replies ≡ once (K .reply f (executed K f m))
+  pub member : (K .address m .individual ≡ f .address → ⊥) → K .address m .leader ≡ false → replies ≡ []
+
+abbrev pub EachHeard : {M S : Type 0} → Kind M S → Type 0
+EachHeard {M} K =
+    (f : Frame) (ms : List M) (i : ℕ) (m : M)
+    → getElem? ms i ≡ some m
+    → touched true (f .address) (addresses K ms) i ≡ true
+    → Heard K f m (repliesOf i (repliesFrom 0 (said K f true ms)))
+
 -- replies in chain order, from place i on: each at a place after those of the replies before it
 abbrev pub Rising : ℕ → List Reply → Type 0
 Rising i [] = Unit {0}

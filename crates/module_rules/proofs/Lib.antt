@@ -8,3 +8,4 @@ pub mod Settled
 pub mod Replies
 pub mod Kept
 pub mod Touching
+pub mod Frames
