@@ -85,7 +85,7 @@ module _ {M S C : Type 0} (T : Rules M S C) (p : Apart T) where
   }
 
   -- a frame that asks for nothing known
-  unknown : (to code : ℕ) (ds : List ℕ) (alone : Bool) (m : M) → request T (undamaged to code ds) alone ≡ malformed
+  pub unknown : (to code : ℕ) (ds : List ℕ) (alone : Bool) (m : M) → request T (undamaged to code ds) alone ≡ malformed
       → Becomes T m (execute T (undamaged to code ds) alone m)
       (record { address = T .station m .address; cause = 2; items = T .station m .items; baud = T .station m .baud })
   unknown to code ds alone m q = becomes (settles T (undamaged to code ds) alone m refl q)
