@@ -213,3 +213,8 @@ NoFrame =
     → (drop receiverSize (byteRecord net mark byte room) ≡ drop receiverSize net)
     × (byteRoom net mark byte room ≡ room)
     × (byteWritten net mark byte room ≡ 0)
+
+-- Any two outcomes that a contract permits are equal (01 How tight the statements are): the contract of every exported call says of all that
+-- comes back, and of every byte lent, that it equals a definition at the call's inputs.
+abbrev pub OneOutcome : Type 1
+OneOutcome = (I O : Type 0) (outcome : I → O) (inputs : I) (x y : O) → x ≡ outcome inputs → y ≡ outcome inputs → x ≡ y

@@ -9,6 +9,7 @@ use Rattle.line_receiver.specs.declared.Receiver.{Receiver}
 use Rattle.line_receiver.specs.declared.Answer.the-variants.{Ended}
 use Rattle.line_receiver.specs.Receive.{total, waits, taken}
 use Rattle.line_receiver.specs.Frames.{Byte, Frame, frameIn}
+use Rattle.line_receiver.specs.Promises.{Numbered}
 use Rattle.module_rules.specs.declared.Address.{Address}
 use Rattle.module_rules.specs.Touch.{named}
 use Rattle.module_rules.specs.Kind.{Kind, executed, replied}
@@ -102,3 +103,7 @@ ByteTaken {M} K =
     × ((n : Net M) (b : Byte) (r : Receiver) (d : Bool)
     → taken (n .receiver) (b .value) (b .mark) ≡ record { next = r; answer = Ended d }
     → byteStep K n b ≡ frameStep K (frameIn (n .receiver) d) r (n .modules))
+
+-- The number of a byte tells what it ended: 0 nothing, 1 an undamaged frame, 2 a damaged one (01 Numbers given back).
+abbrev pub NumberTold : {M S : Type 0} → Kind M S → Type 0
+NumberTold {M} K = (n : Net M) (b : Byte) → Numbered (taken (n .receiver) (b .value) (b .mark) .answer) (byteStep K n b .number)
