@@ -1,5 +1,5 @@
 -- What a chain of any modules promises holds of this network's: who is touched, whose record changes, who replies. Assumes nothing.
-use Rattle.chain_rules.specs.Promises.{TouchedBefore, Enabled, OwnRecord, Untouched, Says, RepliesAre, EachHeard, InOrder, Lengths, ByteTaken, NumberTold}
+use Rattle.chain_rules.specs.Promises.{TouchedBefore, Enabled, HandedOn, OwnRecord, Untouched, Says, RepliesAre, EachHeard, InOrder, Lengths, ByteTaken, NumberTold}
 use Rattle.module_rules.specs.Promises.{SpeaksBefore}
 use Rattle.module_rules.specs.FramePromises.{Replying}
 use Rattle.module_rules.proofs.Speaking as Speaking
@@ -14,6 +14,9 @@ touched-before = Touching.touched-before kind
 
 pub enabled : Enabled
 enabled = Touching.enabled
+
+pub handed-on : HandedOn
+handed-on = Touching.handed-on
 
 pub own-record : OwnRecord kind
 own-record = Touching.own-record kind

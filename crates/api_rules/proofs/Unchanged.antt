@@ -1,5 +1,5 @@
 -- A refused call changes nothing, and the byte call's number tells whether it was refused. Assumes nothing.
-use mathlib.Core.Path.{_≡_, refl, sym, subst⁻¹, _∙_}
+use mathlib.Core.Path.{_≡_, refl, sym, ap, subst⁻¹, _∙_}
 use mathlib.Core.List.{List}
 use mathlib.Core.Bool.{Bool, true, false, cond, not}
 use Prim.Native.Nat.{ℕ, _≤_}
@@ -17,10 +17,10 @@ use Rattle.chain_rules.specs.Chain.{Net, byteStep}
 use Rattle.chain_rules.proofs.Bytes.{step-on, step-end, number-told}
 use Rattle.types_rules.specs.Types.{Module, kind, slots}
 use Rattle.net_rules.specs.Record.{roomSize, netIn, stored, valid}
-use Rattle.net_rules.specs.Calls.{byteOf, fresh, tickStep, sampleStep, outputsAt}
+use Rattle.net_rules.specs.Calls.{byteOf, fresh, tickStep, sampleStep, outputsIn, outputsAt}
 use Rattle.api_rules.specs.Table.{Line, first, setupTable, byteTable, servoSampleTable, ioSampleTable, tickTable, outputsTable}
-use Rattle.api_rules.specs.Calls.{unless, stepOf, servoSampleOf, ioSampleOf, sampleRecord, setupRecord, byteNumber, tickRecord, outputsBytes}
-use Rattle.api_rules.specs.Promises.{Refuses, Passes, Unchanged, Answers, OneOutcome}
+use Rattle.api_rules.specs.Calls.{unless, stepOf, servoSampleOf, ioSampleOf, sampleRecord, setupRecord, byteNumber, tickRecord, outputsBytes, readingBytes}
+use Rattle.api_rules.specs.Promises.{Refuses, Passes, Unchanged, Answers, OutputsTold, ReadingSpelled, OneOutcome}
 use Rattle.api_rules.specs.TablePromises.{ByteNumbers}
 use Rattle.api_rules.proofs.Refused.{refused, done, byte-refused}
 
@@ -89,6 +89,15 @@ answers net mark byte room =
             rw q big,
       );
     }
+
+pub outputs-told : OutputsTold
+unfolding outputsBytes
+outputs-told net place bytes t m p e =
+    sym (done (outputsTable net place) bytes (outputsAt (netIn slots net) place) refl p) ∙ ap outputsIn e
+
+pub reading-spelled : ReadingSpelled
+unfolding readingBytes
+reading-spelled status a b c d e f g h = refl
 
 pub one-outcome : OneOutcome
 one-outcome I O outcome inputs x y e q = e ∙ sym q

@@ -30,6 +30,23 @@ Enabled =
     → getElem? ws i ≡ some w
     → touched true a ws i ≡ (enabledAt ws i && named a w)
 
+-- So place 0 is touched if it has the frame's address, and so is a place behind a low ADDR_OUT; a place behind a high one never is.
+pub record Handing (a : ℕ) (ws : List Address) : Type 0 where
+  pub first : (w : Address) → getElem? ws 0 ≡ some w → touched true a ws 0 ≡ named a w
+  pub low : (i : ℕ) (p w : Address)
+      → getElem? ws i ≡ some p
+      → getElem? ws (suc i) ≡ some w
+      → p .low ≡ true
+      → touched true a ws (suc i) ≡ named a w
+  pub high : (i : ℕ) (p w : Address)
+      → getElem? ws i ≡ some p
+      → getElem? ws (suc i) ≡ some w
+      → p .low ≡ false
+      → touched true a ws (suc i) ≡ false
+
+abbrev pub HandedOn : Type 0
+HandedOn = (a : ℕ) (ws : List Address) → Handing a ws
+
 -- A module's record after a frame, and what it says, hang on the frame, its own record before it and whether its place is enabled: in two
 -- chains of any lengths, with any neighbours, they are the same.
 abbrev pub OwnRecord : {M S : Type 0} → Kind M S → Type 0

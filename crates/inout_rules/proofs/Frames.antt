@@ -38,6 +38,7 @@ codes to alone = record {
   synchStore = λ a b p q. refl;
   timer = λ t. refl;
   baud = λ b. refl;
+  baudAlone = λ b. refl;
   synchInput = refl;
   noOp = refl;
   hardReset = refl;

@@ -3,7 +3,7 @@
 use mathlib.Core.Path.{_≡_}
 use Prim.Native.Nat.{ℕ, _+_, _<_}
 use mathlib.Core.List.{List, [], _∷_}
-use mathlib.Core.Bool.{Bool, false}
+use mathlib.Core.Bool.{Bool, true, false}
 use lib.ListN.{getD}
 use Rattle.base_integers.specs.Bits.{bit}
 use Rattle.base_layout.specs.Bytes.{le}
@@ -37,6 +37,7 @@ pub record Asks (to : ℕ) (alone : Bool) : Type 0 where
   pub synchStore : (a b p q : ℕ) → request (undamaged to 7 (a ∷ b ∷ p ∷ q ∷ [])) alone ≡ wants (SynchStore (bitsOf a b) p q)
   pub timer : (t : ℕ) → request (undamaged to 8 (t ∷ [])) alone ≡ wants (Timer t)
   pub baud : (b : ℕ) → request (undamaged to 10 (b ∷ [])) false ≡ set (Rate b)
+  pub baudAlone : (b : ℕ) → request (undamaged to 10 (b ∷ [])) true ≡ malformed
   pub synchInput : request (undamaged to 12 []) alone ≡ wants SynchInput
   pub noOp : request (undamaged to 14 []) alone ≡ set Nothing
   pub hardReset : request (undamaged to 15 []) alone ≡ reset

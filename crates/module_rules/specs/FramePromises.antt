@@ -2,14 +2,17 @@
 -- (document 01, "Who is touched", "Commands of both types"). Each is proved under its name, with small letters, in proofs/.
 use mathlib.Core.Path.{_≡_}
 use mathlib.Core.Logic.{_⊎_, _↔_}
-use Prim.Native.Nat.{ℕ, _+_, _<_, _≤_}
-use mathlib.Core.List.{List, [], _∷_}
+use Prim.Native.Nat.{ℕ, _+_, _*_, _%_, _<_, _≤_}
+use mathlib.Core.List.{List, [], _∷_, _++_}
 use mathlib.Core.Bool.{Bool, true, false}
 use lib.ListN.{length}
+use Rattle.base_layout.specs.Bytes.{le}
+use Rattle.line_receiver.specs.Receive.{total}
 use Rattle.line_receiver.specs.Frames.{Frame}
 use Rattle.module_rules.specs.declared.Address.{Address}
 use Rattle.module_rules.specs.declared.Station.{Station}
 use Rattle.module_rules.specs.Touch.{powerUp, individually, named, speaks}
+use Rattle.module_rules.specs.Report.{chosen, report}
 use Rattle.module_rules.specs.Kind.{Kind, executed, replied}
 use Rattle.module_rules.specs.Rules.{Rules, execute}
 
@@ -41,6 +44,16 @@ pub record Replying {M S : Type 0} (K : Kind M S) : Type 0 where
   pub alone : (f : Frame) (m : M) → K .address m .individual ≡ f .address → replied K f m ≡ K .reply f (executed K f m)
   pub leader : (f : Frame) (m : M) → K .address m .leader ≡ true → replied K f m ≡ K .reply f (executed K f m)
   pub member : (f : Frame) (m : M) → (K .address m .individual ≡ f .address → ⊥) → K .address m .leader ≡ false → replied K f m ≡ []
+
+-- 01 Commands of both types: a reply is the status byte, the chosen items and the 8-bit sum of all these bytes. The lowest bit of the item byte is
+-- for the first item, which is there with its bytes, least significant first, exactly if that bit is set; the bits above it are for the others.
+pub record Reported : Type 0 where
+  pub whole : (status items : ℕ) (sizes numbers : List ℕ)
+      → report status items sizes numbers
+      ≡ (status ∷ chosen items sizes numbers) ++ ((status + total (chosen items sizes numbers)) % 256 ∷ [])
+  pub present : (above k x : ℕ) (ks xs : List ℕ) → chosen (1 + 2 * above) (k ∷ ks) (x ∷ xs) ≡ le k x ++ chosen above ks xs
+  pub absent : (above k x : ℕ) (ks xs : List ℕ) → chosen (2 * above) (k ∷ ks) (x ∷ xs) ≡ chosen above ks xs
+  pub example : report 0x11 0x05 (4 ∷ 2 ∷ 1 ∷ []) (0x12345678 ∷ 7 ∷ 0xAB ∷ []) ≡ 0x11 ∷ 0x78 ∷ 0x56 ∷ 0x34 ∷ 0x12 ∷ 0xAB ∷ 0xD0 ∷ []
 
 -- the frame for an address with a code and data bytes, undamaged
 abbrev pub undamaged : ℕ → ℕ → List ℕ → Frame
