@@ -1,4 +1,5 @@
 pub mod Tables
+pub mod Bounds
 pub mod Refused
 pub mod Numbers
 pub mod Unchanged

@@ -15,7 +15,7 @@ first-given (l ∷ ls) n h e = go (l .applies) refl (first-given ls n h)
     go true q rest = here (rw q at e) q
     go false q rest = later q (rest (rw q at e))
 
-given-first : {n : ℕ} {ls : List Line} → Given n ls → first ls ≡ n
+pub given-first : {n : ℕ} {ls : List Line} → Given n ls → first ls ≡ n
 given-first (here e q) = rw q e
 given-first (later q g) = rw q (given-first g)
 
@@ -28,7 +28,7 @@ none-applies (l ∷ ls) h e = go (l .applies) refl (none-applies ls (h .1))
     go true q rest = let z = rw q at e in absurd (omega (arith, h .0))
     go false q rest = (q, rest (rw q at e))
 
-none-first : (ls : List Line) → NoneApplies ls → first ls ≡ 0
+pub none-first : (ls : List Line) → NoneApplies ls → first ls ≡ 0
 none-first [] h = refl
 none-first (l ∷ ls) h = rw (h .0) (none-first ls (h .1))
 

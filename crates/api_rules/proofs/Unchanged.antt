@@ -1,25 +1,27 @@
 -- A refused call changes nothing, and the byte call's number tells whether it was refused. Assumes nothing.
-use mathlib.Core.Path.{_≡_, refl, sym}
+use mathlib.Core.Path.{_≡_, refl, sym, ap, subst⁻¹, _∙_}
 use mathlib.Core.List.{List}
 use mathlib.Core.Bool.{Bool, true, false, cond, not}
 use Prim.Native.Nat.{ℕ, _≤_}
 use native.Mathlib.Omega.{arith}
 use lib.ListN.{length}
-use lib.Dec.{ltb}
+use lib.Dec.{eqb, ltb}
 use Rattle.line_receiver.specs.declared.Receiver.{Receiver}
 use Rattle.line_receiver.specs.declared.Received.{Received}
 use Rattle.line_receiver.specs.declared.Answer.{Answer}
 use Rattle.line_receiver.specs.declared.Answer.the-variants.{Ended, Nothing}
 use Rattle.line_receiver.specs.Receive.{taken, numberOf}
 use Rattle.line_receiver.specs.Frames.{Byte}
+use Rattle.line_receiver.specs.Promises.{Numbered}
 use Rattle.chain_rules.specs.Chain.{Net, byteStep}
-use Rattle.chain_rules.proofs.Bytes.{step-on, step-end}
+use Rattle.chain_rules.proofs.Bytes.{step-on, step-end, number-told}
 use Rattle.types_rules.specs.Types.{Module, kind, slots}
 use Rattle.net_rules.specs.Record.{roomSize, netIn, stored, valid}
-use Rattle.net_rules.specs.Calls.{fresh, tickStep, sampleStep, outputsAt}
+use Rattle.net_rules.specs.Calls.{byteOf, fresh, tickStep, sampleStep, outputsIn, outputsAt}
 use Rattle.api_rules.specs.Table.{Line, first, setupTable, byteTable, servoSampleTable, ioSampleTable, tickTable, outputsTable}
-use Rattle.api_rules.specs.Calls.{unless, stepOf, servoSampleOf, ioSampleOf, sampleRecord, setupRecord, byteNumber, tickRecord, outputsBytes}
-use Rattle.api_rules.specs.Promises.{Refuses, Passes, Unchanged, Answers}
+use Rattle.api_rules.specs.Calls.{unless, stepOf, servoSampleOf, ioSampleOf, sampleRecord, setupRecord, byteNumber, tickRecord, outputsBytes, readingBytes}
+use Rattle.api_rules.specs.Promises.{Refuses, Passes, Unchanged, Answers, OutputsTold, ReadingSpelled, OneOutcome}
+use Rattle.api_rules.specs.TablePromises.{ByteNumbers}
 use Rattle.api_rules.proofs.Refused.{refused, done, byte-refused}
 
 -- what is refused is as it was
@@ -61,6 +63,11 @@ unfolding byteNumber
 number-done net mark byte room p =
     sym (done (byteTable net mark room) (first (byteTable net mark room)) (stepOf net mark byte .number) refl p)
 
+pub byte-numbers : ByteNumbers
+byte-numbers net mark byte room p =
+    subst⁻¹ (Numbered (taken (netIn slots net .receiver) byte (eqb mark 1) .answer)) (number-done net mark byte room p)
+    (number-told kind (netIn slots net) (byteOf byte (eqb mark 1)))
+
 -- the numbers of the byte call's table
 refusal-big : (a b c : Bool) → (_≡_ {A = ℕ} (cond a 16 (cond b 14 (cond c 15 0))) 0 → ⊥) → 11 ≤ cond a 16 (cond b 14 (cond c 15 0))
 refusal-big true b c h = omega arith
@@ -82,3 +89,15 @@ answers net mark byte room =
             rw q big,
       );
     }
+
+pub outputs-told : OutputsTold
+unfolding outputsBytes
+outputs-told net place bytes t m p e =
+    sym (done (outputsTable net place) bytes (outputsAt (netIn slots net) place) refl p) ∙ ap outputsIn e
+
+pub reading-spelled : ReadingSpelled
+unfolding readingBytes
+reading-spelled status a b c d e f g h = refl
+
+pub one-outcome : OneOutcome
+one-outcome I O outcome inputs x y e q = e ∙ sym q

@@ -1,3 +1,4 @@
 pub mod Table
 pub mod Calls
 pub mod Promises
+pub mod TablePromises

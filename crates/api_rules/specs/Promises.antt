@@ -3,10 +3,11 @@
 use mathlib.Core.Path.{_≡_}
 use mathlib.Core.Logic.{_↔_}
 use Prim.Native.Nat.{ℕ, _+_, _*_, _/_, _<_, _≤_}
-use mathlib.Core.List.{List, [], _∷_, map}
+use mathlib.Core.List.{List, [], _∷_, _++_, map}
 use mathlib.Core.Bool.{true, false}
-use lib.ListN.{length, getD, take, drop}
-use Rattle.base_layout.specs.Bytes.{Bytes}
+use mathlib.Core.Option.{some}
+use lib.ListN.{length, getD, getElem?, take, drop}
+use Rattle.base_layout.specs.Bytes.{le, Bytes}
 use Rattle.line_receiver.specs.Frames.{Frame}
 use Rattle.module_rules.specs.Report.{itemsFor}
 use Rattle.module_rules.specs.Kind.{executed, replied}
@@ -23,7 +24,7 @@ use Rattle.host_rules.specs.declared.Answered.{Answered}
 use Rattle.host_rules.specs.Reading.{statusOf}
 use Rattle.host_rules.specs.Promises.{shown}
 use Rattle.api_rules.specs.Table.{Line, first, setupTable, byteTable, servoSampleTable, ioSampleTable, tickTable, outputsTable}
-use Rattle.api_rules.specs.Calls.{setupRecord, stepOf, byteNumber, byteRecord, byteRoom, byteWritten, servoSampleOf, ioSampleOf, sampleRecord, tickRecord, outputsBytes}
+use Rattle.api_rules.specs.Calls.{setupRecord, stepOf, byteNumber, byteRecord, byteRoom, byteWritten, servoSampleOf, ioSampleOf, sampleRecord, tickRecord, outputsBytes, readingBytes}
 
 -- n is given by a table: a line with the number n applies, and no line before it does
 pub data Given (n : ℕ) : List Line → Type 0 where
@@ -213,3 +214,23 @@ NoFrame =
     → (drop receiverSize (byteRecord net mark byte room) ≡ drop receiverSize net)
     × (byteRoom net mark byte room ≡ room)
     × (byteWritten net mark byte room ≡ 0)
+
+-- The outputs call, unless it is refused, gives what the module at the place drives (01 What the boards do).
+abbrev pub OutputsTold : Type 0
+OutputsTold =
+    (net : List ℕ) (place : ℕ) (bytes : List ℕ) (t : ModuleType) (m : Of t)
+    → Passes (outputsTable net place)
+    → getElem? (netIn slots net .modules) place ≡ some (t, m)
+    → outputsBytes net place bytes ≡ rulesOf t .outputs m
+
+-- The status reader hands over the status byte, and then its eight numbers in four bytes each, least significant first.
+abbrev pub ReadingSpelled : Type 0
+ReadingSpelled =
+    (status a b c d e f g h : ℕ)
+    → readingBytes (record { status = status; numbers = a ∷ b ∷ c ∷ d ∷ e ∷ f ∷ g ∷ h ∷ [] })
+    ≡ status ∷ le 4 a ++ (le 4 b ++ (le 4 c ++ (le 4 d ++ (le 4 e ++ (le 4 f ++ (le 4 g ++ (le 4 h ++ [])))))))
+
+-- Any two outcomes that a contract permits are equal (01 How tight the statements are): the contract of every exported call says of all that
+-- comes back, and of every byte lent, that it equals a definition at the call's inputs.
+abbrev pub OneOutcome : Type 1
+OneOutcome = (I O : Type 0) (outcome : I → O) (inputs : I) (x y : O) → x ≡ outcome inputs → y ≡ outcome inputs → x ≡ y

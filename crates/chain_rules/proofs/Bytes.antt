@@ -1,14 +1,17 @@
 -- What a byte makes of a network. Assumes nothing.
-use mathlib.Core.Path.{_≡_}
+use mathlib.Core.Path.{_≡_, refl, ap, subst⁻¹}
 use mathlib.Core.List.{[]}
 use mathlib.Core.Bool.{Bool}
 use Rattle.line_receiver.specs.declared.Receiver.{Receiver}
-use Rattle.line_receiver.specs.declared.Answer.the-variants.{Ended}
-use Rattle.line_receiver.specs.Receive.{waits, taken}
+use Rattle.line_receiver.specs.declared.Answer.{Answer}
+use Rattle.line_receiver.specs.declared.Answer.the-variants.{Ended, Nothing}
+use Rattle.line_receiver.specs.Receive.{waits, taken, numberOf}
 use Rattle.line_receiver.specs.Frames.{Byte, frameIn}
+use Rattle.line_receiver.specs.Promises.{Numbered}
+use Rattle.line_receiver.proofs.Numbers.{numbers}
 use Rattle.module_rules.specs.Kind.{Kind}
-use Rattle.chain_rules.specs.Chain.{Net, frameStep, byteStep}
-use Rattle.chain_rules.specs.Promises.{ByteTaken}
+use Rattle.chain_rules.specs.Chain.{Net, Step, frameStep, byteStep}
+use Rattle.chain_rules.specs.Promises.{ByteTaken, NumberTold}
 
 module _ {M S : Type 0} (K : Kind M S) where
   pub step-on : (n : Net M) (b : Byte) (r : Receiver) → taken (n .receiver) (b .value) (b .mark) ≡ waits r
@@ -23,3 +26,17 @@ module _ {M S : Type 0} (K : Kind M S) where
 
   pub byte-taken : ByteTaken K
   byte-taken = (step-on, step-end)
+
+  number-is : (n : Net M) (b : Byte) → byteStep K n b .number ≡ numberOf (taken (n .receiver) (b .value) (b .mark) .answer)
+  number-is n b = go (taken (n .receiver) (b .value) (b .mark) .answer) refl
+    where
+      r : Receiver
+      r = taken (n .receiver) (b .value) (b .mark) .next
+
+      go : (a : Answer) → taken (n .receiver) (b .value) (b .mark) ≡ record { next = r; answer = a } → byteStep K n b .number ≡ numberOf a
+      go Nothing e = ap (λ (s : Step M). s .number) (step-on n b r e)
+      go (Ended d) e = ap (λ (s : Step M). s .number) (step-end n b r d e)
+
+  pub number-told : NumberTold K
+  number-told n b =
+      subst⁻¹ (Numbered (taken (n .receiver) (b .value) (b .mark) .answer)) (number-is n b) (numbers (taken (n .receiver) (b .value) (b .mark) .answer))

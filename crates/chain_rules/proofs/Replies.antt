@@ -11,8 +11,9 @@ use lib.Dec.{eqb}
 use Rattle.line_receiver.specs.Frames.{Frame}
 use Rattle.line_receiver.specs.Receive.{total}
 use Rattle.module_rules.specs.Kind.{Kind, replied}
+use Rattle.module_rules.proofs.Frames.{replying}
 use Rattle.chain_rules.specs.Chain.{Reply, flat, join, repliesOf, once, addresses, touched, said, sentBy, repliesFrom}
-use Rattle.chain_rules.specs.Promises.{RepliesAre, Rising, InOrder, Lengths}
+use Rattle.chain_rules.specs.Promises.{RepliesAre, EachHeard, Rising, InOrder, Lengths}
 use Rattle.chain_rules.proofs.Touching.{says}
 
 pub replies-append : (p : ℕ) (a b : List Reply) → repliesOf p (a ++ b) ≡ repliesOf p a ++ repliesOf p b
@@ -97,6 +98,17 @@ module _ {M S : Type 0} (K : Kind M S) where
         let w : getElem? (said K f true ms) i ≡ none = says K f ms i ∙ rw e refl in
         replies-at f ms i ∙ ap once (words-at (said K f true ms) i ∙ ap wordsIn w),
   )
+
+  pub each-heard : EachHeard K
+  each-heard f ms i m e t =
+      let r = replying K in
+      let q : repliesOf i (repliesFrom 0 (said K f true ms)) ≡ once (replied K f m) =
+      replies-are .0 f ms i m e ∙ ap (λ (t : Bool). once (cond t (replied K f m) [])) t in
+      record {
+        alone = λ h. q ∙ ap once (r .alone f m h);
+        leader = λ h. q ∙ ap once (r .leader f m h);
+        member = λ n h. q ∙ ap once (r .member f m n h);
+      }
 
   pub in-order : InOrder K
   in-order f ms = rising 0 (said K f true ms)

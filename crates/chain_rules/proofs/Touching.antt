@@ -1,7 +1,7 @@
 -- Who is touched, and what becomes of each place. Assumes nothing.
 use mathlib.Core.Path.{_≡_, refl, sym, ap, _∙_}
 use mathlib.Core.List.{List, [], _∷_}
-use mathlib.Core.Bool.{Bool, true, cond, _&&_}
+use mathlib.Core.Bool.{Bool, true, false, cond, _&&_}
 use mathlib.Core.Option.{Option, some, none, Option·map}
 use Prim.Native.Nat.{ℕ, zero, suc}
 use lib.ListN.{getElem?}
@@ -10,7 +10,7 @@ use Rattle.module_rules.specs.declared.Address.{Address}
 use Rattle.module_rules.specs.Touch.{named}
 use Rattle.module_rules.specs.Kind.{Kind, executed, replied}
 use Rattle.chain_rules.specs.Chain.{addresses, touched, enabledAt, handed, said}
-use Rattle.chain_rules.specs.Promises.{TouchedBefore, Enabled, OwnRecord, Untouched, Says}
+use Rattle.chain_rules.specs.Promises.{TouchedBefore, Enabled, HandedOn, OwnRecord, Untouched, Says}
 
 pub enabled : Enabled
 enabled a zero [] w e = let z : none ≡ some w = e in cc
@@ -25,6 +25,17 @@ enabled a (suc i) (x ∷ ws) w e = later true a i x ws w e
     later t a zero x (y ∷ ws) w e = let u : y ≡ w = cc in ap (λ (w : Address). x .low && named a w) u
     later t a (suc i) x [] w e = let z : none ≡ some w = e in cc
     later t a (suc i) x (y ∷ ws) w e = later (x .low) a i y ws w e
+
+pub handed-on : HandedOn
+handed-on a ws = record {
+  first = λ w e. enabled a 0 ws w e;
+  low = λ i p w q e l.
+      let on : enabledAt ws (suc i) ≡ true = rw (q, enabledAt) l in
+      enabled a (suc i) ws w e ∙ ap (λ (t : Bool). t && named a w) on;
+  high = λ i p w q e l.
+      let off : enabledAt ws (suc i) ≡ false = rw (q, enabledAt) l in
+      enabled a (suc i) ws w e ∙ ap (λ (t : Bool). t && named a w) off;
+}
 
 module _ {M S : Type 0} (K : Kind M S) where
   -- the module at place i after a frame, and what it says, in a chain of which the first is enabled or not

@@ -9,6 +9,7 @@ use Rattle.line_receiver.specs.declared.Receiver.{Receiver}
 use Rattle.line_receiver.specs.declared.Answer.the-variants.{Ended}
 use Rattle.line_receiver.specs.Receive.{total, waits, taken}
 use Rattle.line_receiver.specs.Frames.{Byte, Frame, frameIn}
+use Rattle.line_receiver.specs.Promises.{Numbered}
 use Rattle.module_rules.specs.declared.Address.{Address}
 use Rattle.module_rules.specs.Touch.{named}
 use Rattle.module_rules.specs.Kind.{Kind, executed, replied}
@@ -28,6 +29,23 @@ Enabled =
     (a i : ℕ) (ws : List Address) (w : Address)
     → getElem? ws i ≡ some w
     → touched true a ws i ≡ (enabledAt ws i && named a w)
+
+-- So place 0 is touched if it has the frame's address, and so is a place behind a low ADDR_OUT; a place behind a high one never is.
+pub record Handing (a : ℕ) (ws : List Address) : Type 0 where
+  pub first : (w : Address) → getElem? ws 0 ≡ some w → touched true a ws 0 ≡ named a w
+  pub low : (i : ℕ) (p w : Address)
+      → getElem? ws i ≡ some p
+      → getElem? ws (suc i) ≡ some w
+      → p .low ≡ true
+      → touched true a ws (suc i) ≡ named a w
+  pub high : (i : ℕ) (p w : Address)
+      → getElem? ws i ≡ some p
+      → getElem? ws (suc i) ≡ some w
+      → p .low ≡ false
+      → touched true a ws (suc i) ≡ false
+
+abbrev pub HandedOn : Type 0
+HandedOn = (a : ℕ) (ws : List Address) → Handing a ws
 
 -- A module's record after a frame, and what it says, hang on the frame, its own record before it and whether its place is enabled: in two
 -- chains of any lengths, with any neighbours, they are the same.
@@ -64,6 +82,20 @@ RepliesAre {M} K =
     ≡ once (cond (touched true (f .address) (addresses K ms) i) (replied K f m) []))
     × ((f : Frame) (ms : List M) (i : ℕ) → getElem? ms i ≡ none → repliesOf i (repliesFrom 0 (said K f true ms)) ≡ [])
 
+-- Of a touched module that the frame names individually, or that leads its group, the reply is among those to the frame; of a touched one that
+-- is neither there is none (01 Who is touched).
+pub record Heard {M S : Type 0} (K : Kind M S) (f : Frame) (m : M) (replies : List (List ℕ)) : Type 0 where
+  pub alone : K .address m .individual ≡ f .address → replies ≡ once (K .reply f (executed K f m))
+  pub leader : K .address m .leader ≡ true → replies ≡ once (K .reply f (executed K f m))
+  pub member : (K .address m .individual ≡ f .address → ⊥) → K .address m .leader ≡ false → replies ≡ []
+
+abbrev pub EachHeard : {M S : Type 0} → Kind M S → Type 0
+EachHeard {M} K =
+    (f : Frame) (ms : List M) (i : ℕ) (m : M)
+    → getElem? ms i ≡ some m
+    → touched true (f .address) (addresses K ms) i ≡ true
+    → Heard K f m (repliesOf i (repliesFrom 0 (said K f true ms)))
+
 -- replies in chain order, from place i on: each at a place after those of the replies before it
 abbrev pub Rising : ℕ → List Reply → Type 0
 Rising i [] = Unit {0}
@@ -88,3 +120,7 @@ ByteTaken {M} K =
     × ((n : Net M) (b : Byte) (r : Receiver) (d : Bool)
     → taken (n .receiver) (b .value) (b .mark) ≡ record { next = r; answer = Ended d }
     → byteStep K n b ≡ frameStep K (frameIn (n .receiver) d) r (n .modules))
+
+-- The number of a byte tells what it ended: 0 nothing, 1 an undamaged frame, 2 a damaged one (01 Numbers given back).
+abbrev pub NumberTold : {M S : Type 0} → Kind M S → Type 0
+NumberTold {M} K = (n : Net M) (b : Byte) → Numbered (taken (n .receiver) (b .value) (b .mark) .answer) (byteStep K n b .number)

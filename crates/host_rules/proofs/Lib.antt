@@ -4,3 +4,4 @@ pub mod Tests
 pub mod Status
 pub mod Table
 pub mod Sent
+pub mod Lengths

@@ -3,7 +3,7 @@ use mathlib.Core.Path.{_≡_}
 use mathlib.Core.List.{List, [], _∷_}
 use mathlib.Core.Bool.{true, false, cond}
 use mathlib.Core.Logic.{_⊎_}
-use Prim.Native.Nat.{ℕ, _+_, _-_, _/_, _%_, _<_, _≤_}
+use Prim.Native.Nat.{ℕ, _+_, _*_, _-_, _/_, _%_, _^_, _<_, _≤_}
 use lib.ListN.{length, getD, take, replicate}
 use lib.Dec.{eqb}
 use Rattle.base_layout.specs.Bytes.{pasted}
@@ -60,6 +60,28 @@ pub record Reader (kind items : ℕ) (reply : List ℕ) : Type 0 where
   pub done : Exactly (statusOf kind items reply .number ≡ 0) (ThereIs kind × Long kind items reply × Right reply)
   pub taken : statusOf kind items reply .number ≡ 0 → statusOf kind items reply .reading ≡ readingOf items (sizesOf kind) reply
   pub blank : (statusOf kind items reply .number ≡ 0 → ⊥) → statusOf kind items reply .reading ≡ record { status = 0; numbers = replicate 8 0 }
+
+-- 01 Numbers given back, 18: an item of so many bytes counts where its bit of the item byte is set.
+abbrev pub counts : ℕ → ℕ → ℕ → ℕ
+counts items k bytes = bytes * (items / 2 ^ k % 2)
+
+-- 01 Numbers given back, 18, and Servo, I/O module, Items: the length that type 0 or 2 and the items require, status byte and sum among it.
+pub record Required (items : ℕ) : Type 0 where
+  pub servo : neededFor items (sizesOf 0)
+      ≡ 2
+      + (counts items 0 4
+      + (counts items 1 1
+      + (counts items 2 2
+      + (counts items 3 1 + (counts items 4 4 + (counts items 5 2 + (counts items 6 2 + counts items 7 1)))))))
+  pub inout : neededFor items (sizesOf 2)
+      ≡ 2
+      + (counts items 0 2
+      + (counts items 1 1
+      + (counts items 2 1
+      + (counts items 3 1 + (counts items 4 4 + (counts items 5 2 + (counts items 6 2 + counts items 7 4)))))))
+
+abbrev pub Lengths : Type 0
+Lengths = (items : ℕ) → Required items
 
 -- 01 Numbers given back, 17: address, code and number of data bytes are within bounds.
 abbrev pub Fits : ℕ → ℕ → List ℕ → Type 0

@@ -15,7 +15,7 @@ one : (t : Bool) (x y : ℕ) → cond t (x % 2) (y % 2) < 2
 one true x y = omega arith
 one false x y = omega arith
 
-first : (x : ℕ) → bit 0 x ≡ x % 2
+pub first : (x : ℕ) → bit 0 x ≡ x % 2
 first x = omega arith
 
 pub no-further : NoFurther

@@ -4,3 +4,4 @@ pub mod Bits
 pub mod Apart
 pub mod Cause
 pub mod Shown
+pub mod Frames

@@ -4,3 +4,4 @@ pub mod State
 pub mod Perform
 pub mod Answers
 pub mod Promises
+pub mod FramePromises

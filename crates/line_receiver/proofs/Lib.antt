@@ -4,3 +4,4 @@ pub mod Read
 pub mod Only
 pub mod Kept
 pub mod Nulls
+pub mod Numbers

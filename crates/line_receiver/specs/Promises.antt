@@ -2,11 +2,14 @@
 use mathlib.Core.Path.{_≡_}
 use Prim.Native.Nat.{ℕ, _+_, _/_, _%_, _<_, _≤_}
 use mathlib.Core.List.{List, [], _∷_, _++_}
-use mathlib.Core.Bool.{Bool, false, not, _||_}
+use mathlib.Core.Bool.{Bool, true, false, not, _||_}
+use mathlib.Core.Logic.{_↔_}
 use lib.ListN.{length, getD, replicate}
 use lib.Dec.{eqb}
 use Rattle.line_receiver.specs.declared.Receiver.{Receiver}
-use Rattle.line_receiver.specs.Receive.{sum8, idle, taken}
+use Rattle.line_receiver.specs.declared.Answer.{Answer}
+use Rattle.line_receiver.specs.declared.Answer.the-variants.{Ended, Nothing}
+use Rattle.line_receiver.specs.Receive.{sum8, idle, taken, numberOf}
 use Rattle.line_receiver.specs.Frames.{Byte, Frame, header, clean, values, anyMark, written, ended, reads, after, Quiet, AreBytes}
 
 -- 01 Frames: what holds of every receiver that began idle: fifteen data places, bytes throughout, nothing kept while it is idle, and never
@@ -67,3 +70,12 @@ Fresh = Sound idle
 -- A sound receiver stays sound, whatever byte it takes, marked or not.
 abbrev pub Kept : Type 0
 Kept = (r : Receiver) (b : ℕ) (m : Bool) → Sound r → b < 256 → Sound (taken r b m .next)
+
+-- 01 Numbers given back: 0 exactly if the byte ended no frame, 1 exactly if it ended an undamaged one, 2 exactly if it ended a damaged one.
+pub record Numbered (a : Answer) (n : ℕ) : Type 0 where
+  pub onward : (n ≡ 0) ↔ (a ≡ Nothing)
+  pub undamaged : (n ≡ 1) ↔ (a ≡ Ended false)
+  pub damaged : (n ≡ 2) ↔ (a ≡ Ended true)
+
+abbrev pub Numbers : Type 0
+Numbers = (a : Answer) → Numbered a (numberOf a)

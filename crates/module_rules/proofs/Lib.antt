@@ -8,3 +8,5 @@ pub mod Settled
 pub mod Replies
 pub mod Kept
 pub mod Touching
+pub mod Reporting
+pub mod Frames

@@ -6,4 +6,5 @@ pub mod Kind
 pub mod Slots
 pub mod Rules
 pub mod Promises
+pub mod FramePromises
 pub mod Owes

@@ -1,13 +1,13 @@
 -- What is promised of a replay. Each is proved under its name, with small letters, in proofs/.
 use mathlib.Core.Path.{_≡_}
-use Prim.Native.Nat.{ℕ, _≤_}
+use Prim.Native.Nat.{ℕ, _+_, _*_, _≤_}
 use mathlib.Core.List.{List, [], _∷_, _++_}
 use mathlib.Core.Bool.{Bool, true, false}
 use lib.ListN.{length, drop}
 use Rattle.base_layout.specs.Bytes.{Bytes}
 use Rattle.net_rules.specs.Record.{recordSize, chainMost}
 use Rattle.replay_file.specs.declared.Place.{Place}
-use Rattle.replay_file.specs.Records.{Stage, replayed}
+use Rattle.replay_file.specs.Records.{Stage, bodyLength, servoSampleIn, ioSampleIn, replayed}
 use Rattle.replay_file.specs.Turns.{start, stageIn, headSize, turnStep, turnedBy, typesBy, netBy, textBy}
 
 -- 01 Replay file: a run of turns over the bytes that are left of a file, and all that it prints. Each turn is handed some of the bytes left, from the first on, as
@@ -60,3 +60,64 @@ Examples =
     × (replayed (0 ∷ 0 ∷ 1 ∷ 0 ∷ 0xAA ∷ 1 ∷ 0 ∷ 0 ∷ 1 ∷ 0 ∷ 0x0E ∷ 1 ∷ 0 ∷ 0x0E ∷ []) ≡ 48 ∷ 32 ∷ 49 ∷ 49 ∷ 32 ∷ 49 ∷ 49 ∷ 10 ∷ [])
     × (replayed (0 ∷ 2 ∷ 1 ∷ 0 ∷ 0xAA ∷ 1 ∷ 0 ∷ 0 ∷ 1 ∷ 0 ∷ 0x0E ∷ 1 ∷ 0 ∷ 0x0F ∷ []) ≡ 48 ∷ 32 ∷ 48 ∷ 50 ∷ 32 ∷ 48 ∷ 50 ∷ 10 ∷ [])
     × (replayed [] ≡ [])
+
+-- 01 Replay file: how many bytes follow the kind byte, and what those of the samples are, every number least significant byte first.
+pub record Bodies : Type 0 where
+  pub joins : bodyLength 0 ≡ 1
+  pub lineByte : bodyLength 1 ≡ 2
+  pub servoSample : bodyLength 2 ≡ 7
+  pub ioSample : bodyLength 3 ≡ 10
+  pub tick : bodyLength 4 ≡ 0
+  pub servo : (place power ad r0 r1 r2 r3 : ℕ)
+      → servoSampleIn (place ∷ power ∷ ad ∷ r0 ∷ r1 ∷ r2 ∷ r3 ∷ [])
+      ≡ record { raw = r0 + 256 * r1 + 65536 * r2 + 16777216 * r3; power = power; ad = ad }
+  pub inout : (place i0 i1 ad1 ad2 ad3 c0 c1 c2 c3 : ℕ)
+      → ioSampleIn (place ∷ i0 ∷ i1 ∷ ad1 ∷ ad2 ∷ ad3 ∷ c0 ∷ c1 ∷ c2 ∷ c3 ∷ [])
+      ≡ record {
+        inputs = i0 + 256 * i1;
+        ad1 = ad1;
+        ad2 = ad2;
+        ad3 = ad3;
+        counter = c0 + 256 * c1 + 65536 * c2 + 16777216 * c3;
+      }
+
+-- records of line bytes, none of them marked
+abbrev pub onLine : List ℕ → List ℕ
+onLine [] = []
+onLine (b ∷ bs) = 1 ∷ 0 ∷ b ∷ onLine bs
+
+-- 01 Replay file: an I/O module that is asked for items 0 to 4 after a sample and a tick; and a servo behind one that was given address 1, asked for
+-- its position and A/D. Printed are "0 00 34 0A 01 02 03 78 56 34 12 58", and "0 00 00" with "1 19 78 56 34 12 AB D8".
+abbrev pub Sampled : Type 0
+Sampled =
+    (replayed (0 ∷ 2 ∷ 3 ∷ 0 ∷ 0x34 ∷ 0x0A ∷ 1 ∷ 2 ∷ 3 ∷ 0x78 ∷ 0x56 ∷ 0x34 ∷ 0x12 ∷ 4 ∷ onLine (0xAA ∷ 0 ∷ 0x13 ∷ 0x1F ∷ 0x32 ∷ []))
+    ≡ (48 ∷ 32 ∷ 48 ∷ 48 ∷ 32 ∷ 51 ∷ 52 ∷ 32 ∷ 48 ∷ 65 ∷ 32 ∷ 48 ∷ 49 ∷ 32 ∷ 48 ∷ 50 ∷ 32 ∷ 48 ∷ 51 ∷ [])
+    ++ (32 ∷ 55 ∷ 56 ∷ 32 ∷ 53 ∷ 54 ∷ 32 ∷ 51 ∷ 52 ∷ 32 ∷ 49 ∷ 50 ∷ 32 ∷ 53 ∷ 56 ∷ 10 ∷ []))
+    × (replayed
+    (0 ∷ 2 ∷ 0 ∷ 0 ∷ onLine (0xAA ∷ 0 ∷ 0x21 ∷ 1 ∷ 0xFF ∷ 0x21 ∷ [])
+    ++ (2 ∷ 1 ∷ 1 ∷ 0xAB ∷ 0x78 ∷ 0x56 ∷ 0x34 ∷ 0x12 ∷ 4 ∷ onLine (0xAA ∷ 0 ∷ 0x13 ∷ 3 ∷ 0x16 ∷ [])))
+    ≡ (48 ∷ 32 ∷ 48 ∷ 48 ∷ 32 ∷ 48 ∷ 48 ∷ 10 ∷ [])
+    ++ (49 ∷ 32 ∷ 49 ∷ 57 ∷ 32 ∷ 55 ∷ 56 ∷ 32 ∷ 53 ∷ 54 ∷ 32 ∷ 51 ∷ 52 ∷ 32 ∷ 49 ∷ 50 ∷ 32 ∷ 65 ∷ 66 ∷ 32 ∷ 68 ∷ 56 ∷ 10 ∷ []))
+
+-- "bad ", an offset of one digit and a newline
+abbrev pub badAt : ℕ → List ℕ
+badAt digit = 98 ∷ 97 ∷ 100 ∷ 32 ∷ (48 + digit) ∷ 10 ∷ []
+
+-- 01 Replay file: impossible, cut and refused records, each at its kind byte's offset.
+pub record Bad : Type 0 where
+  -- no module first, a module late, a type that there is not, a kind that there is not
+  pub first : replayed (4 ∷ []) ≡ badAt 0
+  pub late : replayed (0 ∷ 2 ∷ 4 ∷ 0 ∷ 2 ∷ []) ≡ badAt 3
+  pub type : replayed (0 ∷ 1 ∷ []) ≡ badAt 0
+  pub kind : replayed (0 ∷ 2 ∷ 5 ∷ []) ≡ badAt 2
+  -- a line byte that is cut, and one with mark 2
+  pub cut : replayed (0 ∷ 2 ∷ 1 ∷ 0 ∷ []) ≡ badAt 2
+  pub mark : replayed (0 ∷ 2 ∷ 1 ∷ 2 ∷ 0 ∷ []) ≡ badAt 2
+  -- a servo sample for an I/O module, beyond the chain, and with power 3; with power 2 it is taken
+  pub other : replayed (0 ∷ 2 ∷ 2 ∷ 0 ∷ 1 ∷ 0 ∷ 0 ∷ 0 ∷ 0 ∷ 0 ∷ []) ≡ badAt 2
+  pub beyond : replayed (0 ∷ 0 ∷ 2 ∷ 1 ∷ 1 ∷ 0 ∷ 0 ∷ 0 ∷ 0 ∷ 0 ∷ []) ≡ badAt 2
+  pub power : replayed (0 ∷ 0 ∷ 2 ∷ 0 ∷ 3 ∷ 0 ∷ 0 ∷ 0 ∷ 0 ∷ 0 ∷ []) ≡ badAt 2
+  pub high : replayed (0 ∷ 0 ∷ 2 ∷ 0 ∷ 2 ∷ 0 ∷ 0 ∷ 0 ∷ 0 ∷ 0 ∷ []) ≡ []
+  -- an I/O sample with inputs 4,096; with 4,095 it is taken
+  pub inputs : replayed (0 ∷ 2 ∷ 3 ∷ 0 ∷ 0 ∷ 0x10 ∷ 0 ∷ 0 ∷ 0 ∷ 0 ∷ 0 ∷ 0 ∷ 0 ∷ []) ≡ badAt 2
+  pub most : replayed (0 ∷ 2 ∷ 3 ∷ 0 ∷ 0xFF ∷ 0x0F ∷ 0 ∷ 0 ∷ 0 ∷ 0 ∷ 0 ∷ 0 ∷ 0 ∷ []) ≡ []

@@ -6,10 +6,12 @@ use borrow.Author.Tests.{eqb-true}
 use lib.Dec.{eqb}
 use Rattle.module_rules.proofs.Settled as Settled
 use Rattle.module_rules.proofs.Replies as Replies
+use Rattle.module_rules.proofs.Frames as Frames
 use Rattle.module_rules.proofs.Kept.{reply-most}
+use Rattle.module_rules.specs.FramePromises.{AtPowerUp}
 use Rattle.types_rules.specs.Table.{ModuleType, servo, inout, rulesOf, slotsOf, GoodOf}
 use Rattle.types_rules.specs.Types.{known}
-use Rattle.types_rules.specs.Promises.{ThereIs, Numbers, EveryType}
+use Rattle.types_rules.specs.Promises.{ThereIs, Numbers, EveryType, EveryFrame}
 use Rattle.types_rules.proofs.Owed.{owes}
 
 pub numbers : Numbers
@@ -44,3 +46,10 @@ every-type t =
       eight = λ m h. owes t .outputs m h .0;
       spelled = owes t .numbers;
     }
+
+pub every-frame : EveryFrame
+every-frame t = record { stored = Frames.stored (rulesOf t) (owes t .apart); counts = Frames.counts (rulesOf t) (owes t .apart); powersUp = starts t }
+  where
+    starts : (t : ModuleType) → AtPowerUp (rulesOf t .station (rulesOf t .started))
+    starts servo = Frames.powers-up
+    starts inout = Frames.powers-up

@@ -9,6 +9,7 @@ use Rattle.module_rules.specs.Report.{Fit}
 use Rattle.module_rules.specs.Rules.{reply}
 use Rattle.module_rules.specs.Owes.{replySize}
 use Rattle.module_rules.specs.Promises.{Cause, CauseIs, AddressKept, Resets, StatusFirst, Replied, Short}
+use Rattle.module_rules.specs.FramePromises.{AtPowerUp, Stored, Counts}
 use Rattle.types_rules.specs.Table.{ModuleType, Of, rulesOf, slotsOf}
 use Rattle.types_rules.specs.Types.{known}
 
@@ -35,3 +36,13 @@ pub record Keeps (t : ModuleType) : Type 0 where
 
 abbrev pub EveryType : Type 0
 EveryType = (t : ModuleType) → Keeps t
+
+-- Of every type of the table, by the bytes of a frame: what the commands of every type store and how many data bytes they take, and who a module
+-- is at power-up.
+pub record Obeys (t : ModuleType) : Type 0 where
+  pub stored : Stored (rulesOf t)
+  pub counts : Counts (rulesOf t)
+  pub powersUp : AtPowerUp (rulesOf t .station (rulesOf t .started))
+
+abbrev pub EveryFrame : Type 0
+EveryFrame = (t : ModuleType) → Obeys t

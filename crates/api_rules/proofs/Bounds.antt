@@ -1,0 +1,100 @@
+-- Each line of the tables at its bounds. Assumes nothing.
+use mathlib.Core.Path.{_≡_, refl, sym, ap, ap₂, _∙_}
+use mathlib.Core.List.{List, [], _∷_}
+use mathlib.Core.Bool.{Bool, true, false, not, _&&_, _||_, or-true, and-false}
+use Prim.Native.Nat.{ℕ, zero, suc, _<_, _≤_}
+use native.Mathlib.Omega.{arith}
+use borrow.Author.Tests.{eq-eqb, ne-eqb, lt-ltb, le-ltb}
+use lib.ListN.{length, getD}
+use lib.Dec.{eqb, ltb}
+use Rattle.types_rules.specs.Types.{slots, known}
+use Rattle.types_rules.specs.Promises.{ThereIs}
+use Rattle.types_rules.proofs.Promised.{numbers}
+use Rattle.net_rules.specs.Record.{valid}
+use Rattle.net_rules.specs.Calls.{allKnown, isOf}
+use Rattle.net_rules.proofs.Calls.{type-beyond}
+use Rattle.api_rules.specs.Table.{Line, first, setupTable, byteTable, servoSampleTable, ioSampleTable, tickTable, outputsTable}
+use Rattle.api_rules.specs.Promises.{Given, here, later}
+use Rattle.api_rules.specs.TablePromises.{BadRecord, SetupBounds, ByteBounds, ServoBounds, IoBounds, OtherBounds, chainLength}
+use Rattle.api_rules.proofs.Tables.{given-first, none-first}
+
+-- the number that a table gives
+gives : {n : ℕ} (ls : List Line) → Given n ls → first ls ≡ n
+gives ls g = given-first g
+
+not-long : (net : List ℕ) → (length net ≡ 4116 → ⊥) → valid slots net ≡ false
+unfolding valid
+not-long net n = rw (ne-eqb (length net) 4116 n)
+
+pub bad-record : BadRecord
+bad-record net = record {
+  long = not-long net;
+  byte = λ mark room v. gives (byteTable net mark room) (here refl (ap not v));
+  servoSample = λ place power v. gives (servoSampleTable net place power) (here refl (ap not v));
+  ioSample = λ place inputs v. gives (ioSampleTable net place inputs) (here refl (ap not v));
+  tick = λ v. gives (tickTable net) (here refl (ap not v));
+  outputs = λ place v. gives (outputsTable net place) (here refl (ap not v));
+}
+
+-- types of which each is known, and of which one is not
+unknown : (n : ℕ) → (ThereIs n → ⊥) → known n ≡ false
+unknown n h = go (known n) refl
+  where
+    go : (t : Bool) → known n ≡ t → t ≡ false
+    go true e = absurd (h (numbers n .0 e))
+    go false e = refl
+
+all-known : (ts : List ℕ) → ((i : ℕ) → i < length ts → ThereIs (getD ts i 0)) → allKnown ts ≡ true
+all-known [] h = refl
+all-known (t ∷ ts) h = ap₂ _&&_ (numbers t .1 (h 0 (omega arith))) (all-known ts (λ i l. h (suc i) (omega arith)))
+
+one-unknown : (ts : List ℕ) (i : ℕ) → i < length ts → (ThereIs (getD ts i 0) → ⊥) → allKnown ts ≡ false
+one-unknown [] i l h = absurd (omega arith)
+one-unknown (t ∷ ts) zero l h = ap (λ (b : Bool). b && allKnown ts) (unknown t h)
+one-unknown (t ∷ ts) (suc i) l h = ap (λ (b : Bool). known t && b) (one-unknown ts i (omega arith) h) ∙ and-false (known t)
+
+pub setup-bounds : SetupBounds
+setup-bounds net types = record {
+  done = λ e s m h. none-first (setupTable net types) (size e, (counted s m, (ap not (all-known types h), tt)));
+  sixteen = λ n. gives (setupTable net types) (here refl (ap not (ne-eqb (length net) 4116 n)));
+  none = λ e z. gives (setupTable net types) (later (size e) (here refl (ap (λ (t : Bool). t || ltb 32 (length types)) (eq-eqb (length types) 0 z))));
+  many = λ e m.
+      gives (setupTable net types) (later (size e) (here refl (ap (λ (t : Bool). eqb (length types) 0 || t) (lt-ltb 32 (length types) m) ∙ or-true (eqb (length types) 0))));
+  twelve = λ e s m i l h. gives (setupTable net types) (later (size e) (later (counted s m) (here refl (ap not (one-unknown types i l h)))));
+}
+  where
+    size : length net ≡ 4116 → not (eqb (length net) 4116) ≡ false
+    size e = ap not (eq-eqb (length net) 4116 e)
+
+    counted : 1 ≤ length types → length types ≤ 32 → (eqb (length types) 0 || ltb 32 (length types)) ≡ false
+    counted s m = ap₂ _||_ (ne-eqb (length types) 0 (λ z. omega arith)) (le-ltb 32 (length types) m)
+
+pub byte-bounds : ByteBounds
+byte-bounds net mark room v = record {
+  done = λ h l. none-first (byteTable net mark room) (ap not v, (le-ltb 1 mark h, (le-ltb (length room) 608 l, tt)));
+  fourteen = λ h. gives (byteTable net mark room) (later (ap not v) (here refl (lt-ltb 1 mark h)));
+  fifteen = λ h l. gives (byteTable net mark room) (later (ap not v) (later (le-ltb 1 mark h) (here refl (lt-ltb (length room) 608 l))));
+}
+
+pub servo-bounds : ServoBounds
+servo-bounds net place power v = record {
+  done = λ m e h. none-first (servoSampleTable net place power) (ap not v, (ap not (ap (isOf 0) e), (le-ltb 2 power h, tt)));
+  beyond = λ l. gives (servoSampleTable net place power) (later (ap not v) (here refl (ap not (sym (type-beyond net place 0 (λ h. omega arith))))));
+  other = λ m e. gives (servoSampleTable net place power) (later (ap not v) (here refl (ap not (ap (isOf 0) e))));
+  fourteen = λ m e h. gives (servoSampleTable net place power) (later (ap not v) (later (ap not (ap (isOf 0) e)) (here refl (lt-ltb 2 power h))));
+}
+
+pub io-bounds : IoBounds
+io-bounds net place inputs v = record {
+  done = λ m e h. none-first (ioSampleTable net place inputs) (ap not v, (ap not (ap (isOf 2) e), (le-ltb 4095 inputs h, tt)));
+  beyond = λ l. gives (ioSampleTable net place inputs) (later (ap not v) (here refl (ap not (sym (type-beyond net place 2 (λ h. omega arith))))));
+  other = λ m e. gives (ioSampleTable net place inputs) (later (ap not v) (here refl (ap not (ap (isOf 2) e))));
+  fourteen = λ m e h. gives (ioSampleTable net place inputs) (later (ap not v) (later (ap not (ap (isOf 2) e)) (here refl (lt-ltb 4095 inputs h))));
+}
+
+pub other-bounds : OtherBounds
+other-bounds net place v = record {
+  tick = none-first (tickTable net) (ap not v, tt);
+  beyond = λ l. gives (outputsTable net place) (later (ap not v) (here refl (ap not (le-ltb place (chainLength net) l))));
+  outputs = λ l. none-first (outputsTable net place) (ap not v, (ap not (lt-ltb place (chainLength net) l), tt));
+}

@@ -1,0 +1,108 @@
+-- Who a frame is for, who replies, and what the commands of every type store, by the frame's bytes. Assumes nothing.
+use mathlib.Core.Path.{_≡_, refl, ap, ap₂, _∙_}
+use mathlib.Core.Logic.{_⊎_, inl, inr, ⊎-elim, _↔_}
+use mathlib.Core.List.{List}
+use mathlib.Core.Bool.{Bool, true, false, _||_, false≢true}
+use Prim.Native.Nat.{ℕ, _+_, _%_}
+use native.Mathlib.Omega.{arith}
+use borrow.Author.Tests.{eqb-true, eq-eqb, ne-eqb, lt-ltb, le-ltb}
+use lib.ListN.{length}
+use lib.Dec.{eqb}
+use Rattle.module_rules.specs.declared.Address.{Address}
+use Rattle.module_rules.specs.declared.Station.{Station}
+use Rattle.module_rules.specs.declared.Setting.{Setting}
+use Rattle.module_rules.specs.declared.Setting.the-variants.{Assign, Define, Rate, Nothing}
+use Rattle.module_rules.specs.declared.Asked.{Asked}
+use Rattle.module_rules.specs.declared.Asked.the-variants.{Malformed}
+use Rattle.module_rules.specs.Commands.{asked, assigned, applied, caused}
+use Rattle.module_rules.specs.Kind.{Kind}
+use Rattle.module_rules.specs.Rules.{malformed, set, Rules, joined, request, settled, execute}
+use Rattle.module_rules.specs.Promises.{Apart}
+use Rattle.module_rules.specs.FramePromises.{PowersUp, Concerned, Replying, undamaged, Becomes, Stored, Counts}
+use Rattle.module_rules.proofs.Settled.{settles}
+use Rattle.module_rules.proofs.Speaking.{speaks-before}
+
+pub powers-up : PowersUp
+powers-up = record { individual = refl; group = refl; leader = refl; low = refl; cause = refl; items = refl; baud = refl }
+
+-- a test or another, told by what each says
+either : {A B : Type 0} (s t : Bool) → (s ≡ true) ↔ A → (t ≡ true) ↔ B → ((s || t) ≡ true) ↔ (A ⊎ B)
+either true t a b = (λ e. inl (a .0 refl), λ h. refl)
+either false t a b = (λ e. inr (b .0 e), λ h. ⊎-elim (λ x. absurd (false≢true (a .1 x))) (λ y. b .1 y) h)
+
+equal : (m n : ℕ) → (eqb m n ≡ true) ↔ (m ≡ n)
+equal m n = (eqb-true m n, eq-eqb m n)
+
+pub concerned : Concerned
+concerned a w =
+    let one = equal (w .individual) a in
+    record {
+      alone = one;
+      touched = either (eqb (w .individual) a) (eqb (w .group) a) one (equal (w .group) a);
+      speaking = either (eqb (w .individual) a) (w .leader) one (λ e. e, λ e. e);
+    }
+
+module _ {M S : Type 0} (K : Kind M S) where
+  pub replying : Replying K
+  replying = record {
+    alone = λ f m e. speaks-before K .1 f m (concerned (f .address) (K .address m) .speaking .1 (inl e));
+    leader = λ f m e. speaks-before K .1 f m (concerned (f .address) (K .address m) .speaking .1 (inr e));
+    member = λ f m n e.
+        speaks-before K .0 f m (ap₂ (λ (s t : Bool). s || t) (ne-eqb (K .address m .individual) (f .address) n) e);
+  }
+
+module _ {M S C : Type 0} (T : Rules M S C) (p : Apart T) where
+  becomes : {m n : M} {s : Station} → n ≡ T .withStation s m → Becomes T m n s
+  becomes {m} {n} {s} e = record { station = ap (λ (n : M). T .station n) e ∙ p .put s m; rest = e }
+
+  -- a setting and the cause 0, put one after the other, are put as one
+  set-once : (z : Setting) (m : M) → settled T (set z) m ≡ T .withStation (caused 0 (applied z (T .station m))) m
+  set-once z m =
+      let s : Station = applied z (T .station m) in
+      ap (λ (x : Station). T .withStation (caused 0 x) (T .withStation s m)) (p .put s m) ∙ p .again (caused 0 s) s m
+
+  -- Set Address, by what its bytes say
+  addressed : (a b : ℕ) (m : M) (w : Address) → assigned a b ≡ w
+      → settled T (set (Assign a b)) m ≡ T .withStation (record { address = w; cause = 0; items = T .station m .items; baud = T .station m .baud }) m
+  addressed a b m w e =
+      set-once (Assign a b) m
+      ∙ ap (λ (w : Address). T .withStation (record { address = w; cause = 0; items = T .station m .items; baud = T .station m .baud }) m) e
+
+  pub stored : Stored T
+  unfolding execute request asked
+  stored to alone m = record {
+    leader = λ a b h.
+        let g : 128 + b % 128 ≡ 128 + b = omega arith in
+        becomes (addressed a b m _ (ap₂ (λ (g : ℕ) (t : Bool). record { individual = a; group = g; leader = t; low = true }) g (lt-ltb b 128 h)));
+    member = λ a b h l.
+        let g : 128 + b % 128 ≡ b = omega arith in
+        becomes (addressed a b m _ (ap₂ (λ (g : ℕ) (t : Bool). record { individual = a; group = g; leader = t; low = true }) g (le-ltb b 128 h)));
+    items = λ b. becomes (set-once (Define b) m);
+    baud = λ b. becomes (set-once (Rate b) m);
+    notAlone = λ b. becomes refl;
+    readStatus = λ b. becomes (set-once Nothing m);
+    noOp = becomes (set-once Nothing m);
+  }
+
+  -- a frame that asks for nothing known
+  pub unknown : (to code : ℕ) (ds : List ℕ) (alone : Bool) (m : M) → request T (undamaged to code ds) alone ≡ malformed
+      → Becomes T m (execute T (undamaged to code ds) alone m)
+      (record { address = T .station m .address; cause = 2; items = T .station m .items; baud = T .station m .baud })
+  unknown to code ds alone m q = becomes (settles T (undamaged to code ds) alone m refl q)
+
+  -- Set Baud with any other count than 1, individually or by group
+  baud-asks : (alone : Bool) (ds : List ℕ) → (length ds ≡ 1 → ⊥) → asked 10 alone ds ≡ Malformed
+  unfolding asked
+  baud-asks true ds n = refl
+  baud-asks false ds n = rw (ne-eqb (length ds) 1 n)
+
+  pub counts : Counts T
+  unfolding request asked
+  counts = record {
+    setAddress = λ to ds alone m n. unknown to 1 ds alone m (rw (ne-eqb (length ds) 2 n));
+    defineStatus = λ to ds alone m n. unknown to 2 ds alone m (rw (ne-eqb (length ds) 1 n));
+    readStatus = λ to ds alone m n. unknown to 3 ds alone m (rw (ne-eqb (length ds) 1 n));
+    setBaud = λ to ds alone m n. unknown to 10 ds alone m (ap (λ (q : Asked). joined q (T .own 10 ds)) (baud-asks alone ds n));
+    noOp = λ to ds alone m n. unknown to 14 ds alone m (rw (ne-eqb (length ds) 0 n));
+    hardReset = λ to ds alone m n. unknown to 15 ds alone m (rw (ne-eqb (length ds) 0 n));
+  }
