@@ -30,6 +30,12 @@ use Rattle.servo_rules.specs.TickPromises.{Ticking, followed}
 use Rattle.servo_rules.proofs.Keeping.{distinct}
 use Rattle.servo_rules.proofs.Ends.{tick-ends}
 use Rattle.servo_rules.proofs.Ticking.{ticks}
+use Rattle.inout_rules.proofs.Bits.{read-value}
+use Rattle.inout_rules.proofs.Shown.{shown}
+use Rattle.servo_rules.proofs.Shown.{samples}
+use Rattle.servo_rules.proofs.Items.{items-are}
+use Rattle.servo_rules.proofs.Slowing.{no-frame-raises}
+use Rattle.types_rules.proofs.Promised.{every-type}
 use Rattle.servo_slot_rules.specs.Promises.{Fits}
 use Rattle.servo_slot_rules.proofs.Good.{InMode, good}
 use Rattle.host_rules.proofs.Sent.{sent}
@@ -165,6 +171,12 @@ meaning = record {
   marked = marked;
   nulls = nulls;
   statusRead = status-read;
+  readValue = read-value;
+  inoutShown = shown;
+  servoShown = samples;
+  items = items-are;
+  replied = λ t. every-type t .replied;
+  noFrameRaises = no-frame-raises;
   speeds = speeds;
   output = output-most;
   largest = largest;

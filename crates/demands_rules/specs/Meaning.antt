@@ -1,4 +1,4 @@
--- Demand 2: frames, replies, speeds and outputs are those of document 01. Each promise is proved under its name, with small letters, in proofs/.
+-- Demand 2: frames, replies, inputs, speeds and outputs are those of document 01. Each promise is proved under its name, with small letters, in proofs/.
 use mathlib.Core.Path.{_≡_}
 use Prim.Native.Nat.{ℕ, _-_, _^_, _<_, _≤_}
 use mathlib.Core.List.{List, [], _∷_}
@@ -9,7 +9,9 @@ use Rattle.base_layout.specs.Bytes.{Bytes, le, ofLe}
 use Rattle.line_receiver.specs.Receive.{idle}
 use Rattle.line_receiver.specs.Frames.{Frame, ended, reads, clean, after}
 use Rattle.line_receiver.specs.Promises as Line
+use Rattle.module_rules.specs.Promises.{Replied}
 use Rattle.chain_rules.specs.Chain.{Net, addresses, handed, said, repliesFrom}
+use Rattle.inout_rules.specs.Promises.{ReadValue, Shown}
 use Rattle.servo_motion.specs.declared.Profile.{Profile}
 use Rattle.servo_motion.specs.Profile.{left, byTrapezoid, byVelocity, speeds}
 use Rattle.servo_motion.specs.Promises.{Asked, Running, Toward}
@@ -21,8 +23,11 @@ use Rattle.servo_rules.specs.declared.Servo.{Servo}
 use Rattle.servo_rules.specs.State.{started}
 use Rattle.servo_rules.specs.Answers.{execute}
 use Rattle.servo_rules.specs.Tick.{ticked}
+use Rattle.servo_rules.specs.Promises.{Samples, ItemsAre}
 use Rattle.servo_rules.specs.StopPromises.{Released}
+use Rattle.servo_rules.specs.RestPromises.{NoFrameRaises}
 use Rattle.servo_slot_rules.specs.Promises.{Fits}
+use Rattle.types_rules.specs.Table.{ModuleType, rulesOf}
 use Rattle.types_rules.specs.Types.{Module, kind}
 use Rattle.net_rules.specs.Calls.{setUp}
 use Rattle.host_rules.specs.Writing.{writtenOf, roomAfter}
@@ -65,6 +70,15 @@ pub record Meaning : Type 0 where
   pub nulls : Line.Nulls
   -- the status reader takes apart what a module of any type replies
   pub statusRead : StatusRead
+  -- inputs: an I/O module's bits are read from the latched sample where they are directed as inputs and from the register where as outputs; a tick
+  -- latches what was sampled before it, no sooner; and a reply shows what is latched then, item by item, of the record after the frame
+  pub readValue : ReadValue
+  pub inoutShown : Shown
+  pub servoShown : Samples
+  pub items : ItemsAre
+  pub replied : (t : ModuleType) → Replied (rulesOf t)
+  -- no frame raises a speed: only a tick does
+  pub noFrameRaises : NoFrameRaises
   pub speeds : (m : Servo) → Fits m → Speeds m (m .run .profile) (ticked m .run .profile)
   -- the motor's output is within OL, and u within 2,684,141,572, which it reaches
   pub output : (m : Servo) → Fits m → natAbs (ticked m .run .drive .output) ≤ m .settings .tuning .gains .ol
