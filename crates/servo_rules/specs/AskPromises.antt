@@ -6,7 +6,6 @@ use mathlib.Core.Bool.{Bool, true, false}
 use lib.ListN.{length, getD}
 use Rattle.base_layout.specs.Bytes.{ofLe, readAt, Bytes}
 use Rattle.line_receiver.specs.Frames.{Frame}
-use Rattle.servo_motion.specs.Profile.{fastest}
 use Rattle.servo_filter.specs.declared.Gains.{Gains}
 use Rattle.servo_filter.specs.Promises.{Ranged}
 use Rattle.servo_rules.specs.declared.Carried.{Carried}
@@ -27,9 +26,9 @@ pub record LoadReads (ds : List ℕ) : Type 0 where
 abbrev pub LoadRead : Type 0
 LoadRead = (ds : List ℕ) → LoadReads ds
 
--- The range of a load: velocity and acceleration at most the greatest, and a carried acceleration at least 1.
+-- The range of a load: velocity and acceleration at most 83,886,080, and a carried acceleration at least 1.
 abbrev pub LoadRanged : Carried → Type 0
-LoadRanged c = (c .velocity ≤ fastest) × (c .acceleration ≤ fastest) × (isSet 2 (c .control) ≡ true → 1 ≤ c .acceleration)
+LoadRanged c = (c .velocity ≤ 83886080) × (c .acceleration ≤ 83886080) × (isSet 2 (c .control) ≡ true → 1 ≤ c .acceleration)
 
 abbrev pub LoadRange : Type 0
 LoadRange = (c : Carried) → (inRange c ≡ true → LoadRanged c) × (LoadRanged c → inRange c ≡ true)

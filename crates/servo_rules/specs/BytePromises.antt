@@ -9,7 +9,6 @@ use lib.IntN.{ℤ, pos, negℤ}
 use Rattle.base_layout.specs.Bytes.{ofLe}
 use Rattle.line_receiver.specs.Frames.{Frame}
 use Rattle.module_rules.specs.Rules.{malformed, wants}
-use Rattle.servo_motion.specs.Profile.{fastest}
 use Rattle.servo_rules.specs.declared.Halt.{Halt}
 use Rattle.servo_rules.specs.declared.Halt.the-variants.{Keep, Release, Abrupt, Smooth, Here}
 use Rattle.servo_rules.specs.declared.Order.the-variants.{Stop}
@@ -56,8 +55,8 @@ pub record LoadFrame (control : ℕ) (p v a : List ℕ) (u : ℕ) (f : Frame) : 
   pub code : f .code ≡ 4
   pub content : f .content ≡ loadBytes control p v a u
   pub fours : Fours p v a
-  pub velocity : isSet 1 control ≡ true → ofLe v ≤ fastest
-  pub acceleration : isSet 2 control ≡ true → (1 ≤ ofLe a) × (ofLe a ≤ fastest)
+  pub velocity : isSet 1 control ≡ true → ofLe v ≤ 83886080
+  pub acceleration : isSet 2 control ≡ true → (1 ≤ ofLe a) × (ofLe a ≤ 83886080)
 
 -- velocity and acceleration after it: those that bits 1 and 2 announce, else the earlier ones
 pub record Rated (control : ℕ) (v a : List ℕ) (before r : Rates) : Type 0 where

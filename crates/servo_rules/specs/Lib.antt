@@ -8,7 +8,6 @@ pub mod Answers
 pub mod AskPromises
 pub mod BytePromises
 pub mod Promises
-pub mod StorePromises
 pub mod LoadPromises
 pub mod StopPromises
 pub mod TickPromises

@@ -1,4 +1,4 @@
--- What is promised of a servo's frames, answers, power-up and samples, besides what is promised of every module type; Ask-, Byte-, Store-,
+-- What is promised of a servo's frames, answers, power-up and samples, besides what is promised of every module type; Ask-, Byte-,
 -- Load-, Stop-, Tick- and RestPromises have the rest. Each is proved under its name, with small letters, in proofs/.
 use mathlib.Core.Path.{_≡_}
 use mathlib.Core.Logic.{_↔_}
@@ -16,14 +16,14 @@ use Rattle.line_receiver.specs.Frames.{Frame}
 use Rattle.module_rules.specs.Report.{Fit}
 use Rattle.servo_motion.specs.Profile.{left}
 use Rattle.servo_rules.specs.declared.Tuning.{Tuning}
-use Rattle.servo_rules.specs.declared.Order.the-variants.{SetGain}
+use Rattle.servo_rules.specs.declared.Order.the-variants.{SetGain, ClearBits}
 use Rattle.servo_rules.specs.declared.Sample.{Sample}
 use Rattle.servo_rules.specs.declared.Mode.the-variants.{Off, Velocity, Trapezoid}
 use Rattle.servo_rules.specs.declared.Servo.{Servo}
 use Rattle.servo_rules.specs.Asks.{gainsIn, tuningIn, gainsFit}
 use Rattle.servo_rules.specs.State.{position, powered, fresh, started, withSettings, sampled, withTuning}
 use Rattle.servo_rules.specs.Loads.{signedBy}
-use Rattle.servo_rules.specs.Perform.{perform}
+use Rattle.servo_rules.specs.Perform.{can, perform}
 use Rattle.servo_rules.specs.Tick.{ticked}
 use Rattle.servo_rules.specs.Answers.{done, bitAt, status, numbers, sizes, outputsOf, servo, withCause, execute, reply}
 
@@ -154,6 +154,31 @@ pub record StoresGain (f : Frame) (alone : Bool) (m : Servo) : Type 0 where
 
 abbrev pub Gains : Type 0
 Gains = (f : Frame) (alone : Bool) (m : Servo) → StoresGain f alone m
+
+-- the error bit is clear now, and all else as it was
+pub record Cleared (m n : Servo) : Type 0 where
+  pub error : n .run .drive .error ≡ false
+  pub cause : n .station .cause ≡ 0
+  pub address : n .station .address ≡ m .station .address
+  pub items : n .station .items ≡ m .station .items
+  pub baud : n .station .baud ≡ m .station .baud
+  pub samples : n .samples ≡ m .samples
+  pub counts : n .counts ≡ m .counts
+  pub settings : n .settings ≡ m .settings
+  pub profile : n .run .profile ≡ m .run .profile
+  pub memory : n .run .memory ≡ m .run .memory
+  pub mode : n .run .drive .mode ≡ m .run .drive .mode
+  pub pulse : n .run .drive .pulse ≡ m .run .drive .pulse
+  pub output : n .run .drive .output ≡ m .run .drive .output
+  pub amplifier : n .run .drive .amplifier ≡ m .run .drive .amplifier
+
+-- Clear Bits clears the error bit of any servo and changes nothing else (01 Clear Bits).
+abbrev pub Clears : Type 0
+Clears = (f : Frame) (alone : Bool) (m : Servo) → f .damaged ≡ false → f .code ≡ 11 → f .content ≡ [] → Cleared m (execute f alone m)
+
+-- Clear Bits and Set Gain are never refused as not now, whatever runs or waits (01 Set Gain, Clear Bits).
+abbrev pub AlwaysNow : Type 0
+AlwaysNow = (m : Servo) → (can ClearBits m ≡ true) × ((t : Tuning) → can (SetGain t) m ≡ true)
 
 -- A sample is unseen until the next tick, which latches it; a tick with no newer one latches it again (01 Servo, Sample).
 pub record Sampling (x : Sample) (m : Servo) : Type 0 where
