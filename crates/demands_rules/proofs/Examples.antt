@@ -271,7 +271,7 @@ pub was-sent : PulseSent lent calls 0 (length calls)
 was-sent =
     what-moves-was-sent zeros types calls 0 (length calls) gone set-up are-handed (le-refl (length calls))
     (ap (λ (cs : List Call). getElem? (netIn slots (leftBy cs lent) .modules) 0) (take-all (length calls) calls (le-refl (length calls))) ∙ ends-moving)
-    .pulse gone-pulses
+    .1 .pulse gone-pulses
 
 -- ---- a frame that the host can write
 

@@ -35,6 +35,10 @@ use Rattle.demands_rules.proofs.Known.{WayBits, way-bits}
 use Rattle.demands_rules.proofs.Alike.{Alike}
 use Rattle.demands_rules.proofs.Motion.{zero?}
 
+-- what takes the place of the number of bit k, or forgets it
+abbrev pub Replaces : ℕ → Frame → Type 0
+Replaces k f = ((f .code ≡ 4) × Has k f) ⊎ (f .code ≡ 15)
+
 -- one more is the same or less, or it
 up-to : (j n : ℕ) → j ≤ suc n → (j ≤ n) ⊎ (j ≡ suc n)
 up-to j n h = at (eqb j (suc n)) refl

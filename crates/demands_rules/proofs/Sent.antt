@@ -7,6 +7,7 @@ use mathlib.Core.Option.{some, none}
 use Prim.Native.Nat.{ℕ, zero, suc, _+_, _%_, _^_, _<_, _≤_}
 use native.Mathlib.Omega.{arith}
 use native.Mathlib.Nat.{le-refl}
+use lib.IntN.{pos}
 use lib.ListN.{length, getElem?}
 use lib.Dec.{eqb}
 use Rattle.base_integers.specs.Whole.{less}
@@ -21,7 +22,8 @@ use Rattle.servo_rules.specs.declared.Halt.{Halt}
 use Rattle.servo_rules.specs.declared.Halt.the-variants.{Keep, Release, Abrupt, Smooth, Here}
 use Rattle.servo_rules.specs.declared.Order.{Order}
 use Rattle.servo_rules.specs.declared.Order.the-variants.{ResetPosition, LoadTrajectory, Start, SetGain, Stop, ClearBits}
-use Rattle.servo_rules.specs.declared.Mode.the-variants.{Off}
+use Rattle.servo_rules.specs.declared.Mode.{Mode}
+use Rattle.servo_rules.specs.declared.Mode.the-variants.{Off, Pwm, Hold, Velocity, Trapezoid}
 use Rattle.servo_rules.specs.declared.Rates.{Rates}
 use Rattle.servo_rules.specs.declared.Load.{Load}
 use Rattle.servo_rules.specs.declared.Carried.{Carried}
@@ -40,7 +42,7 @@ use Rattle.servo_rules.proofs.Completing.{complete}
 use Rattle.servo_rules.proofs.Loading.{loads}
 use Rattle.servo_rules.proofs.Stopping.{stops}
 use Rattle.servo_slot_rules.specs.Promises.{Fits}
-use Rattle.servo_slot_rules.proofs.Good.{good}
+use Rattle.servo_slot_rules.proofs.Good.{InMode, good}
 use Rattle.types_rules.specs.Table.{servo}
 use Rattle.types_rules.specs.Types.{kind, slots}
 use Rattle.types_rules.proofs.Promised.{every-type}
@@ -51,15 +53,15 @@ use Rattle.api_rules.specs.Promises.{ValidRecord, Passes}
 use Rattle.api_rules.proofs.Kept.{kept}
 use Rattle.demands_history_rules.specs.Calls.{Call, byte, tick, AllHanded}
 use Rattle.demands_history_rules.proofs.Calls.{call-kept}
-use Rattle.demands_rules.specs.Motion.{At}
+use Rattle.demands_rules.specs.Motion.{Moves, At}
 use Rattle.demands_rules.specs.Question.{IsStart}
 use Rattle.demands_rules.specs.Place.{after, Stands, Executed}
-use Rattle.demands_rules.specs.Sent.{control, Has, Lacks, WholeLoad, Halts, Drops, Replaces, encoder, Loaded, Given, itself, byStart, WasSent, WhatMovesWasSent, numberIn}
+use Rattle.demands_rules.specs.Sent.{control, Has, Lacks, WholeLoad, Halts, Drops, encoder, Loaded, Given, itself, byStart, WasSent, WhatMovesWasSent, numberIn}
 use Rattle.demands_rules.proofs.Known.{Known, known, BitOf, haltBits, halt-bits, keep-spares}
 use Rattle.demands_rules.proofs.Alike.{Alike, alike, shift-alike, tick-alike}
 use Rattle.demands_rules.proofs.Making.{same-place, fits-at, Silent, Made, same, framed, measured, timed, made, set-up-is}
 use Rattle.demands_rules.proofs.Placing.{untouched, call-at, stood-before}
-use Rattle.demands_rules.proofs.Sending.{brought, Only, none-yet, loaded-on, off-sent, alike-sent, start-sent, hold-sent, slow-sent}
+use Rattle.demands_rules.proofs.Sending.{Replaces, brought, Only, none-yet, loaded-on, off-sent, alike-sent, start-sent, hold-sent, slow-sent}
 
 -- what takes a number's place drops a waiting load too
 replaces-drops : (k : ℕ) (f : Frame) → Replaces k f → Drops f
@@ -387,10 +389,25 @@ started-told net cs i = record {
   sent = off-sent net cs i 0 started refl;
 }
 
+-- a servo of a valid record that moves is in a mode that moves
+in-motion : (k : Servo) → Fits k → Moves k → (k .run .drive .mode ≡ Pwm) ⊎ ((k .run .drive .mode ≡ Velocity) ⊎ (k .run .drive .mode ≡ Trapezoid))
+in-motion k t z = at (k .run .drive .mode) refl (good k t .sane .mode) z
+  where
+    still : k .run .profile .speed ≡ pos 0 → k .run .drive .pulse ≡ pos 0 → Moves k → ⊥
+    still s p (inl n) = n s
+    still s p (inr n) = n p
+
+    at : (d : Mode) → k .run .drive .mode ≡ d → InMode d (k .samples .latched .power) (k .run) → Moves k → (k .run .drive .mode ≡ Pwm) ⊎ ((k .run .drive .mode ≡ Velocity) ⊎ (k .run .drive .mode ≡ Trapezoid))
+    at Off e i z = absurd (still (i .0 .rest) (i .2) z)
+    at Pwm e i z = inl e
+    at Hold e i z = absurd (still (i .0) (i .1) z)
+    at Velocity e i z = inr (inl e)
+    at Trapezoid e i z = inr (inr e)
+
 pub what-moves-was-sent : WhatMovesWasSent
 what-moves-was-sent net types cs i n k p h l e =
     let r : List ℕ = setupRecord net types in
     let v : ValidRecord r = kept .setup net types p in
     let (s, q) = stood-before r cs i n k v h l e in
     let (m, st, told, w) = stands-after r cs i s v h q (subst (Told r cs i 0) (set-up-is net types i s p q) (started-told r cs i)) n l in
-    subst (WasSent r cs i n) (same-place (netIn slots (after r cs i n) .modules) i m k st e) (told .sent)
+    (in-motion k (fits-at (after r cs i n) i k w e), subst (WasSent r cs i n) (same-place (netIn slots (after r cs i n) .modules) i m k st e) (told .sent))

@@ -19,10 +19,10 @@ use Rattle.api_rules.specs.Calls.{setupRecord}
 use Rattle.api_rules.specs.Promises.{Passes}
 use Rattle.demands_history_rules.specs.Calls.{Call, AllHanded}
 use Rattle.demands_rules.specs.Question.{IsStart}
+use Rattle.demands_rules.specs.Motion.{Moves}
 use Rattle.demands_rules.specs.Place.{Stands, Executed, None, Since}
 
--- ---- data bytes (01 Load Trajectory, Stop): a control byte; of a Load then four bytes for each of bits 0 to 2 that is set, and one for bit 3
-
+-- 01 Load Trajectory, Stop: data bytes begin with a control byte; a Load has then four for each of bits 0 to 2 that is set, and one for bit 3
 abbrev pub control : Frame → ℕ
 control f = getD (f .content) 0 0
 
@@ -55,12 +55,9 @@ WholeLoad f = (f .code ≡ 4) × (length (f .content) ≡ needed (control f))
 abbrev pub Halts : Frame → Type 0
 Halts f = (f .code ≡ 7) × (Has 1 f ⊎ (Has 2 f ⊎ (Has 3 f ⊎ Has 4 f)))
 
--- what drops a waiting load or takes its place: Reset Position, Load, Start, Hard Reset, such a Stop; and what replaces or forgets bit k's number
+-- what drops a waiting load or takes its place: Reset Position, Load, Start, Hard Reset, such a Stop
 abbrev pub Drops : Frame → Type 0
 Drops f = (f .code ≡ 0) ⊎ ((f .code ≡ 4) ⊎ ((f .code ≡ 5) ⊎ ((f .code ≡ 15) ⊎ Halts f)))
-
-abbrev pub Replaces : ℕ → Frame → Type 0
-Replaces k f = ((f .code ≡ 4) × Has k f) ⊎ (f .code ≡ 15)
 
 -- a position in the encoder's own counts, which Reset Position leaves; and where a Stop with bit 2, or with bit 4, holds the servo that it met
 abbrev pub encoder : Servo → ℕ → ℕ
@@ -69,7 +66,6 @@ encoder m x = (x + m .counts .offset) % 2 ^ 32
 abbrev pub HeldAt : Servo → Frame → ℕ → Type 0
 HeldAt m f x = (Has 2 f × (x ≡ m .samples .latched .raw)) ⊎ (Has 4 f × (length (f .content) ≡ 5) × (x ≡ encoder m (numberIn 0 f)))
 
--- ---- a history of calls at one place
 module _ (net : List ℕ) (cs : List Call) (i : ℕ) where
   -- the whole Load f was executed here among the first n calls, and no frame such as P since
   pub record Loaded (P : Frame → Type 0) (f : Frame) (n : ℕ) : Type 0 where
@@ -81,7 +77,7 @@ module _ (net : List ℕ) (cs : List Call) (i : ℕ) where
 
   -- f is the last of them that carried the number of bit k, and no Hard Reset forgot it
   abbrev pub Given : ℕ → Frame → ℕ → Type 0
-  Given k f n = Has k f × Loaded (Replaces k) f n
+  Given k f n = Has k f × Loaded (λ g. ((g .code ≡ 4) × Has k g) ⊎ (g .code ≡ 15)) f n
 
   -- call s started the Load f: by its own bit 7, or by a Start, and until then nothing dropped f or took its place
   pub data Started (f : Frame) (s : ℕ) : Type 0 where
@@ -144,8 +140,10 @@ module _ (net : List ℕ) (cs : List Call) (i : ℕ) where
     pub pulse : k .run .drive .mode ≡ Pwm → PulseSent n
     pub hold : k .run .drive .mode ≡ Hold → HoldSent n
 
--- From setup, through any calls, what moves or holds was sent.
+-- From setup, through any calls: what moves is in a mode that moves, and what moves or holds was sent.
 abbrev pub WhatMovesWasSent : Type 0
 WhatMovesWasSent =
     (net types : List ℕ) (cs : List Call) (i n : ℕ) (k : Servo) → Passes (setupTable net types) → AllHanded cs → n ≤ length cs
-    → Stands (setupRecord net types) cs i n k → WasSent (setupRecord net types) cs i n k
+    → Stands (setupRecord net types) cs i n k
+    → (Moves k → (k .run .drive .mode ≡ Pwm) ⊎ ((k .run .drive .mode ≡ Velocity) ⊎ (k .run .drive .mode ≡ Trapezoid)))
+    × WasSent (setupRecord net types) cs i n k
