@@ -223,7 +223,8 @@ OutputsTold =
     → getElem? (netIn slots net .modules) place ≡ some (t, m)
     → outputsBytes net place bytes ≡ rulesOf t .outputs m
 
--- The status reader hands over the status byte, and then its eight numbers in four bytes each, least significant first.
+-- The status reader hands over the status byte, and then its eight numbers in four bytes each, least significant first (01 Numbers given back,
+-- last paragraph).
 abbrev pub ReadingSpelled : Type 0
 ReadingSpelled =
     (status a b c d e f g h : ℕ)

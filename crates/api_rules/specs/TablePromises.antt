@@ -24,7 +24,8 @@ standsAt net place = getElem? (netIn slots net .modules) place
 abbrev pub chainLength : List ℕ → ℕ
 chainLength net = length (netIn slots net .modules)
 
--- 16: a record that is not valid, and so one that has not 4,116 bytes, is refused by every call but setup, which asks for its length alone
+-- 01 Numbers given back, 16: a record that is not valid, and so one that has not 4,116 bytes, is refused by every call but setup, which asks
+-- for its length alone.
 pub record Sixteen (net : List ℕ) : Type 0 where
   pub long : (length net ≡ 4116 → ⊥) → valid slots net ≡ false
   pub byte : (mark : ℕ) (room : List ℕ) → valid slots net ≡ false → first (byteTable net mark room) ≡ 16
@@ -36,7 +37,7 @@ pub record Sixteen (net : List ℕ) : Type 0 where
 abbrev pub BadRecord : Type 0
 BadRecord = (net : List ℕ) → Sixteen net
 
--- setup: 4,116 bytes, else 16; 1 to 32 modules, else 11; all of types 0 and 2, else 12
+-- 01 Numbers given back, setup: 4,116 bytes, else 16; 1 to 32 modules, else 11; all of types 0 and 2, else 12.
 pub record SetUp (net types : List ℕ) : Type 0 where
   pub done : length net ≡ 4116
       → 1 ≤ length types
@@ -57,7 +58,7 @@ pub record SetUp (net types : List ℕ) : Type 0 where
 abbrev pub SetupBounds : Type 0
 SetupBounds = (net types : List ℕ) → SetUp net types
 
--- a line byte: a mark of 0 or 1, else 14; a room of 608 bytes, else 15
+-- 01 Numbers given back, byte call: a mark of 0 or 1, else 14; a room of 608 bytes, else 15.
 pub record LineByte (net : List ℕ) (mark : ℕ) (room : List ℕ) : Type 0 where
   pub done : mark ≤ 1 → 608 ≤ length room → first (byteTable net mark room) ≡ 0
   pub fourteen : 2 ≤ mark → first (byteTable net mark room) ≡ 14
@@ -66,7 +67,7 @@ pub record LineByte (net : List ℕ) (mark : ℕ) (room : List ℕ) : Type 0 whe
 abbrev pub ByteBounds : Type 0
 ByteBounds = (net : List ℕ) (mark : ℕ) (room : List ℕ) → valid slots net ≡ true → LineByte net mark room
 
--- a servo sample: a place below the chain length with a servo, else 13; a power of 0, 1 or 2, else 14
+-- 01 Numbers given back, and Servo, Sample: a place below the chain length with a servo, else 13; a power of 0, 1 or 2, else 14.
 pub record ServoSampled (net : List ℕ) (place power : ℕ) : Type 0 where
   pub done : (m : Of servo) → standsAt net place ≡ some (servo, m) → power ≤ 2 → first (servoSampleTable net place power) ≡ 0
   pub beyond : chainLength net ≤ place → first (servoSampleTable net place power) ≡ 13
@@ -76,7 +77,8 @@ pub record ServoSampled (net : List ℕ) (place power : ℕ) : Type 0 where
 abbrev pub ServoBounds : Type 0
 ServoBounds = (net : List ℕ) (place power : ℕ) → valid slots net ≡ true → ServoSampled net place power
 
--- an I/O sample: a place below the chain length with an I/O module, else 13; twelve input bits, at most 4,095, else 14
+-- 01 Numbers given back, and I/O module, Sample: a place below the chain length with an I/O module, else 13; twelve input bits, at most 4,095,
+-- else 14.
 pub record IoSampled (net : List ℕ) (place inputs : ℕ) : Type 0 where
   pub done : (m : Of inout) → standsAt net place ≡ some (inout, m) → inputs ≤ 4095 → first (ioSampleTable net place inputs) ≡ 0
   pub beyond : chainLength net ≤ place → first (ioSampleTable net place inputs) ≡ 13
@@ -86,7 +88,7 @@ pub record IoSampled (net : List ℕ) (place inputs : ℕ) : Type 0 where
 abbrev pub IoBounds : Type 0
 IoBounds = (net : List ℕ) (place inputs : ℕ) → valid slots net ≡ true → IoSampled net place inputs
 
--- a tick and the outputs: any valid record; for the outputs a place below the chain length, else 13
+-- 01 Numbers given back, tick and outputs: any valid record; for the outputs a place below the chain length, else 13.
 pub record Others (net : List ℕ) (place : ℕ) : Type 0 where
   pub tick : first (tickTable net) ≡ 0
   pub beyond : chainLength net ≤ place → first (outputsTable net place) ≡ 13
@@ -95,7 +97,7 @@ pub record Others (net : List ℕ) (place : ℕ) : Type 0 where
 abbrev pub OtherBounds : Type 0
 OtherBounds = (net : List ℕ) (place : ℕ) → valid slots net ≡ true → Others net place
 
--- A byte call that is not refused gives 0 exactly if the byte ended no frame, 1 exactly if it ended an undamaged one, 2 exactly if it ended a
+-- 01 Numbers given back: a byte call that is not refused gives 0 exactly if the byte ended no frame, 1 exactly if it ended an undamaged one, 2 exactly if it ended a
 -- damaged one; a mark of 1 marks the byte.
 abbrev pub ByteNumbers : Type 0
 ByteNumbers =

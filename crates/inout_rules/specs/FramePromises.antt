@@ -24,8 +24,7 @@ abbrev pub NoneOf : ℕ → List ℕ → Type 0
 NoneOf n [] = Unit {0}
 NoneOf n (k ∷ ks) = (n ≡ k → ⊥) × NoneOf n ks
 
--- 01 I/O module, Commands of both types: what each code asks of an I/O module, with as many data bytes as it takes; with any other number of
--- them, or with any other code, a frame is malformed.
+-- 01 I/O module, Commands of both types: what each code asks of an I/O module, with as many data bytes as it takes.
 pub record Asks (to : ℕ) (alone : Bool) : Type 0 where
   pub direction : (a b : ℕ) → request (undamaged to 0 (a ∷ b ∷ [])) alone ≡ wants (Direction (bitsOf a b))
   pub address : (a b : ℕ) → request (undamaged to 1 (a ∷ b ∷ [])) alone ≡ set (Assign a b)
@@ -45,6 +44,7 @@ pub record Asks (to : ℕ) (alone : Bool) : Type 0 where
 abbrev pub Codes : Type 0
 Codes = (to : ℕ) (alone : Bool) → Asks to alone
 
+-- 01 I/O module: how many data bytes each of its own codes takes; with any other number of them a frame is malformed.
 pub record Counts : Type 0 where
   pub direction : Takes inout 0 2
   pub pwm : Takes inout 4 2
@@ -54,6 +54,7 @@ pub record Counts : Type 0 where
   pub timer : Takes inout 8 1
   pub synchInput : Takes inout 12 0
 
+-- 01 Who is touched: a frame with any other code than these thirteen is malformed.
 abbrev pub Unknown : Type 0
 Unknown =
     (f : Frame) (alone : Bool)
