@@ -11,7 +11,7 @@ use lib.Signed.{leZ, quotZ}
 use Rattle.base_integers.proofs.Parts.{parts-neg, parts-le, parts-gt}
 use Rattle.base_integers.proofs.Sizes.{abs-neg}
 use Rattle.servo_filter.specs.Filter.{held}
-use Rattle.servo_filter.specs.Promises.{Even}
+use Rattle.servo_filter.specs.Promises.{Limits, Even}
 
 low-high : (n : ℕ) → leZ (negℤ (pos n)) (pos n) ≡ true
 low-high n = parts-le (negℤ (pos n)) (pos n) (omega (arith, parts-neg (pos n)))
@@ -55,6 +55,9 @@ held-neg n k = either (decLe k n)
         let e : n ≡ min k n = omega arith in
         held-low n (negℤ (pos k)) below (parts-gt (negℤ (pos n)) (negℤ (pos k)) (omega (arith, parts-neg (pos n), parts-neg (pos k))))
         ∙ ap (λ (x : ℕ). negℤ (pos x)) e
+
+pub limits : Limits
+limits n k = (held-pos n k, held-neg n k)
 
 -- what is held is within its limit
 pub held-most : (n : ℕ) (z : ℤ) → natAbs (held n z) ≤ n

@@ -2,7 +2,7 @@
 use mathlib.Core.Path.{_≡_}
 use mathlib.Core.Bool.{true, false}
 use mathlib.Core.List.{List}
-use Prim.Native.Nat.{ℕ, _≤_, _<_}
+use Prim.Native.Nat.{ℕ, _≤_, _<_, min}
 use lib.IntN.{ℤ, pos, negℤ, natAbs, _+ℤ_, _-ℤ_, _*ℤ_}
 use Rattle.servo_filter.specs.declared.Gains.{Gains}
 use Rattle.servo_filter.specs.declared.Memory.{Memory}
@@ -45,6 +45,10 @@ pub record Sums (g : Gains) (m : Memory) (e : ℤ) : Type 0 where
 
 abbrev pub Terms : Type 0
 Terms = (g : Gains) (m : Memory) (e : ℤ) → Sums g m e
+
+-- A number is held: of more than the limit on either side the limit is left, of any other all of it.
+abbrev pub Limits : Type 0
+Limits = (limit k : ℕ) → (held limit (pos k) ≡ pos (min k limit)) × (held limit (negℤ (pos k)) ≡ negℤ (pos (min k limit)))
 
 -- The output is within OL, whatever came in.
 abbrev pub Within : Type 0

@@ -5,6 +5,7 @@ use native.Mathlib.Nat.{zero-sub, lt-of-not-le, div-eq-of-lt, div-eq-sub-div}
 use native.Mathlib.Decide.{decLe}
 use native.Mathlib.Omega.{arith}
 use Rattle.servo_motion.specs.Trapezoid.{terms, stop}
+use Rattle.servo_motion.specs.Promises.{StoppingSum}
 
 terms-zero : (n a : ℕ) → terms n 0 a ≡ 0
 unfolding terms
@@ -29,6 +30,9 @@ pub stop-step : (w a : ℕ) → 0 < a → stop w a ≡ w + stop (w - a) a
 unfolding stop terms
 stop-step zero a h = rw zero-sub refl
 stop-step (suc w) a h = ap (λ (x : ℕ). suc w + x) (terms-enough w (suc w - a) (suc w - a) a h (omega arith) (omega arith))
+
+pub stopping-sum : StoppingSum
+stopping-sum w a h = (stop-zero a, stop-step w a h)
 
 -- a speed that falls to 0 at once is its own sum
 stop-once : (w a : ℕ) → 0 < a → w ≤ a → stop w a ≡ w

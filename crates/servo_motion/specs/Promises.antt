@@ -23,6 +23,10 @@ pub record Greatest (Has : ℕ → Type 0) (lo hi w : ℕ) : Type 0 where
 abbrev pub Asked : ℕ → ℕ → ℕ → ℕ → ℕ → Type 0
 Asked a top d v w = Greatest (λ x. stop x a ≤ d) (v - a) (min (v + a) top) w
 
+-- 01 Tick: the stopping sum is the speed, and then the sum of the speed that is one acceleration less; of speed 0 it is 0.
+abbrev pub StoppingSum : Type 0
+StoppingSum = (w a : ℕ) → 0 < a → (stop 0 a ≡ 0) × (stop w a ≡ w + stop (w - a) a)
+
 -- 01 Numbers given back: a trapezoid at the speed v can still stop within d, and is no faster than it may be.
 pub record CanStop (a top d v : ℕ) : Type 0 where
   pub slow : v ≤ top
