@@ -17,6 +17,7 @@ use Rattle.servo_rules.specs.declared.Servo.{Servo}
 use Rattle.servo_rules.specs.State.{sampled}
 use Rattle.servo_rules.specs.Tick.{ticked}
 use Rattle.servo_rules.specs.Answers.{withCause, execute}
+use Rattle.servo_rules.proofs.Keeping.{either}
 use Rattle.types_rules.specs.Types.{slots}
 use Rattle.net_rules.specs.Record.{netIn}
 use Rattle.api_rules.specs.Table.{first, servoSampleTable, tickTable}
@@ -45,17 +46,17 @@ time-cause net i (servoSample place raw power ad) k m =
 time-cause net i (ioSample place inputs ad1 ad2 ad3 counter) k m = refl
 time-cause net i tick k m = either-caused k (eqb (first (tickTable net)) 0) (ticked m) m
 
-either-waits : (t : Bool) (x y : Servo) (w : Bool) → x .settings .load .waits ≡ w → y .settings .load .waits ≡ w → cond t x y .settings .load .waits ≡ w
-either-waits true x y w e q = e
-either-waits false x y w e q = q
+abbrev Waits : Bool → Servo → Type 0
+Waits w m = m .settings .load .waits ≡ w
 
 time-waits : (net : List ℕ) (i : ℕ) (c : Call) (m : Servo) → inTime net i c m .settings .load .waits ≡ m .settings .load .waits
 unfolding ticked
 time-waits net i (byte mark x room) m = refl
 time-waits net i (servoSample place raw power ad) m =
-    either-waits (eqb (first (servoSampleTable net place power)) 0) _ m _ (either-waits (eqb i place) (sampled _ m) m _ refl refl) refl
+    let w : Bool = m .settings .load .waits in
+    either (Waits w) (eqb (first (servoSampleTable net place power)) 0) _ m (either (Waits w) (eqb i place) (sampled _ m) m refl refl) refl
 time-waits net i (ioSample place inputs ad1 ad2 ad3 counter) m = refl
-time-waits net i tick m = either-waits (eqb (first (tickTable net)) 0) (ticked m) m _ refl refl
+time-waits net i tick m = either (Waits (m .settings .load .waits)) (eqb (first (tickTable net)) 0) (ticked m) m refl refl
 
 below : (cs : List Call) (n : ℕ) (c : Call) → getElem? cs n ≡ some c → n < length cs
 below [] n c e = let z : _≡_ {A = Bool} true false = cc in absurd (true≢false z)

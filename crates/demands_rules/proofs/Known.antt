@@ -1,10 +1,10 @@
 -- What a frame that asks something of a servo has: its code, its count, its bits. Assumes nothing.
-use mathlib.Core.Path.{_≡_, refl, sym, ap, _∙_}
+use mathlib.Core.Path.{_≡_, refl, sym, ap, subst, _∙_}
 use mathlib.Core.Logic.{inl, inr}
 use mathlib.Core.List.{List}
 use mathlib.Core.Bool.{Bool, true, false, cond, not, _&&_, _||_, false≢true, true≢false}
 use Prim.Native.Nat.{ℕ}
-use borrow.Author.Tests.{eqb-true}
+use borrow.Author.Tests.{eqb-true, eq-eqb}
 use lib.ListN.{length, getD}
 use lib.Dec.{eqb}
 use Rattle.line_receiver.specs.Frames.{Frame}
@@ -23,6 +23,7 @@ use Rattle.servo_rules.specs.declared.Way.the-variants.{Pulse, Speed, Move}
 use Rattle.servo_rules.specs.Carried.{isSet, needed, carriedIn, inRange}
 use Rattle.servo_rules.specs.Asks.{loadRequest, gainsIn, tuningIn, gainsFit, gainRequest, haltOf, oneHalt, stopCount, stopRequest, own}
 use Rattle.servo_rules.specs.Loads.{wayOf}
+use Rattle.servo_rules.proofs.Taken.{load-read}
 use Rattle.servo_rules.specs.Answers.{request}
 use Rattle.demands_rules.specs.Sent.{control, Has, Lacks, WholeLoad, Drops, numberIn}
 
@@ -93,6 +94,15 @@ module _ (f : Frame) where
       (pick Q (eqb code 15) _ _ (λ t. if 0 _ (eqb-true _ _ t))
       own-known)))))
 
+-- code 5 without data asks for a start; a load with a wrong count is malformed
+pub start-asks : (f : Frame) (alone : Bool) → f .code ≡ 5 → length (f .content) ≡ 0 → request f alone ≡ wants Start
+unfolding Any.request asked own
+start-asks f alone c n = rw (c, eq-eqb _ _ n)
+
+pub short-asks : (f : Frame) (alone : Bool) → f .code ≡ 4 → (length (f .content) ≡ needed (getD (f .content) 0 0) → ⊥) → request f alone ≡ malformed
+unfolding Any.request asked own
+short-asks f alone c n = rw c (load-read (f .content) .count n)
+
 -- ---- bits by what they say
 
 -- the kind of Stop says which bit is set
@@ -116,6 +126,10 @@ halt-bit false false false false = (refl, refl, refl, refl)
 pub halt-bits : (control : ℕ) → BitOf (haltOf control) (haltBits control)
 unfolding haltOf
 halt-bits control = halt-bit (isSet 1 control) (isSet 2 control) (isSet 3 control) (isSet 4 control)
+
+-- Stop Here has bit 4, so it has five data bytes
+pub here-five : (control : ℕ) → Here ≡ haltOf control → stopCount control ≡ 5
+here-five control e = ap (λ (t : Bool). cond t 5 1) (subst (λ (h : Halt). BitOf h (haltBits control)) (sym e) (halt-bits control))
 
 -- a Stop with none of them drops nothing
 pub keep-spares : (f : Frame) → f .code ≡ 7 → BitOf Keep (haltBits (control f)) → Drops f → ⊥

@@ -1,4 +1,3 @@
-mod Asking
 mod Types
 mod Known
 mod Alike

@@ -49,7 +49,8 @@ use Rattle.servo_slot_rules.proofs.Good.{InMode, good}
 use Rattle.types_rules.specs.Table.{servo}
 use Rattle.types_rules.proofs.Promised.{every-type}
 use Rattle.demands_rules.specs.Motion.{Moves, Bound, AtRest, SetsOut, moving, bound, Begins, out, put, turnedOn, Asks, LoadStarts, byStart, byLoad, Starts, ofLoad, byStopHere, StartsAreExecuted}
-use Rattle.demands_rules.proofs.Asking.{Evident, evident}
+use Rattle.demands_rules.specs.Sent.{control}
+use Rattle.demands_rules.proofs.Known.{Known, known, here-five}
 
 -- the servos that a slot can hold have counts within their bytes
 counted : (m : Servo) → Fits m → Counted m
@@ -206,11 +207,11 @@ module _ (f : Frame) (alone : Bool) (m : Servo) where
         where
           at : (s : Bool) → startsNow c ≡ s → LoadStarts f alone m ⊎ (Starting (LoadTrajectory c) → ⊥)
           at true e =
-              let v = subst (Evident (f .code) (f .content)) q (evident f alone) in
-              inl (byLoad c (asks d (v .0) (v .1) q) e (starts (loaded c m) .0 (sym (start-now c m .now e) ∙ t)))
+              let v = subst (Known f) q (known f alone) in
+              inl (byLoad c (asks d (v .0 .0) (v .0 .1) q) e (starts (loaded c m) .0 (sym (start-now c m .now e) ∙ t)))
           at false e = inr (λ s. false≢true (sym e ∙ s))
       by Start (d, q, t) =
-          let v = subst (Evident (f .code) (f .content)) q (evident f alone) in
+          let v = subst (Known f) q (known f alone) in
           inl (byStart (asks d (v .0) (v .1) q) (starts m .0 t))
       by (SetGain g) o = inr (λ s. s)
       by (Stop a h x) o = inr (λ s. s)
@@ -225,8 +226,8 @@ module _ (f : Frame) (alone : Bool) (m : Servo) where
       by Start o = inr (λ s. s)
       by (SetGain g) o = inr (λ s. s)
       by (Stop a Here x) (d, q, t) =
-          let v = subst (Evident (f .code) (f .content)) q (evident f alone) refl in
-          inl (byStopHere a x (asks d (v .0) (v .1) q) (stops-now a x m .here .0 t))
+          let v = subst (Known f) q (known f alone) in
+          inl (byStopHere a x (asks d (v .0) (v .3 ∙ here-five (control f) (v .1)) q) (stops-now a x m .here .0 t))
       by (Stop a Keep x) o = inr false≢true
       by (Stop a Release x) o = inr false≢true
       by (Stop a Abrupt x) o = inr false≢true

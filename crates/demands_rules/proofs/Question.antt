@@ -19,7 +19,7 @@ use Rattle.types_rules.specs.Table.{servo}
 use Rattle.types_rules.proofs.Promised.{every-type}
 use Rattle.demands_rules.specs.Motion.{byStart, byLoad, ofLoad, byStopHere, OnlyTheCause}
 use Rattle.demands_rules.specs.Question.{Missed, elsewhere, damaged, short, NoneReady, IsStart, Question, Twice}
-use Rattle.demands_rules.proofs.Asking.{start-asks, short-asks}
+use Rattle.demands_rules.proofs.Known.{start-asks, short-asks}
 
 -- a cause makes no load complete
 caused-complete : (c : ℕ) (w : Way) (m : Servo) → completeBy w (withCause c m) ≡ completeBy w m

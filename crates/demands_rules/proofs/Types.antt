@@ -2,7 +2,7 @@
 use mathlib.Core.Path.{_≡_, refl, sym, ap, ap₂, _∙_}
 use mathlib.Core.Logic.{_⊎_, inl, inr}
 use mathlib.Core.List.{List, [], _∷_, map}
-use mathlib.Core.Bool.{Bool, true, false, cond, _&&_, true≢false}
+use mathlib.Core.Bool.{Bool, true, false, _&&_, true≢false}
 use Prim.Native.Nat.{ℕ, zero, suc}
 use lib.ListN.{length}
 use lib.Dec.{eqb}
@@ -15,6 +15,7 @@ use Rattle.module_rules.specs.Touch.{named}
 use Rattle.module_rules.specs.Kind.{executed}
 use Rattle.chain_rules.specs.Chain.{Net, Step, handed, byteStep, changed}
 use Rattle.chain_rules.proofs.Bytes.{step-on, step-end}
+use Rattle.servo_rules.proofs.Keeping.{either}
 use Rattle.types_rules.specs.Table.{ModuleType, Of, rulesOf, slotsOf}
 use Rattle.types_rules.specs.Types.{Module, kind, slots}
 use Rattle.types_rules.proofs.Owed.{owes}
@@ -33,14 +34,10 @@ typeOf m = m .0
 abbrev pub types : List Module → List ModuleType
 types ms = map typeOf ms
 
-either-type : (t : Bool) (x y : Module) → typeOf x ≡ typeOf y → typeOf (cond t x y) ≡ typeOf y
-either-type true x y e = e
-either-type false x y e = refl
-
 handed-types : (f : Frame) (enabled : Bool) (ms : List Module) → types (handed kind f enabled ms) ≡ types ms
 handed-types f enabled [] = refl
 handed-types f enabled (m ∷ ms) =
-    ap₂ (λ (t : ModuleType) (ts : List ModuleType). t ∷ ts) (either-type (enabled && named (f .address) (kind .address m)) (executed kind f m) m refl) (handed-types f (kind .address m .low) ms)
+    ap₂ (λ (t : ModuleType) (ts : List ModuleType). t ∷ ts) (either (λ (x : Module). typeOf x ≡ typeOf m) (enabled && named (f .address) (kind .address m)) (executed kind f m) m refl refl) (handed-types f (kind .address m .low) ms)
 
 changed-types : (g : Module → Module) → ((m : Module) → typeOf (g m) ≡ typeOf m) → (i : ℕ) (ms : List Module) → types (changed g i ms) ≡ types ms
 changed-types g h i [] = refl
