@@ -1,5 +1,6 @@
 -- What is promised of a servo's loads and starts. Each is proved under its name, with small letters, in proofs/.
 use mathlib.Core.Path.{_≡_}
+use mathlib.Core.Logic.{_⊎_, _↔_}
 use Prim.Native.Nat.{ℕ, _^_, _<_}
 use mathlib.Core.Bool.{Bool, true, false}
 use lib.IntN.{pos}
@@ -12,7 +13,8 @@ use Rattle.servo_rules.specs.declared.Carried.{Carried}
 use Rattle.servo_rules.specs.declared.Halt.{Halt}
 use Rattle.servo_rules.specs.declared.Order.{Order}
 use Rattle.servo_rules.specs.declared.Order.the-variants.{ResetPosition, LoadTrajectory, Start, SetGain, Stop, ClearBits}
-use Rattle.servo_rules.specs.declared.Mode.the-variants.{Pwm, Velocity, Trapezoid}
+use Rattle.servo_rules.specs.declared.Mode.{Mode}
+use Rattle.servo_rules.specs.declared.Mode.the-variants.{Off, Pwm, Velocity, Trapezoid}
 use Rattle.servo_rules.specs.declared.Way.{Way}
 use Rattle.servo_rules.specs.declared.Way.the-variants.{Pulse, Speed, Move}
 use Rattle.servo_rules.specs.declared.Servo.{Servo}
@@ -123,6 +125,10 @@ Ways =
     → (isSet 4 control ≡ false → wayOf control ≡ Pulse)
     × (isSet 4 control ≡ true → isSet 5 control ≡ true → wayOf control ≡ Speed)
     × (isSet 4 control ≡ true → isSet 5 control ≡ false → wayOf control ≡ Move)
+
+-- What counts as servo off: off and PWM, and no other mode (01 Start).
+abbrev pub OffModes : Type 0
+OffModes = (k : Mode) → (servoOff k ≡ true) ↔ ((k ≡ Off) ⊎ (k ≡ Pwm))
 
 -- what a start leaves as it was: all that runs but the setpoint
 pub record Carries (before m : Servo) : Type 0 where

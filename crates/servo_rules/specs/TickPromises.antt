@@ -4,14 +4,16 @@ use mathlib.Core.Logic.{_⊎_}
 use Prim.Native.Nat.{_≤_, _<_}
 use mathlib.Core.Bool.{Bool, true, false}
 use lib.IntN.{ℤ, pos, natAbs}
+use Rattle.base_integers.specs.Whole.{difference}
 use Rattle.line_receiver.specs.Frames.{Frame}
 use Rattle.module_rules.specs.Rules.{reset, wants}
+use Rattle.servo_motion.specs.Setpoint.{whole, moved}
 use Rattle.servo_filter.specs.declared.Memory.{Memory}
 use Rattle.servo_filter.specs.Filter.{held, summed, driven, output}
 use Rattle.servo_rules.specs.declared.Order.{Order}
 use Rattle.servo_rules.specs.declared.Order.the-variants.{ClearBits}
 use Rattle.servo_rules.specs.declared.Sample.{Sample}
-use Rattle.servo_rules.specs.declared.Mode.the-variants.{Off, Pwm}
+use Rattle.servo_rules.specs.declared.Mode.the-variants.{Off, Pwm, Hold, Velocity, Trapezoid}
 use Rattle.servo_rules.specs.declared.Servo.{Servo}
 use Rattle.servo_rules.specs.State.{positionAt, position, servoOff, started, withLast, withRun, sampled, erring}
 use Rattle.servo_rules.specs.Perform.{perform}
@@ -79,6 +81,21 @@ pub record Ticking (m : Servo) : Type 0 where
 
 abbrev pub Ticks : Type 0
 Ticks = (m : Servo) → Ticking m
+
+-- n is m after a tick that left the servo on: the setpoint has moved by the new speed, and in a hold neither has changed; the error of the new
+-- setpoint and the new position is within EL, and is the next previous error
+pub record StillOn (m n : Servo) : Type 0 where
+  pub mode : n .run .drive .mode ≡ m .run .drive .mode
+  pub goes : (m .run .drive .mode ≡ Velocity) ⊎ (m .run .drive .mode ≡ Trapezoid)
+      → n .run .profile .setpoint ≡ moved (m .run .profile .setpoint) (n .run .profile .speed)
+  pub holds : m .run .drive .mode ≡ Hold
+      → (n .run .profile .setpoint ≡ m .run .profile .setpoint) × (n .run .profile .speed ≡ m .run .profile .speed)
+  pub previous : n .run .memory .previous ≡ difference (whole (n .run .profile .setpoint)) (position n)
+  pub within : natAbs (n .run .memory .previous) ≤ m .settings .tuning .gains .el
+
+-- So it is after every tick that leaves the servo on (01 Tick, Filter).
+abbrev pub GoesOn : Type 0
+GoesOn = (m : Servo) → servoOff (ticked m .run .drive .mode) ≡ false → StillOn m (ticked m)
 
 -- Between ticks only going off and a PWM start change the output, and then to 0 (01 Filter).
 abbrev pub Between : Type 0

@@ -1,0 +1,85 @@
+-- A tick that leaves the servo on, and which modes count as off. Assumes nothing.
+use mathlib.Core.Path.{_≡_, refl, sym, ap, subst, _∙_}
+use mathlib.Core.Logic.{_⊎_, inl, inr}
+use mathlib.Core.Bool.{Bool, true, false, true≢false, false≢true}
+use Prim.Native.Nat.{_≤_}
+use borrow.Author.Tests.{eqb-true, eqb-false, leb-true, leb-false}
+use lib.Dec.{eqb, leb}
+use lib.IntN.{ℤ, natAbs}
+use Rattle.base_integers.specs.Whole.{difference}
+use Rattle.servo_motion.specs.declared.Profile.{Profile}
+use Rattle.servo_motion.specs.Setpoint.{whole, moved}
+use Rattle.servo_motion.proofs.Moves.{moves}
+use Rattle.servo_filter.specs.declared.Memory.{Memory}
+use Rattle.servo_rules.specs.declared.Mode.{Mode}
+use Rattle.servo_rules.specs.declared.Mode.the-variants.{Off, Pwm, Hold, Velocity, Trapezoid}
+use Rattle.servo_rules.specs.declared.Servo.{Servo}
+use Rattle.servo_rules.specs.State.{position, servoOff}
+use Rattle.servo_rules.specs.Tick.{advancedBy, advanced, ticked}
+use Rattle.servo_rules.specs.LoadPromises.{OffModes}
+use Rattle.servo_rules.specs.TickPromises.{followed, StillOn, GoesOn}
+use Rattle.servo_rules.proofs.Keeping.{number, distinct}
+use Rattle.servo_rules.proofs.Ticking.{ticks}
+
+neither : (k : Mode) → eqb (number k) 0 ≡ false → eqb (number k) 1 ≡ false → (k ≡ Off) ⊎ (k ≡ Pwm) → ⊥
+neither k o p (inl e) = distinct k Off o e
+neither k o p (inr e) = distinct k Pwm p e
+
+pub off-modes : OffModes
+off-modes Off = (λ e. inl refl, λ e. refl)
+off-modes Pwm = (λ e. inr refl, λ e. refl)
+off-modes Hold = (λ e. absurd (false≢true e), λ e. absurd (neither Hold refl refl e))
+off-modes Velocity = (λ e. absurd (false≢true e), λ e. absurd (neither Velocity refl refl e))
+off-modes Trapezoid = (λ e. absurd (false≢true e), λ e. absurd (neither Trapezoid refl refl e))
+
+module _ (m : Servo) (on : servoOff (ticked m .run .drive .mode) ≡ false) where
+  -- it ended in no mode that counts as off
+  not-ended : (k : Mode) → servoOff k ≡ true → ticked m .run .drive .mode ≡ k → ⊥
+  not-ended k o e = true≢false (sym o ∙ ap servoOff (sym e) ∙ on)
+
+  -- the step of the profile, by the mode
+  steps : (q : Profile) (k : Mode) → m .run .drive .mode ≡ k → q ≡ advanced (m .run) → q ≡ advancedBy k (m .run .profile)
+  unfolding advanced
+  steps q k e s = s ∙ ap (λ (k : Mode). advancedBy k (m .run .profile)) e
+
+  goes : (q : Profile) → q ≡ advanced (m .run) → (m .run .drive .mode ≡ Velocity) ⊎ (m .run .drive .mode ≡ Trapezoid) → q .setpoint ≡ moved (m .run .profile .setpoint) (q .speed)
+  goes q s (inl e) = subst (λ (q : Profile). q .setpoint ≡ moved (m .run .profile .setpoint) (q .speed)) (sym (steps q Velocity e s)) (moves (m .run .profile) .0)
+  goes q s (inr e) = subst (λ (q : Profile). q .setpoint ≡ moved (m .run .profile .setpoint) (q .speed)) (sym (steps q Trapezoid e s)) (moves (m .run .profile) .1)
+
+  -- the position that the filter saw is the one after the tick
+  seen : (q : Profile) → q ≡ advanced (m .run) → followed m ≡ difference (whole (q .setpoint)) (position (ticked m))
+  unfolding ticked
+  seen q s = ap (λ (q : Profile). difference (whole (q .setpoint)) (position (ticked m))) (sym s)
+
+  went : (m .samples .waiting .power ≡ 0 → ⊥) → servoOff (m .run .drive .mode) ≡ false → natAbs (followed m) ≤ m .settings .tuning .gains .el → StillOn m (ticked m)
+  went n k h =
+      let r = ticks m .runs n k h in
+      let e : ticked m .run .memory .previous ≡ followed m = ap (λ (y : Memory). y .previous) (r .1) in
+      record {
+        mode = r .2;
+        goes = goes (ticked m .run .profile) (r .0);
+        holds = λ e. let s = steps (ticked m .run .profile) Hold e (r .0) in (ap (λ (p : Profile). p .setpoint) s, ap (λ (p : Profile). p .speed) s);
+        previous = e ∙ seen (ticked m .run .profile) (r .0);
+        within = subst (λ (z : ℤ). natAbs z ≤ m .settings .tuning .gains .el) (sym e) h;
+      }
+
+  by-error : (m .samples .waiting .power ≡ 0 → ⊥) → servoOff (m .run .drive .mode) ≡ false → (t : Bool) → leb (natAbs (followed m)) (m .settings .tuning .gains .el) ≡ t → StillOn m (ticked m)
+  by-error n k true h = went n k (leb-true _ _ h)
+  by-error n k false h = absurd (not-ended Off refl (ticks m .trip n k (leb-false _ _ h) .0 .mode))
+
+  by-mode : (m .samples .waiting .power ≡ 0 → ⊥) → (k : Mode) → m .run .drive .mode ≡ k → StillOn m (ticked m)
+  by-mode n Off e = absurd (not-ended Off refl (ap (λ (s : Servo). s .run .drive .mode) (ticks m .off n e) ∙ e))
+  by-mode n Pwm e = absurd (not-ended Pwm refl (ticks m .pulse n e .2))
+  by-mode n Hold e = by-error n (ap servoOff e) _ refl
+  by-mode n Velocity e = by-error n (ap servoOff e) _ refl
+  by-mode n Trapezoid e = by-error n (ap servoOff e) _ refl
+
+  still-on : StillOn m (ticked m)
+  still-on = at (eqb (m .samples .waiting .power) 0) refl
+    where
+      at : (t : Bool) → eqb (m .samples .waiting .power) 0 ≡ t → StillOn m (ticked m)
+      at true e = absurd (not-ended Off refl (ticks m .low (eqb-true _ _ e) .0 .mode))
+      at false e = by-mode (eqb-false _ _ e) (m .run .drive .mode) refl
+
+pub goes-on : GoesOn
+goes-on m on = still-on m on
