@@ -34,6 +34,7 @@ use Rattle.inout_rules.proofs.Bits.{read-value}
 use Rattle.inout_rules.proofs.Shown.{shown}
 use Rattle.servo_rules.proofs.Shown.{samples}
 use Rattle.servo_rules.proofs.Items.{items-are}
+use Rattle.servo_rules.proofs.GoingOn.{goes-on}
 use Rattle.servo_rules.proofs.Slowing.{no-frame-raises}
 use Rattle.types_rules.proofs.Promised.{every-type}
 use Rattle.servo_slot_rules.specs.Promises.{Fits}
@@ -177,6 +178,7 @@ meaning = record {
   items = items-are;
   replied = λ t. every-type t .replied;
   noFrameRaises = no-frame-raises;
+  goesOn = goes-on;
   speeds = speeds;
   output = output-most;
   largest = largest;

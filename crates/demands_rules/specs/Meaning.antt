@@ -25,6 +25,7 @@ use Rattle.servo_rules.specs.Answers.{execute}
 use Rattle.servo_rules.specs.Tick.{ticked}
 use Rattle.servo_rules.specs.Promises.{Samples, ItemsAre}
 use Rattle.servo_rules.specs.StopPromises.{Released}
+use Rattle.servo_rules.specs.TickPromises.{GoesOn}
 use Rattle.servo_rules.specs.RestPromises.{NoFrameRaises}
 use Rattle.servo_slot_rules.specs.Promises.{Fits}
 use Rattle.types_rules.specs.Table.{ModuleType, rulesOf}
@@ -77,8 +78,9 @@ pub record Meaning : Type 0 where
   pub servoShown : Samples
   pub items : ItemsAre
   pub replied : (t : ModuleType) → Replied (rulesOf t)
-  -- no frame raises a speed: only a tick does
+  -- no frame raises a speed: only a tick does, and the setpoint moves by that speed, in either mode
   pub noFrameRaises : NoFrameRaises
+  pub goesOn : GoesOn
   pub speeds : (m : Servo) → Fits m → Speeds m (m .run .profile) (ticked m .run .profile)
   -- the motor's output is within OL, and u within 2,684,141,572, which it reaches
   pub output : (m : Servo) → Fits m → natAbs (ticked m .run .drive .output) ≤ m .settings .tuning .gains .ol

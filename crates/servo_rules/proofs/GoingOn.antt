@@ -1,8 +1,9 @@
--- A tick that leaves the servo on, and which modes count as off. Assumes nothing.
+-- Which modes count as off, where a setpoint is put, and a tick that leaves the servo on. Assumes nothing.
 use mathlib.Core.Path.{_≡_, refl, sym, ap, subst, _∙_}
 use mathlib.Core.Logic.{_⊎_, inl, inr}
 use mathlib.Core.Bool.{Bool, true, false, true≢false, false≢true}
 use Prim.Native.Nat.{_≤_}
+use native.Mathlib.Omega.{arith}
 use borrow.Author.Tests.{eqb-true, eqb-false, leb-true, leb-false}
 use lib.Dec.{eqb, leb}
 use lib.IntN.{ℤ, natAbs}
@@ -16,7 +17,7 @@ use Rattle.servo_rules.specs.declared.Mode.the-variants.{Off, Pwm, Hold,
 use Rattle.servo_rules.specs.declared.Servo.{Servo}
 use Rattle.servo_rules.specs.State.{position, servoOff}
 use Rattle.servo_rules.specs.Tick.{advancedBy, advanced, ticked}
-use Rattle.servo_rules.specs.LoadPromises.{OffModes}
+use Rattle.servo_rules.specs.LoadPromises.{OffModes, PutAt}
 use Rattle.servo_rules.specs.TickPromises.{followed, StillOn, GoesOn}
 use Rattle.servo_rules.proofs.Keeping.{number, distinct}
 use Rattle.servo_rules.proofs.Ticking.{ticks}
@@ -31,6 +32,9 @@ off-modes Pwm = (λ e. inr refl, λ e. refl)
 off-modes Hold = (λ e. absurd (false≢true e), λ e. absurd (neither Hold refl refl e))
 off-modes Velocity = (λ e. absurd (false≢true e), λ e. absurd (neither Velocity refl refl e))
 off-modes Trapezoid = (λ e. absurd (false≢true e), λ e. absurd (neither Trapezoid refl refl e))
+
+pub put-at : PutAt
+put-at x = (omega arith, omega arith)
 
 module _ (m : Servo) (on : servoOff (ticked m .run .drive .mode) ≡ false) where
   -- it ended in no mode that counts as off

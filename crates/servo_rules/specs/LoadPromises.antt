@@ -7,7 +7,7 @@ use lib.IntN.{pos}
 use Rattle.base_integers.specs.Whole.{less}
 use Rattle.line_receiver.specs.Frames.{Frame}
 use Rattle.module_rules.specs.Rules.{wants}
-use Rattle.servo_motion.specs.Setpoint.{whole}
+use Rattle.servo_motion.specs.Setpoint.{whole, fraction}
 use Rattle.servo_filter.specs.Filter.{blank}
 use Rattle.servo_rules.specs.declared.Carried.{Carried}
 use Rattle.servo_rules.specs.declared.Halt.{Halt}
@@ -129,6 +129,10 @@ Ways =
 -- What counts as servo off: off and PWM, and no other mode (01 Start).
 abbrev pub OffModes : Type 0
 OffModes = (k : Mode) → (servoOff k ≡ true) ↔ ((k ≡ Off) ⊎ (k ≡ Pwm))
+
+-- A setpoint that is put at a position has that whole part and no fraction (01 Tick).
+abbrev pub PutAt : Type 0
+PutAt = (x : ℕ) → (whole (setpointAt x) ≡ x) × (fraction (setpointAt x) ≡ 0)
 
 -- what a start leaves as it was: all that runs but the setpoint
 pub record Carries (before m : Servo) : Type 0 where
