@@ -141,16 +141,16 @@ travels = (refl, refl)
 
 -- ---- a record of one servo
 
-abbrev types : List ℕ
+abbrev pub types : List ℕ
 types = typeNumber ∷ []
 
 abbrev zeros : List ℕ
 zeros = replicate recordSize 0
 
-abbrev lent : List ℕ
+abbrev pub lent : List ℕ
 lent = setupRecord zeros types
 
-abbrev room : List ℕ
+abbrev pub room : List ℕ
 room = replicate roomSize 0
 
 pub set-up : Passes (setupTable zeros types)
@@ -159,13 +159,13 @@ set-up = refl
 pub valid : ValidRecord lent
 valid = from-setup zeros types set-up .0
 
-held : netIn slots lent ≡ setUp types
+pub held : netIn slots lent ≡ setUp types
 held = from-setup zeros types set-up .1
 
-enough : roomSize ≤ length room
+pub enough : roomSize ≤ length room
 enough = omega (arith, length-replicate {A = ℕ} roomSize 0)
 
-at-power-up : At lent 0 started
+pub at-power-up : At lent 0 started
 at-power-up = ap (λ (n : Net Module). getElem? (n .modules) 0) held
 
 -- a byte with mark 2 is refused

@@ -16,3 +16,4 @@ pub mod Alive
 pub mod Sheet
 pub mod Meaning
 pub mod Examples
+pub mod TimeExample

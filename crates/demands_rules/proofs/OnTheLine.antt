@@ -48,7 +48,7 @@ small (x ∷ xs) e = at (ltb x 256) refl e (small xs)
     at true q e ih = (ltb-true _ _ q, ih e)
     at false q e ih = absurd (true≢false (sym e))
 
-byte-goes : (net room : List ℕ) (b : Byte) → valid slots net ≡ true → roomSize ≤ length room → Passes (refusals net (byte (cond (b .mark) 1 0) (b .value) room))
+pub byte-goes : (net room : List ℕ) (b : Byte) → valid slots net ≡ true → roomSize ≤ length room → Passes (refusals net (byte (cond (b .mark) 1 0) (b .value) room))
 byte-goes net room b v r = at (b .mark)
   where
     at : (t : Bool) → Passes (refusals net (byte (cond t 1 0) (b .value) room))
