@@ -13,7 +13,7 @@ use lib.ListN.{length, replicate, length-replicate, getElem?}
 use lib.IntN.{ℤ, pos, natAbs}
 use Rattle.base_integers.specs.Whole.{same, signed, difference}
 use Rattle.line_receiver.specs.Receive.{taken}
-use Rattle.line_receiver.specs.Frames.{Byte, Frame, reads, clean, written, values}
+use Rattle.line_receiver.specs.Frames.{Byte, Frame, reads, clean, written, values, AreBytes}
 use Rattle.module_rules.specs.Commands.{asked}
 use Rattle.module_rules.specs.Rules as Any
 use Rattle.chain_rules.specs.Chain.{Net, addresses, touched, byteStep}
@@ -50,7 +50,7 @@ use Rattle.demands_history_rules.proofs.Calls.{call-kept}
 use Rattle.demands_rules.specs.Motion.{Moves, AtRest, moving, bound, Begins, out, put, turnedOn, Starts, At, StartedBy}
 use Rattle.demands_rules.specs.Question.{short, fed}
 use Rattle.demands_rules.proofs.Calls.{from-setup, any-calls, done-passed}
-use Rattle.demands_rules.specs.Sent.{PulseSent}
+use Rattle.demands_rules.specs.Sent.{MoveSent, PulseSent, WasSent}
 use Rattle.demands_rules.proofs.Motion.{resting-rests, frame-starts}
 use Rattle.demands_rules.proofs.Sent.{what-moves-was-sent}
 use Rattle.demands_rules.proofs.EveryCall.{every-call, never}
@@ -205,22 +205,13 @@ carriage-stays =
     (refl, refl, refl)
     (ap (λ (n : Net Module). touched true 0 (addresses kind (n .modules)) 0) held)
 
--- ---- a history of calls that ends in motion: a sample of good power, a tick, the bytes of Clear Bits and of a Load of PWM that starts now
+-- ---- histories of calls that end in motion: a sample of good power, a tick, and then the bytes of Clear Bits and of orders
 
-abbrev orders : List Byte
-orders = clean (written 0 11 [] ++ written 0 4 (pulseNow .content))
+abbrev calls : List Byte → List Call
+calls orders = servoSample 0 0 1 0 ∷ tick ∷ fed room orders
 
-abbrev calls : List Call
-calls = servoSample 0 0 1 0 ∷ tick ∷ fed room orders
-
-abbrev happens : List (Event AnySample)
-happens = Events.sampled 0 (servoSampleOf 0 1 0) ∷ Events.ticked ∷ sent orders ∷ []
-
-abbrev gone : Servo
-gone = execute pulseNow true awake
-
-are-handed : AllHanded calls
-are-handed = ((omega arith, omega arith), (tt, fed-handed room orders (small (values orders) refl)))
+abbrev happens : List Byte → List (Event AnySample)
+happens orders = Events.sampled 0 (servoSampleOf 0 1 0) ∷ Events.ticked ∷ sent orders ∷ []
 
 abbrev sampledLent : List ℕ
 sampledLent = leaves lent (servoSample 0 0 1 0)
@@ -228,29 +219,61 @@ sampledLent = leaves lent (servoSample 0 0 1 0)
 sampled-valid : ValidRecord sampledLent
 sampled-valid = call-kept lent (servoSample 0 0 1 0) (omega arith, omega arith) valid
 
-ticked-valid : ValidRecord (leaves sampledLent tick)
-ticked-valid = call-kept sampledLent tick tt sampled-valid
+module _ (orders : List Byte) (small : AreBytes (values orders)) where
+  are-handed : AllHanded (calls orders)
+  are-handed = ((omega arith, omega arith), (tt, fed-handed room orders small))
 
-all-done : doneBy calls lent ≡ singly happens
-all-done =
-    done-passed (servoSample 0 0 1 0) (tick ∷ fed room orders) lent (rw (valid .0, held) refl)
-    ∙ ap (λ (l : List (Event AnySample)). Events.sampled 0 (servoSampleOf 0 1 0) ∷ l)
-    (done-passed tick (fed room orders) sampledLent (rw (sampled-valid .0) refl)
-    ∙ ap (λ (l : List (Event AnySample)). Events.ticked ∷ l)
-    (fed-done room orders (leaves sampledLent tick) enough ticked-valid (small (values orders) refl) ∙ sym (append-nil _)))
+  all-done : doneBy (calls orders) lent ≡ singly (happens orders)
+  all-done =
+      done-passed (servoSample 0 0 1 0) (tick ∷ fed room orders) lent (rw (valid .0, held) refl)
+      ∙ ap (λ (l : List (Event AnySample)). Events.sampled 0 (servoSampleOf 0 1 0) ∷ l)
+      (done-passed tick (fed room orders) sampledLent (rw (sampled-valid .0) refl)
+      ∙ ap (λ (l : List (Event AnySample)). Events.ticked ∷ l)
+      (fed-done room orders (leaves sampledLent tick) enough (call-kept sampledLent tick tt sampled-valid) small ∙ sym (append-nil _)))
 
-goes : getElem? (run kind happens (setUp types) .net .modules) 0 ≡ some (servo, gone)
+  -- what the orders make of the servo stands in the record
+  ends-in : (gone : Servo) → getElem? (run kind (happens orders) (setUp types) .net .modules) 0 ≡ some (servo, gone) → At (leftBy (calls orders) lent) 0 gone
+  ends-in gone goes =
+      ap (λ (n : Net Module). getElem? (n .modules) 0)
+      (any-calls lent (calls orders) valid are-handed .network
+      ∙ ap (λ (l : List (Event AnySample)). run kind l (netIn slots lent) .net) all-done
+      ∙ ap (λ (o : Events.Outcome Module). o .net) (run-singly kind (happens orders) (netIn slots lent))
+      ∙ ap (λ (n : Net Module). run kind (happens orders) n .net) held)
+      ∙ goes
+
+  -- and what it does then was sent
+  sent-for : (gone : Servo) → At (leftBy (calls orders) lent) 0 gone → WasSent lent (calls orders) 0 (length (calls orders)) gone
+  sent-for gone e =
+      what-moves-was-sent zeros types (calls orders) 0 (length (calls orders)) gone set-up are-handed (le-refl (length (calls orders)))
+      (ap (λ (cs : List Call). getElem? (netIn slots (leftBy cs lent) .modules) 0) (take-all (length (calls orders)) (calls orders) (le-refl (length (calls orders)))) ∙ e)
+      .1
+
+-- a Load of PWM that starts now; a Load of a position, velocity and acceleration, and Start
+abbrev pulseOrders : List Byte
+pulseOrders = clean (written 0 11 [] ++ written 0 4 (pulseNow .content))
+
+abbrev moveOrders : List Byte
+moveOrders = clean (written 0 11 [] ++ (written 0 4 (move .content) ++ written 0 5 []))
+
+pulse-bytes : AreBytes (values pulseOrders)
+pulse-bytes = small (values pulseOrders) refl
+
+move-bytes : AreBytes (values moveOrders)
+move-bytes = small (values moveOrders) refl
+
+abbrev gone : Servo
+gone = execute pulseNow true awake
+
+abbrev sentOff : Servo
+sentOff = execute go true (execute move true awake)
+
+pub ends-moving : At (leftBy (calls pulseOrders) lent) 0 gone
 unfolding taken byteStep Any.execute Any.request asked own ticked
-goes = refl
+ends-moving = ends-in pulseOrders pulse-bytes gone refl
 
-pub ends-moving : At (leftBy calls lent) 0 gone
-ends-moving =
-    ap (λ (n : Net Module). getElem? (n .modules) 0)
-    (any-calls lent calls valid are-handed .network
-    ∙ ap (λ (l : List (Event AnySample)). run kind l (netIn slots lent) .net) all-done
-    ∙ ap (λ (o : Events.Outcome Module). o .net) (run-singly kind happens (netIn slots lent))
-    ∙ ap (λ (n : Net Module). run kind happens n .net) held)
-    ∙ goes
+pub ends-bound : At (leftBy (calls moveOrders) lent) 0 sentOff
+unfolding taken byteStep Any.execute Any.request asked own ticked loadRequest ones inRange carriedIn loaded
+ends-bound = ends-in moveOrders move-bytes sentOff refl
 
 gone-moves : Moves gone
 unfolding Any.execute Any.request asked own ticked loadRequest carriedIn inRange loaded loadOf wayOf startable complete start idled signedBy ones
@@ -259,19 +282,21 @@ gone-moves = inr (some-number 99 _ refl)
 started-rests : AtRest started
 started-rests = every-call .setup zeros types 0 started set-up at-power-up
 
-pub was-started : StartedBy calls lent 0
-was-started = never lent calls 0 started gone valid are-handed at-power-up ends-moving started-rests (λ r. r .0 gone-moves)
+pub was-started : StartedBy (calls pulseOrders) lent 0
+was-started =
+    never lent (calls pulseOrders) 0 started gone valid (are-handed pulseOrders pulse-bytes) at-power-up ends-moving started-rests
+    (λ r. r .0 gone-moves)
 
--- and what moves was sent
+-- and what it does was sent: the PWM byte, and the position
 gone-pulses : gone .run .drive .mode ≡ Pwm
 unfolding Any.execute Any.request asked own ticked loadRequest carriedIn inRange loaded loadOf wayOf startable complete start idled signedBy ones
 gone-pulses = refl
 
-pub was-sent : PulseSent lent calls 0 (length calls)
-was-sent =
-    what-moves-was-sent zeros types calls 0 (length calls) gone set-up are-handed (le-refl (length calls))
-    (ap (λ (cs : List Call). getElem? (netIn slots (leftBy cs lent) .modules) 0) (take-all (length calls) calls (le-refl (length calls))) ∙ ends-moving)
-    .1 .pulse gone-pulses
+pub was-sent : PulseSent lent (calls pulseOrders) 0 (length (calls pulseOrders))
+was-sent = sent-for pulseOrders pulse-bytes gone ends-moving .pulse gone-pulses
+
+pub was-sent-there : MoveSent lent (calls moveOrders) 0 (length (calls moveOrders))
+was-sent-there = sent-for moveOrders move-bytes sentOff ends-bound .move (travels .0)
 
 -- ---- a frame that the host can write
 
