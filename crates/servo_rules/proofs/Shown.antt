@@ -61,6 +61,7 @@ enabled m = record {
   high = λ a p. rw (a, eq-eqb _ _ p) refl;
   unset = λ a. rw a refl;
   unpowered = λ p. ap (bitAt 1) (ap (λ (t : Bool). m .run .drive .amplifier && t) (ne-eqb _ _ p) ∙ and-false (m .run .drive .amplifier));
+  zeros = refl;
 }
 
 -- code 6 is Set Gain

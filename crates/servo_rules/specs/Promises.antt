@@ -5,7 +5,7 @@ use mathlib.Core.Logic.{_↔_}
 use Prim.Native.Nat.{_%_, _^_, _<_}
 use mathlib.Core.List.{[], _∷_}
 use mathlib.Core.Bool.{Bool, true, false, not}
-use lib.ListN.{length, getD}
+use lib.ListN.{length, getD, drop}
 use lib.Dec.{eqb}
 use lib.IntN.{pos, natAbs}
 use lib.Signed.{ltZ}
@@ -124,7 +124,7 @@ pub record AfterReset (f : Frame) (alone : Bool) (m : Servo) : Type 0 where
 abbrev pub Resets : Type 0
 Resets = (f : Frame) (alone : Bool) (m : Servo) → f .damaged ≡ false → f .code ≡ 15 → length (f .content) ≡ 0 → AfterReset f alone m
 
--- What the board drives: the output's size and sign, and the enable line, which is the amplifier bit at power 1 (01 Filter).
+-- What the board drives: the output's size and sign, the enable line, which is the amplifier bit at power 1, and five zeros (01 Filter).
 pub record Drives (m : Servo) : Type 0 where
   pub size : getD (outputsOf m) 0 0 ≡ natAbs (m .run .drive .output)
   pub sign : getD (outputsOf m) 1 0 ≡ bitAt 1 (ltZ (m .run .drive .output) (pos 0))
@@ -132,6 +132,7 @@ pub record Drives (m : Servo) : Type 0 where
   pub high : m .run .drive .amplifier ≡ true → m .samples .latched .power ≡ 1 → getD (outputsOf m) 2 0 ≡ 1
   pub unset : m .run .drive .amplifier ≡ false → getD (outputsOf m) 2 0 ≡ 0
   pub unpowered : (m .samples .latched .power ≡ 1 → ⊥) → getD (outputsOf m) 2 0 ≡ 0
+  pub zeros : drop 3 (outputsOf m) ≡ 0 ∷ 0 ∷ 0 ∷ 0 ∷ 0 ∷ []
 
 abbrev pub Enabled : Type 0
 Enabled = (m : Servo) → Drives m
