@@ -88,6 +88,9 @@ pub record Blank (m : Servo) : Type 0 where
   pub cl : m .settings .tuning .cl ≡ 0
   pub sm : m .settings .tuning .sm ≡ 1
   pub waits : m .settings .load .waits ≡ false
+  pub placed : (m .settings .load .placed ≡ false) × (m .settings .load .place ≡ 0)
+  pub pulsed : (m .settings .load .pulsed ≡ false) × (m .settings .load .pulse ≡ 0)
+  pub reverse : m .settings .load .reverse ≡ false
   pub paced : m .settings .rates .paced ≡ false
   pub ramped : m .settings .rates .ramped ≡ false
   pub velocity : m .settings .rates .velocity ≡ 0
