@@ -1,30 +1,26 @@
 -- What a frame that asks something of a servo has: its code, its count, its bits. Assumes nothing.
 use mathlib.Core.Path.{_≡_, refl, sym, ap, subst, _∙_}
-use mathlib.Core.Logic.{inl, inr}
-use mathlib.Core.List.{List}
-use mathlib.Core.Bool.{Bool, true, false, cond, not, _&&_, _||_, false≢true, true≢false}
+use mathlib.Core.Logic.{_⊎_, inl, inr}
+use mathlib.Core.Bool.{Bool, true, false, cond, not, _||_, false≢true, true≢false}
 use Prim.Native.Nat.{ℕ}
-use borrow.Author.Tests.{eqb-true, eq-eqb}
 use lib.ListN.{length, getD}
 use lib.Dec.{eqb}
 use Rattle.line_receiver.specs.Frames.{Frame}
-use Rattle.module_rules.specs.declared.Asked.{Asked}
-use Rattle.module_rules.specs.declared.Asked.the-variants as Both
-use Rattle.module_rules.specs.Commands.{asked}
-use Rattle.module_rules.specs.Rules as Any
-use Rattle.module_rules.specs.Rules.{Request, malformed, set, reset, wants, joined}
-use Rattle.module_rules.proofs.Settled.{pick}
+use Rattle.module_rules.specs.Rules.{Request, malformed, set, reset, wants}
+use Rattle.module_rules.proofs.Settled.{asks}
 use Rattle.servo_rules.specs.declared.Halt.{Halt}
 use Rattle.servo_rules.specs.declared.Halt.the-variants.{Keep, Release, Abrupt, Smooth, Here}
 use Rattle.servo_rules.specs.declared.Order.{Order}
 use Rattle.servo_rules.specs.declared.Order.the-variants.{ResetPosition, LoadTrajectory, Start, SetGain, Stop, ClearBits}
 use Rattle.servo_rules.specs.declared.Way.{Way}
 use Rattle.servo_rules.specs.declared.Way.the-variants.{Pulse, Speed, Move}
-use Rattle.servo_rules.specs.Carried.{isSet, needed, carriedIn, inRange}
-use Rattle.servo_rules.specs.Asks.{loadRequest, gainsIn, tuningIn, gainsFit, gainRequest, haltOf, oneHalt, stopCount, stopRequest, own}
+use Rattle.servo_rules.specs.Carried.{isSet, needed, carriedIn}
+use Rattle.servo_rules.specs.Asks.{haltOf, stopCount, own}
 use Rattle.servo_rules.specs.Loads.{wayOf}
+use Rattle.servo_rules.specs.Answers.{servo, request}
+use Rattle.servo_rules.proofs.Asks.{own-asks}
+use Rattle.servo_rules.proofs.Coding.{codes}
 use Rattle.servo_rules.proofs.Taken.{load-read}
-use Rattle.servo_rules.specs.Answers.{request}
 use Rattle.demands_rules.specs.Sent.{control, Has, Lacks, WholeLoad, Drops, numberIn}
 
 -- the codes that drop no waiting load whatever their data
@@ -52,56 +48,38 @@ Known f (wants (Stop a h x)) =
 Known f (wants ClearBits) = Drops f → ⊥
 
 module _ (f : Frame) where
-  abbrev code : ℕ
-  code = f .code
-
-  abbrev ds : List ℕ
-  ds = f .content
-
-  spared-by : (c : ℕ) → spared c ≡ true → eqb code c ≡ true → Drops f → ⊥
-  spared-by c s t = spares f (ap spared (eqb-true code c t) ∙ s)
-
-  own-known : Known f (own code ds)
-  unfolding own loadRequest gainRequest stopRequest
-  own-known =
-      let P : Request Order → Type 0 = Known f in
-      let if : (t : Bool) (q : Request Order) → (t ≡ true → P q) → P (cond t q malformed) = λ t q h. pick P t q malformed h tt in
-      pick P (eqb code 0) _ _ (λ t. if (eqb (length ds) 0) _ (λ n. eqb-true _ _ t))
-      (pick P (eqb code 4) _ _
-      (λ t. if (eqb (length ds) (needed (getD ds 0 0))) _ (λ n. if (inRange (carriedIn ds)) _ (λ h. ((eqb-true _ _ t, eqb-true _ _ n), refl))))
-      (pick P (eqb code 5) _ _ (λ t. if (eqb (length ds) 0) _ (λ n. (eqb-true _ _ t, eqb-true _ _ n)))
-      (pick P (eqb code 6) _ _
-      (λ t.
-      if (eqb (length ds) 15) _
-      (λ n. if (gainsFit (gainsIn ds) && eqb (getD ds 12 0) 1 && eqb (getD ds 13 0) 0) (wants (SetGain (tuningIn ds))) (λ h. spared-by 6 refl t)))
-      (pick P (eqb code 7) _ _
-      (λ t.
-      if (eqb (length ds) (stopCount (getD ds 0 0))) _
-      (λ n. if (oneHalt (getD ds 0 0)) _ (λ h. (eqb-true _ _ t, refl, refl, eqb-true _ _ n))))
-      (pick P (eqb code 11) _ _ (λ t. if (eqb (length ds) 0) _ (λ n. spared-by 11 refl t))
-      tt)))))
+  spared-by : (c : ℕ) → spared c ≡ true → f .code ≡ c → Drops f → ⊥
+  spared-by c s e = spares f (ap spared e ∙ s)
 
   pub known : (alone : Bool) → Known f (request f alone)
-  unfolding Any.request asked
-  known alone =
-      let Q : Asked → Type 0 = λ q. Known f (joined q (own code ds)) in
-      let if : (n : ℕ) (q : Asked) → Q q → Q (cond (eqb (length ds) n) q Both.Malformed) = λ n q h. pick Q (eqb (length ds) n) q Both.Malformed (λ t. h) tt in
-      pick Q (eqb code 1) _ _ (λ t. if 2 _ (spared-by 1 refl t))
-      (pick Q (eqb code 2) _ _ (λ t. if 1 _ (spared-by 2 refl t))
-      (pick Q (eqb code 3) _ _ (λ t. if 1 _ (spared-by 3 refl t))
-      (pick Q (eqb code 10) _ _ (λ t. pick Q alone _ _ (λ t. tt) (if 1 _ (spared-by 10 refl t)))
-      (pick Q (eqb code 14) _ _ (λ t. if 0 _ (spared-by 14 refl t))
-      (pick Q (eqb code 15) _ _ (λ t. if 0 _ (eqb-true _ _ t))
-      own-known)))))
+  known alone = asks servo (Known f) f alone (record {
+    malformed = tt;
+    assign = spared-by 1 refl;
+    define = spared-by 2 refl;
+    rate = spared-by 10 refl;
+    nothing = either;
+    reset = λ e. e;
+    own = own-asks (Known f) (f .code) (f .content) (record {
+      malformed = tt;
+      resetPosition = λ c. c;
+      load = λ c n h. ((c, n), refl);
+      start = λ c n. (c, n);
+      gain = λ c h. spared-by 6 refl c;
+      stop = λ c n. (c, refl, refl, n);
+      clearBits = spared-by 11 refl;
+    });
+  })
+    where
+      either : (f .code ≡ 3) ⊎ (f .code ≡ 14) → Drops f → ⊥
+      either (inl e) = spared-by 3 refl e
+      either (inr e) = spared-by 14 refl e
 
 -- code 5 without data asks for a start; a load with a wrong count is malformed
 pub start-asks : (f : Frame) (alone : Bool) → f .code ≡ 5 → length (f .content) ≡ 0 → request f alone ≡ wants Start
-unfolding Any.request asked own
-start-asks f alone c n = rw (c, eq-eqb _ _ n)
+start-asks f alone c n = codes f alone .start c .0 n
 
 pub short-asks : (f : Frame) (alone : Bool) → f .code ≡ 4 → (length (f .content) ≡ needed (getD (f .content) 0 0) → ⊥) → request f alone ≡ malformed
-unfolding Any.request asked own
-short-asks f alone c n = rw c (load-read (f .content) .count n)
+short-asks f alone c n = codes f alone .load c ∙ load-read (f .content) .count n
 
 -- ---- bits by what they say
 

@@ -44,9 +44,9 @@ module _ {M S C : Type 0} (T : Rules M S C) (L : Slots M) (Good : S → Type 0) 
         (record {
           malformed = λ m t. caused-held 2 (omega arith) m t;
           assign = λ e. set-keeps (Assign (getD (f .content) 0 0) (getD (f .content) 1 0)) (b 0);
-          define = set-keeps (Define (getD (f .content) 0 0)) (b 0);
-          rate = set-keeps (Rate (getD (f .content) 0 0)) (b 0);
-          nothing = set-keeps Nothing tt;
+          define = λ e. set-keeps (Define (getD (f .content) 0 0)) (b 0);
+          rate = λ e. set-keeps (Rate (getD (f .content) 0 0)) (b 0);
+          nothing = λ e. set-keeps Nothing tt;
           reset = λ e m t. caused-held 0 (omega arith) (T .renewed m) (o .renewed m t);
           own = own-keeps (T .own (f .code) (f .content)) (o .own (f .code) (f .content) b);
         }))

@@ -1,5 +1,6 @@
 -- What a frame's cause is, that with any cause but 0 all else is as it was, and who a module stays on the line. Assumes nothing.
 use mathlib.Core.Path.{_≡_, refl, sym, ap, ap₂, _∙_}
+use mathlib.Core.Logic.{_⊎_, inl, inr}
 use mathlib.Core.List.{List}
 use mathlib.Core.Bool.{Bool, true, false, cond}
 use Prim.Native.Nat.{ℕ, _≤_}
@@ -26,9 +27,9 @@ pick P false q r g h = h
 pub record Each {C : Type 0} (P : Request C → Type 0) (code : ℕ) (ds : List ℕ) (q : Request C) : Type 0 where
   pub malformed : P malformed
   pub assign : code ≡ 1 → P (set (Assign (getD ds 0 0) (getD ds 1 0)))
-  pub define : P (set (Define (getD ds 0 0)))
-  pub rate : P (set (Rate (getD ds 0 0)))
-  pub nothing : P (set Nothing)
+  pub define : code ≡ 2 → P (set (Define (getD ds 0 0)))
+  pub rate : code ≡ 10 → P (set (Rate (getD ds 0 0)))
+  pub nothing : (code ≡ 3) ⊎ (code ≡ 14) → P (set Nothing)
   pub reset : code ≡ 15 → P reset
   pub own : P q
 
@@ -39,10 +40,10 @@ module _ {C : Type 0} (P : Request C → Type 0) (code : ℕ) (ds : List ℕ) (o
       let Q : Asked → Type 0 = λ q. P (joined q own) in
       let if : (n : ℕ) (q : Asked) → Q q → Q (cond (eqb (length ds) n) q Both.Malformed) = λ n q h. pick Q (eqb (length ds) n) q Both.Malformed (λ t. h) (e .malformed) in
       pick Q (eqb code 1) _ _ (λ t. if 2 _ (e .assign (eqb-true code 1 t)))
-      (pick Q (eqb code 2) _ _ (λ t. if 1 _ (e .define))
-      (pick Q (eqb code 3) _ _ (λ t. if 1 _ (e .nothing))
-      (pick Q (eqb code 10) _ _ (λ t. pick Q alone _ _ (λ t. e .malformed) (if 1 _ (e .rate)))
-      (pick Q (eqb code 14) _ _ (λ t. if 0 _ (e .nothing))
+      (pick Q (eqb code 2) _ _ (λ t. if 1 _ (e .define (eqb-true code 2 t)))
+      (pick Q (eqb code 3) _ _ (λ t. if 1 _ (e .nothing (inl (eqb-true code 3 t))))
+      (pick Q (eqb code 10) _ _ (λ t. pick Q alone _ _ (λ u. e .malformed) (if 1 _ (e .rate (eqb-true code 10 t))))
+      (pick Q (eqb code 14) _ _ (λ t. if 0 _ (e .nothing (inr (eqb-true code 14 t))))
       (pick Q (eqb code 15) _ _ (λ t. if 0 _ (e .reset (eqb-true code 15 t)))
       (e .own))))))
 
@@ -152,9 +153,9 @@ module _ {M S C : Type 0} (T : Rules M S C) where
           (record {
             malformed = λ m. caused-still 2 m;
             assign = λ e. absurd (n1 e);
-            define = set-still (Define (getD (f .content) 0 0)) (λ t. refl);
-            rate = set-still (Rate (getD (f .content) 0 0)) (λ t. refl);
-            nothing = set-still Nothing (λ t. refl);
+            define = λ e. set-still (Define (getD (f .content) 0 0)) (λ t. refl);
+            rate = λ e. set-still (Rate (getD (f .content) 0 0)) (λ t. refl);
+            nothing = λ e. set-still Nothing (λ t. refl);
             reset = λ e. absurd (n15 e);
             own = own-still (T .own (f .code) (f .content)) (a .own (f .code) (f .content));
           }))

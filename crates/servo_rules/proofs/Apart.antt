@@ -27,7 +27,15 @@ apart = record {
   put = λ s m. refl;
   again = λ s t m. refl;
   own = λ code ds.
-      own-asks Own code ds (record { malformed = tt; resetPosition = tt; load = λ h. tt; start = tt; gain = λ h. tt; stop = tt; clearBits = tt });
+      own-asks Own code ds (record {
+        malformed = tt;
+        resetPosition = λ c. tt;
+        load = λ c n h. tt;
+        start = λ c n. tt;
+        gain = λ c h. tt;
+        stop = λ c n. tt;
+        clearBits = λ c. tt;
+      });
   perform = order-apart;
   renewed = λ m. refl;
   sample = λ x m. refl;

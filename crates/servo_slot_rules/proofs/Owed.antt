@@ -52,15 +52,15 @@ typed s v = eqb-true _ _ (every-hold (slot .codec .tests 0 s) v .0)
 
 -- ---- what the own codes ask keeps a servo such as a slot can hold
 
-each : (ds : List ℕ) → Bytes ds → Each (Safe servo slots (sample .codec .fits)) ds
-each ds b = record {
+each : (code : ℕ) (ds : List ℕ) → Bytes ds → Each (Safe servo slots (sample .codec .fits)) code ds
+each code ds b = record {
   malformed = tt;
-  resetPosition = λ m t k. fits _ (reset-good (good m t) k);
-  load = λ e m t k. fits _ (trajectory-good (good m t) ds b e k);
-  start = λ m t k. fits _ (start-good (good m t) k);
-  gain = λ e m t k. fits _ (gain-good (good m t) ds b e);
-  stop = λ m t k. fits _ (stop-good (good m t) _ _ _ (fit ds b .halt) k);
-  clearBits = λ m t k. fits _ (clear-good (good m t));
+  resetPosition = λ c m t k. fits _ (reset-good (good m t) k);
+  load = λ c n e m t k. fits _ (trajectory-good (good m t) ds b e k);
+  start = λ c n m t k. fits _ (start-good (good m t) k);
+  gain = λ c e m t k. fits _ (gain-good (good m t) ds b e);
+  stop = λ c n m t k. fits _ (stop-good (good m t) _ _ _ (fit ds b .halt) k);
+  clearBits = λ c m t k. fits _ (clear-good (good m t));
 }
 
 -- ---- what is driven
@@ -86,7 +86,7 @@ owes = record {
   held = λ m t. good m t .station;
   withStation = λ s m h t. fits _ (station-good (good m t) s h);
   renewed = λ m t. fits _ (fresh-good (m .samples) (good m t .samples));
-  own = λ code ds b. own-asks (Safe servo slots (sample .codec .fits)) code ds (each ds b);
+  own = λ code ds b. own-asks (Safe servo slots (sample .codec .fits)) code ds (each code ds b);
   sample = λ x m h t. fits _ (sampled-good (good m t) x h);
   tick = λ m t. fits _ (tick-good (good m t));
   eight = refl;
