@@ -2,7 +2,7 @@
 use mathlib.Core.Path.{_≡_, refl, sym, ap, ap₂, subst, _∙_}
 use mathlib.Core.Logic.{_⊎_, inl, inr}
 use mathlib.Core.Bool.{Bool, true, false, false≢true}
-use Prim.Native.Nat.{ℕ, _+_, _-_, _*_, _/_, _%_, _^_, _≤_, _<_}
+use Prim.Native.Nat.{ℕ, _+_, _-_, _*_, _%_, _^_, _≤_, _<_}
 use native.Mathlib.Omega.{arith}
 use native.Mathlib.Nat.{le-refl}
 use borrow.Author.Tests.{leb-true}
@@ -23,7 +23,7 @@ use Rattle.servo_rules.specs.Perform.{shifted, resetPosition}
 use Rattle.servo_rules.specs.Tick.{unpowered, advancedBy, advanced, tripped, pulsed, ticked}
 use Rattle.servo_rules.proofs.Ends.{tick-ends}
 use Rattle.servo_rules.proofs.Keeping.{distinct}
-use Rattle.servo_rules.proofs.Shifting.{whole-shifted}
+use Rattle.servo_rules.proofs.Shifting.{Wraps, wraps, whole-shifted}
 use Rattle.servo_slot_rules.specs.Promises.{Fits}
 use Rattle.servo_slot_rules.proofs.Good.{good}
 use Rattle.demands_rules.specs.Sent.{encoder}
@@ -59,16 +59,14 @@ alike m k p o d u = record {
 turned : (a b c d : ℕ) → c ≤ 1 → d ≤ 1 → a + c * 2 ^ 32 ≡ b + d * 2 ^ 32 → a % 2 ^ 32 ≡ b % 2 ^ 32
 turned a b c d hc hd e = omega arith
 
--- a wrapped difference and what was taken off make the number, but for a turn
-wrapped : (x y : ℕ) → x < 2 ^ 32 → y < 2 ^ 32 → (t : ℕ) × (t ≤ 1) × (less x y + y ≡ x + t * 2 ^ 32)
-wrapped x y h k = (1 - (x + (2 ^ 32 - y)) / 2 ^ 32, omega arith, omega arith)
-
 -- what is taken off a position is put on the offset
 put-on : (x raw offset : ℕ) → x < 2 ^ 32 → raw < 2 ^ 32 → offset < 2 ^ 32 → (less x (less raw offset) + raw) % 2 ^ 32 ≡ (x + offset) % 2 ^ 32
-put-on x raw offset hx hr ho = at (less raw offset) (wrapped raw offset hr ho) (less x (less raw offset)) (wrapped x (less raw offset) hx (omega arith))
+put-on x raw offset hx hr ho =
+    let q = wraps raw offset hr ho in
+    at (less raw offset) q (less x (less raw offset)) (wraps x (less raw offset) hx (q .small))
   where
-    at : (q : ℕ) → (t : ℕ) × (t ≤ 1) × (q + offset ≡ raw + t * 2 ^ 32) → (r : ℕ) → (s : ℕ) × (s ≤ 1) × (r + q ≡ x + s * 2 ^ 32) → (r + raw) % 2 ^ 32 ≡ (x + offset) % 2 ^ 32
-    at q (t, ht, e) r (s, hs, g) = turned (r + raw) (x + offset) t s ht hs (omega arith)
+    at : (q : ℕ) → Wraps raw offset q → (r : ℕ) → Wraps x q r → (r + raw) % 2 ^ 32 ≡ (x + offset) % 2 ^ 32
+    at q t r s = turned (r + raw) (x + offset) (t .turns) (s .turns) (t .most) (s .most) (omega (arith, t .sum, s .sum))
 
 pub shift-alike : (m : Servo) → Fits m → Alike m (resetPosition m)
 unfolding resetPosition shifted

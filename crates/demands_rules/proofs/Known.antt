@@ -109,6 +109,17 @@ halt-bits control = halt-bit (isSet 1 control) (isSet 2 control) (isSet 3 contro
 pub here-five : (control : ℕ) → Here ≡ haltOf control → stopCount control ≡ 5
 here-five control e = ap (λ (t : Bool). cond t 5 1) (subst (λ (h : Halt). BitOf h (haltBits control)) (sym e) (halt-bits control))
 
+-- the kind with none of bits 1 to 4, and no other
+abbrev keeps : Halt → Bool
+keeps Keep = true
+keeps Release = false
+keeps Abrupt = false
+keeps Smooth = false
+keeps Here = false
+
+pub not-keep : (h : Halt) → keeps h ≡ false → h ≡ Keep → ⊥
+not-keep h e q = false≢true (sym e ∙ ap keeps q)
+
 -- a Stop with none of them drops nothing
 pub keep-spares : (f : Frame) → f .code ≡ 7 → BitOf Keep (haltBits (control f)) → Drops f → ⊥
 keep-spares f c k (inl z) = let q : _≡_ {A = Bool} true false = ap (eqb 7) (sym c ∙ z) in true≢false q

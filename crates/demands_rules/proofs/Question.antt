@@ -4,7 +4,7 @@ use mathlib.Core.Bool.{Bool, true, false, cond, _&&_, and-false, true≢false}
 use mathlib.Core.Logic.{inl, inr}
 use Prim.Native.Nat.{ℕ}
 use Rattle.line_receiver.specs.Frames.{Frame}
-use Rattle.servo_rules.specs.declared.Halt.the-variants.{Keep, Here}
+use Rattle.servo_rules.specs.declared.Halt.the-variants.{Here}
 use Rattle.servo_rules.specs.declared.Order.the-variants.{LoadTrajectory, Start, Stop}
 use Rattle.servo_rules.specs.declared.Way.{Way}
 use Rattle.servo_rules.specs.declared.Way.the-variants.{Pulse, Speed, Move}
@@ -19,7 +19,7 @@ use Rattle.types_rules.specs.Table.{servo}
 use Rattle.types_rules.proofs.Promised.{every-type}
 use Rattle.demands_rules.specs.Motion.{byStart, byLoad, ofLoad, byStopHere, OnlyTheCause}
 use Rattle.demands_rules.specs.Question.{Missed, elsewhere, damaged, short, NoneReady, IsStart, Question, Twice}
-use Rattle.demands_rules.proofs.Known.{start-asks, short-asks}
+use Rattle.demands_rules.proofs.Known.{start-asks, short-asks, not-keep}
 
 -- a cause makes no load complete
 caused-complete : (c : ℕ) (w : Way) (m : Servo) → completeBy w (withCause c m) ≡ completeBy w m
@@ -67,8 +67,5 @@ twice m f g alone apart (byStopHere a x h r) t =
     let k : Servo = execute f alone m in
     let e : k ≡ withCause 0 (perform (Stop a Here x) m) = every-type servo .cause f alone m .executed (Stop a Here x) (h .undamaged) (h .order) (stops-now a x m .here .1 r) in
     start-refused (k .station .cause) k g apart
-    (inl (ap (λ (k : Servo). k .settings .load .waits) e ∙ stops a x m .waits Here (λ z. not-keep z)))
+    (inl (ap (λ (k : Servo). k .settings .load .waits) e ∙ stops a x m .waits Here (not-keep Here refl)))
     t
-  where
-    not-keep : Here ≡ Keep → ⊥
-    not-keep e = let z : true ≡ false = cc in absurd (true≢false z)

@@ -57,7 +57,7 @@ use Rattle.demands_rules.specs.Motion.{Moves, At}
 use Rattle.demands_rules.specs.Question.{IsStart}
 use Rattle.demands_rules.specs.Place.{after, Stands, Executed}
 use Rattle.demands_rules.specs.Sent.{control, Has, Lacks, WholeLoad, Halts, Drops, encoder, Loaded, Given, itself, byStart, WasSent, WhatMovesWasSent, numberIn}
-use Rattle.demands_rules.proofs.Known.{Known, known, BitOf, haltBits, halt-bits, keep-spares}
+use Rattle.demands_rules.proofs.Known.{Known, known, BitOf, haltBits, halt-bits, not-keep, keep-spares}
 use Rattle.demands_rules.proofs.Alike.{Alike, alike, shift-alike, tick-alike}
 use Rattle.demands_rules.proofs.Making.{same-place, fits-at, Silent, Made, same, framed, measured, timed, made, set-up-is}
 use Rattle.demands_rules.proofs.Placing.{untouched, call-at, stood-before}
@@ -95,34 +95,24 @@ acceleration-is : (f : Frame) → Has 2 f → carriedIn (f .content) .accelerati
 unfolding carriedIn
 acceleration-is f h = ap (λ (t : Bool). cond t (numberIn 2 f) 0) h
 
-abbrev keeps : Halt → Bool
-keeps Keep = true
-keeps Release = false
-keeps Abrupt = false
-keeps Smooth = false
-keeps Here = false
-
-not-keep : (h : Halt) → keeps h ≡ false → h ≡ Keep → ⊥
-not-keep h e q = false≢true (sym e ∙ ap keeps q)
-
 -- the raw count, from the position that is less by the offset
 back : (raw offset : ℕ) → raw < 2 ^ 32 → offset < 2 ^ 32 → (less raw offset + offset) % 2 ^ 32 ≡ raw
 back raw offset h k = omega arith
 
 module _ (net : List ℕ) (cs : List Call) (i : ℕ) where
   -- the number was loaded by the last Load among the first n calls that carried it
-  abbrev Rate : ℕ → (Frame → ℕ) → ℕ → Bool → ℕ → Type 0
-  Rate b read x was n = was ≡ true → (f : Frame) × (x ≡ read f) × Given net cs i b f n
+  abbrev Rate : ℕ → ℕ → Bool → ℕ → Type 0
+  Rate b x was n = was ≡ true → (f : Frame) × (x ≡ numberIn b f) × Given net cs i b f n
 
   -- what was sent is what is kept and what is done
   record Told (n : ℕ) (m : Servo) : Type 0 where
-    paced : Rate 1 (numberIn 1) (m .settings .rates .velocity) (m .settings .rates .paced) n
-    ramped : Rate 2 (numberIn 2) (m .settings .rates .acceleration) (m .settings .rates .ramped) n
+    paced : Rate 1 (m .settings .rates .velocity) (m .settings .rates .paced) n
+    ramped : Rate 2 (m .settings .rates .acceleration) (m .settings .rates .ramped) n
     waits : m .settings .load .waits ≡ true → (f : Frame) × (m .settings .load ≡ brought f) × Lacks 7 f × Loaded net cs i Drops f n
     sent : WasSent net cs i n m
 
-  rate-on : (b : ℕ) (read : Frame → ℕ) (x : ℕ) (was : Bool) (n : ℕ) → ((g : Frame) → Executed net cs i n g → Replaces b g → ⊥) → Rate b read x was n → Rate b read x was (suc n)
-  rate-on b read x was n h r w = let (f, e, (c, l)) = r w in (f, e, (c, loaded-on net cs i (Replaces b) f n l h))
+  rate-on : (b : ℕ) (x : ℕ) (was : Bool) (n : ℕ) → ((g : Frame) → Executed net cs i n g → Replaces b g → ⊥) → Rate b x was n → Rate b x was (suc n)
+  rate-on b x was n h r w = let (f, e, (c, l)) = r w in (f, e, (c, loaded-on net cs i (Replaces b) f n l h))
 
   module _ (n : ℕ) (m : Servo) (stands : Stands net cs i n m) (t : Fits m) (told : Told n m) where
     -- where no number is replaced
@@ -130,8 +120,8 @@ module _ (net : List ℕ) (cs : List Call) (i : ℕ) where
         → (k .settings .load .waits ≡ true → (f : Frame) × (k .settings .load ≡ brought f) × Lacks 7 f × Loaded net cs i Drops f (suc n))
         → WasSent net cs i (suc n) k → Told (suc n) k
     rates-told k e h w s = record {
-      paced = subst (λ (r : Rates). Rate 1 (numberIn 1) (r .velocity) (r .paced) (suc n)) (sym e) (rate-on 1 (numberIn 1) _ _ n (h 1) (told .paced));
-      ramped = subst (λ (r : Rates). Rate 2 (numberIn 2) (r .acceleration) (r .ramped) (suc n)) (sym e) (rate-on 2 (numberIn 2) _ _ n (h 2) (told .ramped));
+      paced = subst (λ (r : Rates). Rate 1 (r .velocity) (r .paced) (suc n)) (sym e) (rate-on 1 _ _ n (h 1) (told .paced));
+      ramped = subst (λ (r : Rates). Rate 2 (r .acceleration) (r .ramped) (suc n)) (sym e) (rate-on 2 _ _ n (h 2) (told .ramped));
       waits = w;
       sent = s;
     }
@@ -160,15 +150,15 @@ module _ (net : List ℕ) (cs : List Call) (i : ℕ) where
       spared P h g x z = h (subst P (alone g x) z)
 
       -- a rate after a Load: its own number, or the one before
-      rate-load : (b : ℕ) (read : Frame → ℕ) (old new : ℕ) (was now : Bool) → (f .code ≡ 4) × (length (f .content) ≡ needed (control f))
-          → (Has b f → new ≡ read f) → (Lacks b f → (new ≡ old) × (now ≡ was)) → Rate b read old was n → Rate b read new now (suc n)
-      rate-load b read old new was now w has lacks r = at (isSet b (control f)) refl
+      rate-load : (b : ℕ) (old new : ℕ) (was now : Bool) → (f .code ≡ 4) × (length (f .content) ≡ needed (control f))
+          → (Has b f → new ≡ numberIn b f) → (Lacks b f → (new ≡ old) × (now ≡ was)) → Rate b old was n → Rate b new now (suc n)
+      rate-load b old new was now w has lacks r = at (isSet b (control f)) refl
         where
           not-replaced : Lacks b f → Replaces b f → ⊥
           not-replaced e (inl (c, h)) = false≢true (sym e ∙ h)
           not-replaced e (inr c) = let z : _≡_ {A = Bool} true false = ap (eqb 4) (sym (w .0) ∙ c) in true≢false z
 
-          at : (t : Bool) → isSet b (control f) ≡ t → Rate b read new now (suc n)
+          at : (t : Bool) → isSet b (control f) ≡ t → Rate b new now (suc n)
           at true e q = (f, has e, (e, record { by = n; earlier = le-refl (suc n); executed = exec; load = w; last = none-yet net cs i (Replaces b) n }))
           at false e q =
               let (x, y) = lacks e in
@@ -179,15 +169,15 @@ module _ (net : List ℕ) (cs : List Call) (i : ℕ) where
         abbrev c : Carried
         c = carriedIn (f .content)
 
-        loaded-paced : Rate 1 (numberIn 1) (loaded c m .settings .rates .velocity) (loaded c m .settings .rates .paced) (suc n)
+        loaded-paced : Rate 1 (loaded c m .settings .rates .velocity) (loaded c m .settings .rates .paced) (suc n)
         unfolding carriedIn
         loaded-paced =
-            rate-load 1 (numberIn 1) _ _ _ _ w (λ h. loads c m .velocity h .0 ∙ velocity-is f h) (λ h. loads c m .noVelocity h) (told .paced)
+            rate-load 1 _ _ _ _ w (λ h. loads c m .velocity h .0 ∙ velocity-is f h) (λ h. loads c m .noVelocity h) (told .paced)
 
-        loaded-ramped : Rate 2 (numberIn 2) (loaded c m .settings .rates .acceleration) (loaded c m .settings .rates .ramped) (suc n)
+        loaded-ramped : Rate 2 (loaded c m .settings .rates .acceleration) (loaded c m .settings .rates .ramped) (suc n)
         unfolding carriedIn
         loaded-ramped =
-            rate-load 2 (numberIn 2) _ _ _ _ w (λ h. loads c m .acceleration h .0 ∙ acceleration-is f h) (λ h. loads c m .noAcceleration h) (told .ramped)
+            rate-load 2 _ _ _ _ w (λ h. loads c m .acceleration h .0 ∙ acceleration-is f h) (λ h. loads c m .noAcceleration h) (told .ramped)
 
         load-told : Lacks 7 f → Only net cs i (suc n) (withCause 0 (loaded c m)) → Told (suc n) (withCause 0 (loaded c m))
         unfolding loaded
@@ -219,7 +209,7 @@ module _ (net : List ℕ) (cs : List Call) (i : ℕ) where
           let none : (b : ℕ) (g : Frame) → Executed net cs i n g → Replaces b g → ⊥ = λ b. spared (Replaces b) (replaces-not 5 refl refl f (g .1) b) in
           drop-told (withCause 0 (start m)) refl refl none
           (start-sent net cs i n m (withCause 0 (start m)) stands o m l (byStart f exec g h d) e refl refl
-          (rate-on 1 (numberIn 1) _ _ n (none 1) (told .paced)) (rate-on 2 (numberIn 2) _ _ n (none 2) (told .ramped))
+          (rate-on 1 _ _ n (none 1) (told .paced)) (rate-on 2 _ _ n (none 2) (told .ramped))
           (complete m .0 (s .entire)))
 
       -- ---- Stop, by its kind

@@ -12,13 +12,13 @@ use Rattle.base_integers.proofs.Same.{same-eq, eq-same}
 use Rattle.servo_rules.proofs.Shown.{less-self}
 
 -- a wrapped difference r of x and y: it and y make x, but for whole turns
-record Wraps (x y r : ℕ) : Type 0 where
-  turns : ℕ
-  most : turns ≤ 1
-  sum : r + y ≡ x + turns * 2 ^ 32
-  small : r < 2 ^ 32
+pub record Wraps (x y r : ℕ) : Type 0 where
+  pub turns : ℕ
+  pub most : turns ≤ 1
+  pub sum : r + y ≡ x + turns * 2 ^ 32
+  pub small : r < 2 ^ 32
 
-wraps : (x y : ℕ) → x < 2 ^ 32 → y < 2 ^ 32 → Wraps x y (less x y)
+pub wraps : (x y : ℕ) → x < 2 ^ 32 → y < 2 ^ 32 → Wraps x y (less x y)
 wraps x y h k = record { turns = 1 - (x + (2 ^ 32 - y)) / 2 ^ 32; most = omega arith; sum = omega arith; small = omega arith }
 
 -- both less x: their difference stays
