@@ -6,7 +6,16 @@
 #include <stdlib.h>
 #include <string.h>
 
-enum { COUNT = 65536, TOP = 4 * COUNT, RAMP = COUNT / 4, MOVE = 2002, GROUP = 0xFF };
+enum { COUNT = 65536, FASTEST = 1280 * COUNT, GROUP = 0xFF, TRAPEZOID = 0x97, VELOCITY = 0xB6 };
+
+/* How far, how fast and how steep: in counts, in 65,536ths of a count a tick, and by as much more in each tick. */
+struct move {
+    uint32_t counts, top, ramp;
+};
+
+static const struct move usual = {2002, 4 * COUNT, COUNT / 4};
+static const struct move slowest = {2002, FASTEST, 1};        /* 11,454 terms where it brakes */
+static const struct move steepest = {2559, FASTEST, FASTEST}; /* 27 halvings there, the most that there are */
 
 static uint8_t room[NMC_ROOM_LEN];
 static uint8_t last_byte;
@@ -86,17 +95,17 @@ static void put32(uint8_t *at, uint32_t x)
 }
 
 /* All move at once, with the control byte of a trapezoid or of velocity mode. */
-static void start_all(const struct implementation *at, uint8_t control)
+static void start_all(const struct implementation *at, uint8_t control, const struct move *move)
 {
     uint8_t data[13] = {control};
     size_t len = 1;
     ready_servos(at);
     if (control & 1) {
-        put32(data + len, MOVE);
+        put32(data + len, move->counts);
         len += 4;
     }
-    put32(data + len, TOP);
-    put32(data + len + 4, RAMP);
+    put32(data + len, move->top);
+    put32(data + len + 4, move->ramp);
     need(send(at, GROUP, 4, data, len + 8) == 2 * NMC_MOST_MODULES);
 }
 
@@ -130,27 +139,44 @@ static void prepare_one_io(const struct implementation *at)
 
 static void prepare_moving(const struct implementation *at)
 {
-    start_all(at, 0x97);
+    start_all(at, TRAPEZOID, &usual);
     tick_times(at, 30); /* 16 ticks of ramp, then top speed */
 }
 
 static void prepare_velocity(const struct implementation *at)
 {
-    start_all(at, 0xB6);
+    start_all(at, VELOCITY, &usual);
     tick_times(at, 30);
 }
 
-/* The tick in which all brake for the first time, to a speed between the lowest and the highest that may follow. */
-static void prepare_braking(const struct implementation *at)
+/* The tick in which all brake for the first time: the first speed that is not as high as ramp and top allow. */
+static void brake(const struct implementation *at, const struct move *move)
 {
     const struct implementation *model = &implementations[PLAIN_C];
     const struct plain_servo *servo = &((struct plain_network *)model->network)->modules[0].as.servo;
+    int64_t highest = 0;
     unsigned ticks = 0;
-    start_all(model, 0x97);
-    for (tick_times(model, 30); servo->speed == TOP; ticks++)
+    for (start_all(model, TRAPEZOID, move); servo->speed == highest; ticks++) {
+        highest = highest + move->ramp < move->top ? highest + move->ramp : move->top;
         tick_times(model, 1);
-    start_all(at, 0x97);
-    tick_times(at, 30 + ticks - 1);
+    }
+    start_all(at, TRAPEZOID, move);
+    tick_times(at, ticks - 1);
+}
+
+static void prepare_braking(const struct implementation *at)
+{
+    brake(at, &usual);
+}
+
+static void prepare_braking_slowest(const struct implementation *at)
+{
+    brake(at, &slowest);
+}
+
+static void prepare_braking_steepest(const struct implementation *at)
+{
+    brake(at, &steepest);
 }
 
 static void prepare_holding(const struct implementation *at)
@@ -259,7 +285,9 @@ const struct bench_case cases[] = {
     {"byte, frame for a group of 32 servos", "byte", prepare_for_all_servos, take_last, RECEIVER_BACK, 1000},
     {"byte, frame for a group of 32 I/O", "byte", prepare_for_all_io, take_last, RECEIVER_BACK, 1000},
     {"tick, 32 servos, trapezoid at top speed", "tick", prepare_moving, tick_once, NOTHING_BACK, 400},
-    {"tick, 32 servos, trapezoid begins to brake", "tick", prepare_braking, tick_once, NETWORK_BACK, 20},
+    {"tick, 32 servos, trapezoid begins to brake", "tick", prepare_braking, tick_once, NETWORK_BACK, 400},
+    {"tick, 32 servos brake, A 1, V 83,886,080", "tick", prepare_braking_slowest, tick_once, NETWORK_BACK, 400},
+    {"tick, 32 servos brake, A = V = 83,886,080", "tick", prepare_braking_steepest, tick_once, NETWORK_BACK, 400},
     {"tick, 32 servos, velocity mode", "tick", prepare_velocity, tick_once, NOTHING_BACK, 400},
     {"tick, 32 servos holding", "tick", prepare_holding, tick_once, NOTHING_BACK, 1000},
     {"tick, 32 I/O", "tick", prepare_io, tick_once, NOTHING_BACK, 1000},

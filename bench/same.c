@@ -169,20 +169,21 @@ static uint32_t some_counts(void)
     static const uint32_t far[] = {0, 1, UINT32_C(0x7FFFFFFF), UINT32_C(0x80000000), UINT32_C(0x80000001)};
     if (percent(20))
         return far[below(5)];
-    return percent(50) ? below(200) : 0 - below(200);
+    uint32_t reach = percent(20) ? 8000 : 200;
+    return percent(50) ? below(reach) : 0 - below(reach);
 }
 
-/* Accelerations stay small: the library adds and tries term by term. */
-static uint32_t some_rate(bool velocity)
+/* A velocity or an acceleration, often one near the greatest. */
+static uint32_t some_rate(void)
 {
     uint32_t kind = below(40);
     if (kind == 0)
         return FASTEST + 1;
     if (kind == 1)
         return 0;
-    if (kind == 2 && velocity)
-        return FASTEST;
-    return kind < 12 ? below(300) : kind < 25 ? below(4 << 16) : (1 + below(24)) << 14;
+    if (kind < 7)
+        return FASTEST - (percent(50) ? below(3) : below(FASTEST / 2));
+    return kind < 14 ? below(300) : kind < 26 ? below(4 << 16) : (1 + below(24)) << 14;
 }
 
 static size_t some_load(const struct plain_servo *s, uint8_t *data)
@@ -198,7 +199,7 @@ static size_t some_load(const struct plain_servo *s, uint8_t *data)
     }
     for (uint8_t bit = 2; bit <= 4; bit *= 2)
         if (control & bit) {
-            put32(data + len, some_rate(bit == 2));
+            put32(data + len, some_rate());
             len += 4;
         }
     if (control & 8)
@@ -513,18 +514,6 @@ static void spoil_record(void)
     }
 }
 
-/* The library tries and adds term by term: some records that pass would hold it for long. */
-static bool is_long(const struct plain_network *net)
-{
-    for (int place = 0; place < net->chain; place++) {
-        const struct plain_servo *s = &net->modules[place].as.servo;
-        if (net->modules[place].type == NMC_TYPE_SERVO && s->mode == PLAIN_TRAPEZOID &&
-            (s->acceleration > 1 << 22 || s->top_speed / s->acceleration > 1 << 16))
-            return true;
-    }
-    return false;
-}
-
 /* The list on a record that was spoiled, and a tick and a reply where it still passes; then all as it was. */
 static void try_spoiled(void)
 {
@@ -542,7 +531,7 @@ static void try_spoiled(void)
     uint32_t number = implementations[LIBRARY].outputs(0, outputs);
     need(implementations[CHECKED_C].outputs(0, outputs) == number, "refusal of a spoiled record", CHECKED_C);
     refused += number == NMC_BAD_RECORD;
-    if (number != NMC_BAD_RECORD && !is_long(plain)) {
+    if (number != NMC_BAD_RECORD) {
         tick_all();
         for (uint32_t place = 0; place < plain->chain; place++)
             outputs_of_all(place);

@@ -256,7 +256,7 @@ fn trapezoid_in_order(servo: &Servo, slip: Slip) -> bool {
     let size = servo.speed.abs();
     let straight = servo.speed == 0 || d == 0 || (servo.speed < 0) == (d < 0);
     // without an acceleration there is no sum to look at
-    let stops = a == 0 || stopping_sum(size - a, a) <= d.abs() || slip == Slip::RecordStopUntested;
+    let stops = a == 0 || stopping_sum(size - a, a, slip) <= d.abs() || slip == Slip::RecordStopUntested;
     let half_turn = is_half_turn(servo.goal, servo.setpoint) && slip != Slip::RecordHalfTurnUntested;
     all_hold(&[
         (a >= 1, Branch::ListTrapezoidForce),

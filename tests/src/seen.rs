@@ -2,7 +2,7 @@
 //! dice still fall everywhere.
 
 use crate::calls::{MOST_MODULES, ROOM_LEN};
-use crate::model::{Mode, Module, Network, Servo, Touch};
+use crate::model::{Mode, Module, Network, Servo, Touch, SPEED_MOST};
 
 /// What may change a servo's mode.
 #[derive(Clone, Copy, Debug, PartialEq, Eq)]
@@ -32,6 +32,9 @@ pub const CHANGES: [Change; 10] = [
     Change::Trip,
     Change::Nothing,
 ];
+
+/// Half of what a velocity or an acceleration can be at most.
+const STEEP: i64 = SPEED_MOST as i64 / 2;
 
 /// Counts by name.
 pub type Tally = Vec<(&'static str, usize)>;
@@ -147,6 +150,7 @@ impl Seen {
         let (v, w) = (before.speed.abs(), after.speed.abs());
         let trapezoid = after.mode == Mode::Trapezoid;
         let between = w > (v - a).max(0) && w < (v + a).min(i64::from(after.top));
+        let steep = trapezoid && a > STEEP && i64::from(after.top) > STEEP;
         add(
             &mut self.running,
             &[
@@ -159,6 +163,9 @@ impl Seen {
                 ("reversed", before.speed.signum() * after.speed.signum() < 0),
                 ("output at its limit", after.output != 0 && after.output.abs() == i64::from(after.gains.ol)),
                 ("trapezoid's speed neither highest nor lowest", trapezoid && between),
+                ("trapezoid with both rates near their greatest", steep),
+                ("such a trapezoid that brakes to a speed in between", steep && between && w < v),
+                ("trapezoid that needs a million ticks to stop", trapezoid && w > 1_000_000 * a),
             ],
         );
         if !after.servo_off() {

@@ -124,6 +124,10 @@ slips! {
     VelocityPassesGoal: "velocity mode passes its goal",
     TrapezoidWithoutTop: "a trapezoid has no top speed",
     TrapezoidStopsLate: "a trapezoid may pass its goal by its acceleration",
+    StoppingTermsRoundedDown: "a stopping sum leaves out a last term below A",
+    StoppingSumWithoutHalf: "a stopping sum takes off A k (k - 1), not half of it",
+    StoppingSumIn32Bits: "a stopping sum is worked out in 32 bits",
+    TwentySixHalvings: "a range of speeds is halved 26 times at most",
     OldSpeedMoves: "the setpoint moves by the old speed",
     // the servo: filter, power and outputs
     FilterBeforeProfile: "the filter sees the setpoint before the profile's step",

@@ -8,6 +8,7 @@ use crate::model::{
     SPEED_MOST,
 };
 use crate::record::{at, put_module, slot, COUNT, FILL, IO_LEN, MARK, SERVO_LEN, SLOTS, TWELVE_BITS};
+use crate::slips::Slip;
 
 /// Individual and group bytes that meet each other often, and the header among them.
 const INDIVIDUALS: &[u8] = &[0, 1, 2, 3, 4, 0x81, 0x82, HEADER, 0xFF];
@@ -92,14 +93,16 @@ pub fn frame(dice: &mut Dice, network: &Network) -> (u8, u8, Vec<u8>) {
 
 // ---------------------------------------------------------------- the servo
 
-/// A velocity or an acceleration: mostly one that a move of some ticks shows, and the edges of its range.
+/// A velocity or an acceleration: mostly one that a move of some ticks shows; the edges of its range; and often one
+/// near the greatest, whose ramps are the steepest or the longest.
 fn rate(dice: &mut Dice) -> u32 {
     match dice.below(24) {
         0 | 1 => 0,
         2 => 1,
-        3 => SPEED_MOST,
-        4..=8 => dice.below(300) as u32,
-        9..=14 => dice.below(4 << 16) as u32,
+        3 | 4 => SPEED_MOST - dice.pick(&[0, 0, 1, 2]),
+        5 | 6 => SPEED_MOST - dice.below(SPEED_MOST as usize / 2) as u32,
+        7..=10 => dice.below(300) as u32,
+        11..=15 => dice.below(4 << 16) as u32,
         _ => (1 + dice.below(24) as u32) << 14,
     }
 }
@@ -112,15 +115,17 @@ fn rate_or_bad(dice: &mut Dice) -> u32 {
     }
 }
 
-/// Counts that are near, and counts at the far end of the circle.
+/// Counts that are near, some ticks away at the greatest speeds, anywhere, and at the far end of the circle.
 fn counts(dice: &mut Dice) -> u32 {
-    match dice.below(14) {
+    match dice.below(16) {
         0 => 0,
         1 => 1,
         2..=4 => 1 << 31,
         5 => dice.pick(&[(1 << 31) - 1, (1 << 31) + 1]),
         6 => dice.throw() as u32,
-        7..=10 => dice.below(60) as u32,
+        7 => dice.below(8000) as u32,
+        8 => (dice.below(8000) as u32).wrapping_neg(),
+        9..=12 => dice.below(60) as u32,
         _ => (dice.below(60) as u32).wrapping_neg(),
     }
 }
@@ -385,13 +390,22 @@ fn full_swing(dice: &mut Dice, servo: &mut Servo) {
     servo.waiting = ServoSample { raw: servo.offset.wrapping_add(position as u32), power: 1, ad: 0 };
 }
 
-/// A move under way that can stop within its distance, often by nothing to spare. Speeds stay below some thousand
-/// accelerations: the library adds the stopping sum term by term.
+/// What a move under way needs to stop at most, in 65,536ths; a distance is below 2^47.
+const LONGEST_SUM: i64 = 1 << 46;
+
+/// A move under way that can stop within its distance, often by nothing to spare.
 fn any_trapezoid(dice: &mut Dice, servo: &mut Servo) {
     servo.running_acceleration = rate(dice).max(1);
     let a = i64::from(servo.running_acceleration);
-    let size = (a * dice.below(2000) as i64 + dice.below(a as usize) as i64).min(i64::from(SPEED_MOST));
-    let size = if dice.percent(30) { size.min(2 * a) } else { size };
+    let mut size = match dice.below(10) {
+        0..=2 => dice.below(2 * a as usize) as i64,
+        3..=6 => a * dice.below(2000) as i64 + dice.below(a as usize) as i64,
+        _ => dice.below(SPEED_MOST as usize + 1) as i64,
+    };
+    size = size.min(i64::from(SPEED_MOST));
+    while stopping_sum(size, a, Slip::None) > LONGEST_SUM {
+        size /= 2;
+    }
     servo.top = (size as u32 + dice.below(3) as u32 * rate(dice)).min(SPEED_MOST);
     let spare = match dice.below(6) {
         0 | 1 => 0,
@@ -399,7 +413,7 @@ fn any_trapezoid(dice: &mut Dice, servo: &mut Servo) {
         3 | 4 => dice.below(2 * a as usize) as i64,
         _ => dice.below(1 << 40) as i64,
     };
-    let left = stopping_sum(size - a, a) + spare;
+    let left = stopping_sum(size - a, a, Slip::None) + spare;
     let backward = flag(dice);
     let d = if backward { -left } else { left };
     servo.speed = if backward { -size } else { size };

@@ -1,6 +1,7 @@
 //! The model of the servo by itself: its shorter sums against the paper's words, and the bench sheet.
 
 use doljurven_tests::model::{distance, greatest_speed, stopping_sum, Device, Servo, SPEED_MOST};
+use doljurven_tests::slips::Slip;
 
 /// w + (w - a) + (w - 2a) + ..., positive terms, one after another.
 fn sum_in_words(w: i64, a: i64) -> i64 {
@@ -17,13 +18,13 @@ fn sum_in_words(w: i64, a: i64) -> i64 {
 fn stopping_sum_is_the_sum_of_its_terms() {
     for a in 1..=40 {
         for w in -3..=200 {
-            assert_eq!(stopping_sum(w, a), sum_in_words(w, a), "w {w}, a {a}");
+            assert_eq!(stopping_sum(w, a, Slip::None), sum_in_words(w, a), "w {w}, a {a}");
         }
     }
     let most = i64::from(SPEED_MOST);
-    assert_eq!(stopping_sum(most, 1), most * (most + 1) / 2);
-    assert_eq!(stopping_sum(most, most), most);
-    assert_eq!(stopping_sum(most, most - 1), most + 1);
+    assert_eq!(stopping_sum(most, 1, Slip::None), most * (most + 1) / 2);
+    assert_eq!(stopping_sum(most, most, Slip::None), most);
+    assert_eq!(stopping_sum(most, most - 1, Slip::None), most + 1);
 }
 
 #[test]
@@ -34,7 +35,7 @@ fn greatest_speed_is_the_greatest() {
                 for d in sum_in_words(v - a, a)..=40 {
                     let speeds = (v - a).max(0)..=(v + a).min(top);
                     let greatest = speeds.filter(|w| sum_in_words(*w, a) <= d).max();
-                    assert_eq!(Some(greatest_speed(v, a, top, d)), greatest, "v {v}, a {a}, top {top}, d {d}");
+                    assert_eq!(Some(greatest_speed(v, a, top, d, Slip::None)), greatest, "v {v}, a {a}, top {top}, d {d}");
                 }
             }
         }
@@ -46,7 +47,7 @@ fn walk(a: i64, top: i64, mut d: i64) -> Vec<i64> {
     let mut speeds = Vec::new();
     let mut v = 0;
     while d > 0 || v > 0 {
-        v = greatest_speed(v, a, top, d);
+        v = greatest_speed(v, a, top, d, Slip::None);
         d -= v;
         speeds.push(v);
     }

@@ -1,5 +1,7 @@
 pub mod Stopping
 pub mod Search
+pub mod Closed
+pub mod Halving
 pub mod Speeds
 pub mod Velocity
 pub mod Apart

@@ -1,9 +1,10 @@
 -- Laws of the stopping sum. Assumes nothing.
 use mathlib.Core.Path.{_≡_, refl, ap, sym, _∙_}
-use Prim.Native.Nat.{ℕ, zero, suc, _+_, _-_, _/_, _≤_, _<_, zero-le}
-use native.Mathlib.Nat.{zero-sub, lt-of-not-le, div-eq-of-lt, div-eq-sub-div}
-use native.Mathlib.Decide.{decLe}
+use mathlib.Core.Bool.{Bool}
+use Prim.Native.Nat.{ℕ, zero, suc, _+_, _-_, _≤_, _<_, zero-le}
+use native.Mathlib.Nat.{zero-sub}
 use native.Mathlib.Omega.{arith}
+use lib.Dec.{leb}
 use Rattle.servo_motion.specs.Trapezoid.{terms, stop}
 use Rattle.servo_motion.specs.Promises.{StoppingSum}
 
@@ -34,29 +35,6 @@ stop-step (suc w) a h = ap (λ (x : ℕ). suc w + x) (terms-enough w (suc w - a)
 pub stopping-sum : StoppingSum
 stopping-sum w a h = (stop-zero a, stop-step w a h)
 
--- a speed that falls to 0 at once is its own sum
-stop-once : (w a : ℕ) → 0 < a → w ≤ a → stop w a ≡ w
-stop-once w a h p = let e : w - a ≡ 0 = omega arith in let s = rw (e, stop-zero) at (stop-step w a h) in omega arith
-
--- w + 1 has w / a + 1 terms above 0, each one more than w has there
-more-step : (w a : ℕ) → 0 < a → (a ≤ w → stop (w - a + 1) a ≡ stop (w - a) a + ((w - a) / a + 1)) → stop (w + 1) a ≡ stop w a + (w / a + 1)
-more-step w a h lower = either (decLe a w)
-  where
-    either : Dec (a ≤ w) → stop (w + 1) a ≡ stop w a + (w / a + 1)
-    either (yes q) =
-        let e : w + 1 - a ≡ w - a + 1 = omega arith in
-        omega (arith, rw e at (stop-step (w + 1) a h), stop-step w a h, lower q, div-eq-sub-div h q)
-    either (no f) =
-        let q = lt-of-not-le f in
-        omega (arith, stop-once (w + 1) a h (omega arith), stop-once w a h (omega arith), div-eq-of-lt q)
-
-more-within : (n w a : ℕ) → 0 < a → w ≤ n → stop (w + 1) a ≡ stop w a + (w / a + 1)
-more-within zero w a h p = more-step w a h (λ q. absurd (omega arith))
-more-within (suc n) w a h p = more-step w a h (λ q. more-within n (w - a) a h (omega arith))
-
-pub stop-more : (w a : ℕ) → 0 < a → stop (w + 1) a ≡ stop w a + (w / a + 1)
-stop-more w a h = more-within w w a h (omega arith)
-
 terms-mono : (n v w a : ℕ) → v ≤ w → terms n v a ≤ terms n w a
 unfolding terms
 terms-mono zero v w a h = zero-le
@@ -66,3 +44,7 @@ terms-mono (suc n) v w a h = let k = terms-mono n (v - a) (w - a) a (omega arith
 pub stop-mono : (v w a : ℕ) → 0 < a → v ≤ w → stop v a ≤ stop w a
 unfolding stop
 stop-mono v w a h p = rw (terms-enough v w v a h (omega arith) p) (terms-mono w v w a p)
+
+-- whether the speed w can still stop within d
+abbrev pub within : ℕ → ℕ → ℕ → Bool
+within a d w = leb (stop w a) d

@@ -3,3 +3,4 @@ pub mod Setpoint
 pub mod Velocity
 pub mod Profile
 pub mod Promises
+pub mod Quick

@@ -5,6 +5,7 @@ ghost use Prim.Native.Nat.{_+_, _-_, _≤_, _<_, _^_, min};
 ghost use lib.Dec.{leb};
 ghost use lib.IntN.{natAbs};
 ghost use Rattle.servo_motion.specs.Trapezoid.{stop, greatest, nextSpeed};
+ghost use Rattle.servo_motion.specs.Quick.{brakingTicks};
 ghost use Rattle.servo_motion.specs.Setpoint.{whole, distance, moved};
 ghost use Rattle.servo_motion.specs.Velocity.{toward};
 ghost use Rattle.servo_motion.specs.Profile.{fastest, Ranged, inRange, heads, running, trapezoid, stepped, byTrapezoid, byVelocity};
@@ -38,22 +39,22 @@ fn highest(a: u32, top: u32, v: u32) -> u32
     if raised < top { raised } else { top }
 }
 
-// What the stopping sum of w leaves of the room, 0 if it takes it all: a term at a time, until no room is left.
-fn spare(w: u32, a: u32, room: u64) -> u64
+// How many ticks stopping from the speed w takes, the first of them at w: w / a, rounded up.
+fn braking_ticks(w: u32, a: u32) -> u64
     requires { ⌜ 0 < a ⌝ }
-    ensures { λ r. ⌜ r ≡ room - stop w a ⌝ }
+    ensures { λ r. ⌜ r ≡ brakingTicks w a ⌝ }
 {
-    let mut term = w;
-    let mut left = room;
-    while 0 < term {
-        let t = term as u64;
-        if left <= t {
-            return 0;
-        }
-        left -= t;
-        term = lowered(term, a);
-    }
-    left
+    let each = a as u64;
+    (w as u64 + (each - 1)) / each
+}
+
+// The stopping sum of w by its closed form: so many ticks at w, less what the later ones have lost.
+fn stopping_sum(w: u32, a: u32) -> u64
+    requires { ⌜ 0 < a ⌝ }
+    ensures { λ r. ⌜ r ≡ stop w a ⌝ }
+{
+    let k = braking_ticks(w, a);
+    k * w as u64 - a as u64 * ((k * k - k) / 2)
 }
 
 // Whether the stopping sum of w is at most d.
@@ -61,25 +62,25 @@ fn can_stop(w: u32, a: u32, d: u64) -> bool
     requires { ⌜ (0 < a) × (d < 2 ^ 63) ⌝ }
     ensures { λ r. ⌜ r ≡ leb (stop w a) d ⌝ }
 {
-    0 < spare(w, a, d + 1)
+    stopping_sum(w, a) <= d
 }
 
-// From lo up, as long as the next speed can still stop: w + 1 has w / a + 1 terms above 0, each one more than w has there.
-fn climbed(a: u32, d: u64, lo: u32, hi: u32) -> u32
+// The greatest speed that can still stop, by halving the range: a speed that cannot rules out all above it.
+fn by_halves(a: u32, d: u64, lo: u32, hi: u32) -> u32
     requires { ⌜ (0 < a) × (lo ≤ hi) ⌝ }
     ensures { λ r. ⌜ r ≡ greatest (λ w. leb (stop w a) d) lo hi ⌝ }
 {
-    let mut w = lo;
-    let mut left = spare(lo, a, d);
-    while w < hi {
-        let more = (w / a) as u64 + 1;
-        if left < more {
-            return w;
+    let mut low = lo;
+    let mut high = hi;
+    while low < high {
+        let middle = high - (high - low) / 2;
+        if stopping_sum(middle, a) <= d {
+            low = middle;
+        } else {
+            high = middle - 1;
         }
-        left -= more;
-        w += 1;
     }
-    w
+    low
 }
 
 // The trapezoid's new speed. Until it has to brake that is the highest, which is tried first.
@@ -95,7 +96,7 @@ fn next_speed(a: u32, top: u32, d: u64, v: u32) -> u32
     if can_stop(hi, a, d) {
         return hi;
     }
-    climbed(a, d, lo, hi)
+    by_halves(a, d, lo, hi)
 }
 
 // The same in either direction: for a distance below 0 the whole is mirrored.

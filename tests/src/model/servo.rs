@@ -127,26 +127,30 @@ pub fn is_half_turn(goal: u32, setpoint: i64) -> bool {
 }
 
 /// w + (w - a) + (w - 2a) + ..., the positive terms, counted and summed at once.
-pub fn stopping_sum(w: i64, a: i64) -> i64 {
+pub fn stopping_sum(w: i64, a: i64, slip: Slip) -> i64 {
     if w <= 0 {
         return 0;
     }
-    let terms = i128::from((w + a - 1) / a);
-    let sum = terms * i128::from(w) - i128::from(a) * terms * (terms - 1) / 2;
-    i64::try_from(sum).expect("no speed needs that much")
+    let terms = i128::from(if slip == Slip::StoppingTermsRoundedDown { w / a } else { (w + a - 1) / a });
+    let halves = if slip == Slip::StoppingSumWithoutHalf { 1 } else { 2 };
+    let sum = terms * i128::from(w) - i128::from(a) * terms * (terms - 1) / halves;
+    let sum = i64::try_from(sum).expect("no speed needs that much");
+    if slip == Slip::StoppingSumIn32Bits { sum & 0xFFFF_FFFF } else { sum }
 }
 
 /// The greatest speed within a of v, from 0 to the top, that can still stop within d. The sum only grows with the
 /// speed, so the range is halved. Slowing down by a is always within d for a record that passes.
-pub fn greatest_speed(v: i64, a: i64, top: i64, d: i64) -> i64 {
+pub fn greatest_speed(v: i64, a: i64, top: i64, d: i64, slip: Slip) -> i64 {
     let (mut can, mut beyond) = ((v - a).max(0), (v + a).min(top) + 1);
-    while can + 1 < beyond {
+    let mut halvings = if slip == Slip::TwentySixHalvings { 26 } else { 27 };
+    while can + 1 < beyond && halvings > 0 {
         let between = (can + beyond) / 2;
-        if stopping_sum(between, a) <= d {
+        if stopping_sum(between, a, slip) <= d {
             can = between;
         } else {
             beyond = between;
         }
+        halvings -= 1;
     }
     can
 }
@@ -559,7 +563,7 @@ impl Servo {
             _ => self.top,
         });
         let within = if slip == Slip::TrapezoidStopsLate { d.abs() + a } else { d.abs() };
-        let w = greatest_speed(v, a, top, within);
+        let w = greatest_speed(v, a, top, within, slip);
         reach(if w == v + a {
             Branch::TrapezoidFaster
         } else if w == top {

@@ -1,18 +1,14 @@
 -- `servo_motion::next_speed` meets its contract: no range, its top at once, or a search of it. Assumes nothing.
 use mathlib.Core.Path.{_≡_, refl, sym, _∙_, subst}
 use mathlib.Core.Logic.{inr}
-use mathlib.Core.Bool.{Bool}
-use Prim.Native.Nat.{ℕ}
 use native.Mathlib.Omega.{arith}
 use borrow.Author.Needs.{needs}
-use lib.Dec.{T, leb}
-use Rattle.servo_motion.specs.Trapezoid.{stop, greatest, nextSpeed}
+use lib.Dec.{T}
+use Rattle.servo_motion.specs.Trapezoid.{greatest, nextSpeed}
+use Rattle.servo_motion.proofs.Stopping.{within}
 use Rattle.servo_motion.proofs.Search.{greatest-low, greatest-found}
 use Rattle.servo_motion.proofs.next_speed.Statement.{statement}
 use Rattle.servo_motion.proofs.next_speed.Tie as tie
-
-abbrev within : ℕ → ℕ → ℕ → Bool
-within a d w = leb (stop w a) d
 
 -- the range that the code works out
 range : (c : tie.After-highest) → nextSpeed (c .before .before .args .a) (c .before .before .args .top) (c .before .before .args .d) (c .before .before .args .v)
@@ -35,7 +31,7 @@ returns-2 c =
     ∙ sym (range h)
 
 returns-3 : tie.Need-returns-3
-returns-3 c = c .climbed .ensures ∙ sym (range (c .before .before .before .before))
+returns-3 c = c .by-halves .ensures ∙ sym (range (c .before .before .before .before))
 
 pub next-speed-spec : {M : Type 1} → statement M
 next-speed-spec =
