@@ -93,15 +93,20 @@ pub fn frame(dice: &mut Dice, network: &Network) -> (u8, u8, Vec<u8>) {
 
 // ---------------------------------------------------------------- the servo
 
+/// A velocity or an acceleration near its greatest.
+fn steep_rate(dice: &mut Dice) -> u32 {
+    let less = if dice.percent(50) { 3 } else { SPEED_MOST as usize / 2 };
+    SPEED_MOST - dice.below(less) as u32
+}
+
 /// A velocity or an acceleration: mostly one that a move of some ticks shows; the edges of its range; and often one
-/// near the greatest, whose ramps are the steepest or the longest.
+/// near its greatest.
 fn rate(dice: &mut Dice) -> u32 {
     match dice.below(24) {
         0 | 1 => 0,
         2 => 1,
-        3 | 4 => SPEED_MOST - dice.pick(&[0, 0, 1, 2]),
-        5 | 6 => SPEED_MOST - dice.below(SPEED_MOST as usize / 2) as u32,
-        7..=10 => dice.below(300) as u32,
+        3..=5 => steep_rate(dice),
+        6..=10 => dice.below(300) as u32,
         11..=15 => dice.below(4 << 16) as u32,
         _ => (1 + dice.below(24) as u32) << 14,
     }
@@ -115,19 +120,22 @@ fn rate_or_bad(dice: &mut Dice) -> u32 {
     }
 }
 
-/// Counts that are near, some ticks away at the greatest speeds, anywhere, and at the far end of the circle.
+/// Counts that are near, and counts at the far end of the circle.
 fn counts(dice: &mut Dice) -> u32 {
-    match dice.below(16) {
+    match dice.below(14) {
         0 => 0,
         1 => 1,
         2..=4 => 1 << 31,
         5 => dice.pick(&[(1 << 31) - 1, (1 << 31) + 1]),
         6 => dice.throw() as u32,
-        7 => dice.below(8000) as u32,
-        8 => (dice.below(8000) as u32).wrapping_neg(),
-        9..=12 => dice.below(60) as u32,
+        7..=10 => dice.below(60) as u32,
         _ => (dice.below(60) as u32).wrapping_neg(),
     }
+}
+
+/// Counts that take a few ticks with the steepest ramps.
+fn steep_counts(dice: &mut Dice) -> u32 {
+    (dice.below(12_000) as u32).wrapping_sub(6_000)
 }
 
 fn where_it_is(servo: &Servo) -> u32 {
@@ -157,16 +165,20 @@ fn control(dice: &mut Dice, servo: &Servo) -> u8 {
     control
 }
 
-/// A load by its control byte; reversed or not, to be started now or not.
+/// A load by its control byte; reversed or not, to be started now or not. Often one of a steep move, whose numbers
+/// belong together.
 pub fn load(dice: &mut Dice, servo: &Servo, control: u8) -> Vec<u8> {
     let control = control ^ dice.pick(&[0, 0x40, 0x80, 0xC0]);
+    let steep = dice.percent(15);
     let mut data = vec![control];
     if control & 1 != 0 {
-        data.extend(where_it_is(servo).wrapping_add(counts(dice)).to_le_bytes());
+        let counts = if steep { steep_counts(dice) } else { counts(dice) };
+        data.extend(where_it_is(servo).wrapping_add(counts).to_le_bytes());
     }
     for bit in [1, 2] {
         if control >> bit & 1 == 1 {
-            data.extend(rate_or_bad(dice).to_le_bytes());
+            let rate = if steep { steep_rate(dice) } else { rate_or_bad(dice) };
+            data.extend(rate.to_le_bytes());
         }
     }
     if control & 8 != 0 {
