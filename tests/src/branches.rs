@@ -1,7 +1,7 @@
 //! The model's branches by name: each arm in which it renders a rule of the paper. The model counts those that a
 //! history comes to, so a test can tell which ones its dice never reach.
 
-use std::cell::Cell;
+use std::cell::{Cell, RefCell};
 
 macro_rules! branches {
     ($($(#[$about:meta])* $table:ident { $($branch:ident: $words:literal,)* })*) => {
@@ -17,21 +17,21 @@ macro_rules! branches {
 }
 
 thread_local! {
-    static TIMES: [Cell<usize>; COUNT] = const { [const { Cell::new(0) }; COUNT] };
+    static TIMES: RefCell<[usize; COUNT]> = const { RefCell::new([0; COUNT]) };
     static COUNTING: Cell<bool> = const { Cell::new(true) };
 }
 
 pub fn reach(branch: Branch) {
-    if COUNTING.get() {
-        TIMES.with(|times| times[branch as usize].set(times[branch as usize].get() + 1));
+    if COUNTING.with(Cell::get) {
+        TIMES.with(|times| times.borrow_mut()[branch as usize] += 1);
     }
 }
 
 /// Something that is only found out and leaves nothing behind: no branch is reached by it.
 pub fn uncounted<T>(find_out: impl FnOnce() -> T) -> T {
-    let counting = COUNTING.replace(false);
+    let counting = COUNTING.with(|counting| counting.replace(false));
     let found = find_out();
-    COUNTING.set(counting);
+    COUNTING.with(|before| before.set(counting));
     found
 }
 
@@ -53,11 +53,11 @@ pub fn all_hold(conditions: &[(bool, Branch)]) -> bool {
 
 /// How often this thread has come to a branch since it last forgot.
 pub fn times(branch: Branch) -> usize {
-    TIMES.with(|times| times[branch as usize].get())
+    TIMES.with(|times| times.borrow()[branch as usize])
 }
 
 pub fn forget() {
-    TIMES.with(|times| times.iter().for_each(|count| count.set(0)));
+    TIMES.with(|times| times.borrow_mut().fill(0));
 }
 
 /// Those of a table that this thread has not come to, in words.

@@ -92,7 +92,7 @@ pub fn with_extension(extension: &str) -> Vec<PathBuf> {
     let entries = fs::read_dir(folder()).expect("the captures are there");
     let mut paths: Vec<PathBuf> = entries
         .map(|entry| entry.expect("a readable folder").path())
-        .filter(|path| path.extension().is_some_and(|found| found == extension))
+        .filter(|path| path.extension().map_or(false, |found| found == extension))
         .collect();
     paths.sort();
     paths

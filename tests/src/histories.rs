@@ -288,8 +288,10 @@ impl Session<'_> {
     }
 
     fn servo(&self, place: usize) -> Servo {
-        let Module::Servo(servo) = self.module(place) else { unreachable!("types stay") };
-        *servo
+        match self.module(place) {
+            Module::Servo(servo) => *servo,
+            Module::Io(_) => unreachable!("types stay"),
+        }
     }
 
     /// Puts a servo to work: loads, starts and stops, each with ticks in which the motor follows.

@@ -441,9 +441,13 @@ pub struct Model {
 impl Model {
     /// What a place drives in a network that a record told of, if it passed.
     pub fn outputs_of(&self, network: Option<&Network>, place: u32, outputs: &mut [u8; 8]) -> u32 {
-        let Some(network) = network else { return refuse(Branch::OutputsRecord, BAD_RECORD) };
-        let Some(module) = network.modules.get(place as usize) else {
-            return refuse(Branch::OutputsPlace, BAD_PLACE);
+        let network = match network {
+            Some(network) => network,
+            None => return refuse(Branch::OutputsRecord, BAD_RECORD),
+        };
+        let module = match network.modules.get(place as usize) {
+            Some(module) => module,
+            None => return refuse(Branch::OutputsPlace, BAD_PLACE),
         };
         reach(Branch::OutputsDone);
         *outputs = module.outputs(self.slip);
@@ -459,8 +463,9 @@ impl Calls for Model {
         if !(1..=MOST_MODULES).contains(&types.len()) {
             return refuse(Branch::SetupChain, BAD_CHAIN);
         }
-        let Some(modules) = types.iter().map(|module_type| Module::power_up(*module_type)).collect() else {
-            return refuse(Branch::SetupType, BAD_TYPE);
+        let modules = match types.iter().map(|module_type| Module::power_up(*module_type)).collect() {
+            Some(modules) => modules,
+            None => return refuse(Branch::SetupType, BAD_TYPE),
         };
         reach(Branch::SetupDone);
         net.fill(0);
@@ -474,7 +479,10 @@ impl Calls for Model {
         if short && self.slip == Slip::RoomBeforeRecord {
             return SHORT_ROOM;
         }
-        let Some(mut network) = decode(net, self.slip) else { return refuse(Branch::ByteRecord, BAD_RECORD) };
+        let mut network = match decode(net, self.slip) {
+            Some(network) => network,
+            None => return refuse(Branch::ByteRecord, BAD_RECORD),
+        };
         if mark > 1 && !(short && self.slip == Slip::RoomBeforeMark) {
             return refuse(Branch::ByteMark, BAD_FIELD);
         }
@@ -483,9 +491,12 @@ impl Calls for Model {
         }
         let ended = network.byte(mark == 1, byte);
         encode(&network, net);
-        let Some(ended) = ended else {
-            reach(Branch::ByteTaken);
-            return DONE;
+        let ended = match ended {
+            Some(ended) => ended,
+            None => {
+                reach(Branch::ByteTaken);
+                return DONE;
+            }
         };
         let replies: Vec<u8> = ended.replies.into_iter().flat_map(|(_, reply)| reply).collect();
         room[..replies.len()].copy_from_slice(&replies);
@@ -498,7 +509,10 @@ impl Calls for Model {
     }
 
     fn io_sample(&self, net: &mut [u8], place: u32, inputs: u32, ad: [u8; 3], counter: u32) -> u32 {
-        let Some(mut network) = decode(net, self.slip) else { return refuse(Branch::IoSampleRecord, BAD_RECORD) };
+        let mut network = match decode(net, self.slip) {
+            Some(network) => network,
+            None => return refuse(Branch::IoSampleRecord, BAD_RECORD),
+        };
         match network.io_sample(place, inputs, ad, counter) {
             Ok(()) => reach(Branch::IoSampleDone),
             Err(BAD_FIELD) => return refuse(Branch::IoSampleInputs, BAD_FIELD),
@@ -509,7 +523,10 @@ impl Calls for Model {
     }
 
     fn servo_sample(&self, net: &mut [u8], place: u32, raw: u32, power: u32, ad: u8) -> u32 {
-        let Some(mut network) = decode(net, self.slip) else { return refuse(Branch::ServoSampleRecord, BAD_RECORD) };
+        let mut network = match decode(net, self.slip) {
+            Some(network) => network,
+            None => return refuse(Branch::ServoSampleRecord, BAD_RECORD),
+        };
         match network.servo_sample(place, raw, power, ad) {
             Ok(()) => reach(Branch::ServoSampleDone),
             Err(BAD_FIELD) => return refuse(Branch::ServoSamplePower, BAD_FIELD),
@@ -520,7 +537,10 @@ impl Calls for Model {
     }
 
     fn tick(&self, net: &mut [u8]) -> u32 {
-        let Some(mut network) = decode(net, self.slip) else { return refuse(Branch::TickRecord, BAD_RECORD) };
+        let mut network = match decode(net, self.slip) {
+            Some(network) => network,
+            None => return refuse(Branch::TickRecord, BAD_RECORD),
+        };
         reach(Branch::TickDone);
         network.tick();
         encode(&network, net);

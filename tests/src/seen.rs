@@ -110,7 +110,10 @@ impl Seen {
         let (code, count) = (receiver.command & 15, usize::from(receiver.command >> 4));
         let mut repliers = 0;
         for (place, module) in before.modules.iter().enumerate() {
-            let Some(touch) = before.touch(place, receiver.address) else { continue };
+            let touch = match before.touch(place, receiver.address) {
+                Some(touch) => touch,
+                None => continue,
+            };
             self.places[place] += 1;
             let cause = after.modules[place].station().cause;
             let is_io = matches!(module, Module::Io(_));
@@ -128,7 +131,10 @@ impl Seen {
 
     pub fn tick(&mut self, before: &Network, after: &Network) {
         for pair in before.modules.iter().zip(&after.modules) {
-            let (Module::Servo(before), Module::Servo(after)) = pair else { continue };
+            let (before, after) = match pair {
+                (Module::Servo(before), Module::Servo(after)) => (before, after),
+                _ => continue,
+            };
             let change = match (after.latched.power, after.error && !before.error) {
                 (0, _) => Change::PowerLow,
                 (_, true) => Change::Trip,

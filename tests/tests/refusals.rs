@@ -292,7 +292,7 @@ impl Slot {
 
     /// So many 65,536ths from the goal, fewer than a count.
     fn left(mut self, d: i32) -> Slot {
-        let setpoint = 0x1234_5678_0000u64.wrapping_sub_signed(i64::from(d));
+        let setpoint = 0x1234_5678_0000 - i64::from(d);
         self.0[at::SETPOINT..at::SETPOINT + 6].copy_from_slice(&setpoint.to_le_bytes()[..6]);
         self.four(at::GOAL, 0x1234_5678)
     }

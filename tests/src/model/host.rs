@@ -28,10 +28,10 @@ pub struct Reading {
 }
 
 pub fn read_status(module_type: u32, items: u8, reply: &[u8]) -> Result<Reading, u32> {
-    let Some(sizes) = item_sizes(module_type) else {
+    let sizes = item_sizes(module_type).ok_or_else(|| {
         reach(Branch::ReaderType);
-        return Err(BAD_TYPE);
-    };
+        BAD_TYPE
+    })?;
     let chosen = |bit: &usize| items >> bit & 1 == 1;
     let length = 2 + (0..8).filter(chosen).map(|bit| sizes[bit]).sum::<usize>();
     if reply.len() != length {

@@ -94,10 +94,10 @@ impl Network {
         if bad_field && self.slip == Slip::FieldBeforePlace {
             return Err(BAD_FIELD);
         }
-        let Some(module) = self.modules.get_mut(place as usize) else {
+        let module = self.modules.get_mut(place as usize).ok_or_else(|| {
             reach(Branch::SampleBeyondChain);
-            return Err(BAD_PLACE);
-        };
+            BAD_PLACE
+        })?;
         if !wanted(module) {
             reach(Branch::SampleOtherType);
             return Err(BAD_PLACE);
@@ -167,7 +167,10 @@ impl Network {
         let mut replies = Vec::new();
         for place in 0..self.modules.len() {
             let judged = if slip == Slip::TwoBecomeOne { &*self } else { &before };
-            let Some(touch) = judged.touch(place, frame.address) else { continue };
+            let touch = match judged.touch(place, frame.address) {
+                Some(touch) => touch,
+                None => continue,
+            };
             self.modules[place].meet(frame, touch, slip);
 
             let module = &self.modules[place];

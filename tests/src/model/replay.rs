@@ -39,9 +39,9 @@ fn replay_record(
 ) -> Option<usize> {
     let body_length = [1, 2, 7, 10, 0];
     let kind = usize::from(file[0]);
-    let Some(body_length) = body_length.get(kind) else { return bad(Branch::ReplayKind) };
+    let body_length = body_length.get(kind).or_else(|| bad(Branch::ReplayKind))?;
     let length = 1 + body_length;
-    let Some(body) = file.get(1..length) else { return bad(Branch::ReplayCut) };
+    let body = file.get(1..length).or_else(|| bad(Branch::ReplayCut))?;
     if kind == 0 {
         if network.is_some() {
             return bad(Branch::ReplayModuleLate);
@@ -49,7 +49,7 @@ fn replay_record(
         if modules.len() == MOST_MODULES {
             return bad(Branch::ReplayModuleBeyond);
         }
-        let Some(module) = Module::power_up(body[0]) else { return bad(Branch::ReplayModuleType) };
+        let module = Module::power_up(body[0]).or_else(|| bad(Branch::ReplayModuleType))?;
         reach(Branch::ReplayModule);
         modules.push(module);
         return Some(length);

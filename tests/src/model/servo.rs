@@ -233,10 +233,10 @@ impl Servo {
     }
 
     fn load_trajectory(&mut self, data: &[u8], slip: Slip) -> Result<(), u8> {
-        let [control, rest @ ..] = data else {
+        let (control, rest) = data.split_first().ok_or_else(|| {
             reach(Branch::LoadEmpty);
-            return Err(MALFORMED);
-        };
+            MALFORMED
+        })?;
         let bit = |bit: u8| control >> bit & 1 == 1;
         let count = Servo::load_count(*control);
         let long = data.len() > count && slip == Slip::LoadCountIsLeast;
@@ -428,7 +428,7 @@ impl Servo {
     }
 
     fn set_gain(&mut self, data: &[u8], slip: Slip) -> Result<(), u8> {
-        let [.., ol, cl, _, _, sr, db, sm] = *data else { unreachable!("fifteen bytes") };
+        let [.., ol, cl, _, _, sr, db, sm]: [u8; 15] = data.try_into().expect("fifteen bytes");
         let gains = Gains {
             kp: two(data),
             kd: two(&data[2..]),
@@ -460,10 +460,10 @@ impl Servo {
     }
 
     fn stop(&mut self, data: &[u8], slip: Slip) -> Result<(), u8> {
-        let [control, rest @ ..] = data else {
+        let (control, rest) = data.split_first().ok_or_else(|| {
             reach(Branch::StopEmpty);
-            return Err(MALFORMED);
-        };
+            MALFORMED
+        })?;
         let kinds = control >> 1 & 15;
         let here = control >> 4 & 1 == 1;
         let well_formed = all_hold(&[
