@@ -35,7 +35,11 @@ fn greatest_speed_is_the_greatest() {
                 for d in sum_in_words(v - a, a)..=40 {
                     let speeds = (v - a).max(0)..=(v + a).min(top);
                     let greatest = speeds.filter(|w| sum_in_words(*w, a) <= d).max();
-                    assert_eq!(Some(greatest_speed(v, a, top, d, Slip::None)), greatest, "v {v}, a {a}, top {top}, d {d}");
+                    assert_eq!(
+                        Some(greatest_speed(v, a, top, d, Slip::None)),
+                        greatest,
+                        "v {v}, a {a}, top {top}, d {d}"
+                    );
                 }
             }
         }

@@ -135,7 +135,11 @@ pub fn stopping_sum(w: i64, a: i64, slip: Slip) -> i64 {
     let halves = if slip == Slip::StoppingSumWithoutHalf { 1 } else { 2 };
     let sum = terms * i128::from(w) - i128::from(a) * terms * (terms - 1) / halves;
     let sum = i64::try_from(sum).expect("no speed needs that much");
-    if slip == Slip::StoppingSumIn32Bits { sum & 0xFFFF_FFFF } else { sum }
+    if slip == Slip::StoppingSumIn32Bits {
+        sum & 0xFFFF_FFFF
+    } else {
+        sum
+    }
 }
 
 /// The greatest speed within a of v, from 0 to the top, that can still stop within d. The sum only grows with the
