@@ -9,6 +9,7 @@
 #include "cases.h"
 
 #include <stdio.h>
+#include <string.h>
 #include <time.h>
 
 enum { ROUNDS = 15 };
@@ -51,11 +52,17 @@ int main(void)
 {
     printf("%-44s %10s %10s %13s %9s %9s\n", "nanoseconds a call", implementations[LIBRARY].name,
            implementations[PLAIN_C].name, implementations[CHECKED_C].name, "/ plain", "/ checks");
+    double top_speed = 0, worst = 0;
     for (unsigned i = 0; i < case_count; i++) {
         double took[IMPLEMENTATIONS];
         time_all(&cases[i], took);
+        if (strstr(cases[i].name, "at top speed"))
+            top_speed = took[LIBRARY];
+        if (strstr(cases[i].name, "brake") && worst < took[LIBRARY])
+            worst = took[LIBRARY];
         printf("%-44s %10.0f %10.0f %13.0f %9.2f %9.2f\n", cases[i].name, took[LIBRARY], took[PLAIN_C],
                took[CHECKED_C], took[LIBRARY] / took[PLAIN_C], took[LIBRARY] / took[CHECKED_C]);
     }
+    printf("the library's worst tick that brakes takes %.2f times one at top speed\n", worst / top_speed);
     return 0;
 }
