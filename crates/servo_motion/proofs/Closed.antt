@@ -1,7 +1,7 @@
 -- ClosedForm and Longest: the stopping sum in closed form. Assumes nothing.
 use mathlib.Core.Path.{_≡_, refl, ap, _∙_}
 use Prim.Native.Nat.{ℕ, zero, suc, _+_, _-_, _*_, _/_, _≤_, _<_}
-use native.Mathlib.Nat.{zero-mul, mul-zero, suc-mul, mul-suc, mul-add, mul-comm, le-of-suc-le-suc, div-add-mod', mod-lt, div-mul-le-self, div-lt-iff-lt-mul}
+use native.Mathlib.Nat.{zero-mul, mul-zero, suc-mul, mul-suc, mul-add, mul-comm, le-of-suc-le-suc, div-add-mod', mod-lt, div-mul-le-self, div-lt-iff-lt-mul, le-mul-of-pos-right}
 use native.Mathlib.Omega.{arith}
 use Rattle.servo_motion.specs.Trapezoid.{stop}
 use Rattle.servo_motion.specs.Profile.{fastest}
@@ -58,9 +58,6 @@ closedForm w a h =
 pub longest : Longest
 longest = (refl, omega (arith, closedForm fastest 1 (omega arith)))
 
-le-mul : (w a : ℕ) → 0 < a → w ≤ w * a
-le-mul w (suc a) h = omega (arith, mul-suc w a)
-
 -- no more ticks than 65,536ths of speed
 pub ticks-most : (w a : ℕ) → 0 < a → brakingTicks w a ≤ w
-ticks-most w a h = le-of-suc-le-suc (div-lt-iff-lt-mul h .1 (omega (arith, suc-mul w a, le-mul w a h)))
+ticks-most w a h = le-of-suc-le-suc (div-lt-iff-lt-mul h .1 (omega (arith, suc-mul w a, le-mul-of-pos-right w h)))

@@ -19,13 +19,13 @@ self-most zero = omega arith
 self-most (suc j) = omega (arith, mul-suc (suc j) j)
 
 module _ (k w a : ℕ) (e : k ≡ brakingTicks w a) (h : 0 < a) (p : w < 2 ^ 32) where
-  pub at-first : k * w ≤ (2 ^ 32 - 1) * (2 ^ 32 - 1)
+  at-first : k * w ≤ (2 ^ 32 - 1) * (2 ^ 32 - 1)
   at-first = mul-le-mul {n₂ = 2 ^ 32 - 1} {m₂ = 2 ^ 32 - 1} (omega (arith, ticks-most w a h)) (omega arith)
 
-  pub square : k * k ≤ (2 ^ 32 - 1) * (2 ^ 32 - 1)
+  square : k * k ≤ (2 ^ 32 - 1) * (2 ^ 32 - 1)
   square = mul-le-mul {n₂ = 2 ^ 32 - 1} {m₂ = 2 ^ 32 - 1} (omega (arith, ticks-most w a h)) (omega (arith, ticks-most w a h))
 
-  pub sum : stop w a + a * ((k * k - k) / 2) ≡ k * w
+  sum : stop w a + a * ((k * k - k) / 2) ≡ k * w
   sum = rw (less-once k, e) (closedForm w a h)
 
 abbrev counted : (c : tie.After-braking-ticks) → c .braking-ticks .result ≡ brakingTicks (c .before .args .w) (c .before .args .a)
