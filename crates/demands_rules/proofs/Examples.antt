@@ -58,11 +58,11 @@ use Rattle.demands_rules.proofs.OnTheLine.{small, fed-handed, fed-done,
 
 -- ---- a servo and frames for it
 
-abbrev undamaged : ℕ → List ℕ → Frame
+abbrev pub undamaged : ℕ → List ℕ → Frame
 undamaged code ds = record { address = 0; code = code; content = ds; damaged = false }
 
 -- a servo that has seen power 1 and a Clear Bits: it could start, if a load waited
-abbrev lit : Servo
+abbrev pub lit : Servo
 lit = ticked (sampled (record { raw = 0; power = 1; ad = 0 }) started)
 
 abbrev awake : Servo
@@ -207,10 +207,10 @@ carriage-stays =
 
 -- ---- histories of calls that end in motion: a sample of good power, a tick, and then the bytes of Clear Bits and of orders
 
-abbrev calls : List Byte → List Call
+abbrev pub calls : List Byte → List Call
 calls orders = servoSample 0 0 1 0 ∷ tick ∷ fed room orders
 
-abbrev happens : List Byte → List (Event AnySample)
+abbrev pub happens : List Byte → List (Event AnySample)
 happens orders = Events.sampled 0 (servoSampleOf 0 1 0) ∷ Events.ticked ∷ sent orders ∷ []
 
 abbrev sampledLent : List ℕ
@@ -220,7 +220,7 @@ sampled-valid : ValidRecord sampledLent
 sampled-valid = call-kept lent (servoSample 0 0 1 0) (omega arith, omega arith) valid
 
 module _ (orders : List Byte) (small : AreBytes (values orders)) where
-  are-handed : AllHanded (calls orders)
+  pub are-handed : AllHanded (calls orders)
   are-handed = ((omega arith, omega arith), (tt, fed-handed room orders small))
 
   all-done : doneBy (calls orders) lent ≡ singly (happens orders)
@@ -231,15 +231,16 @@ module _ (orders : List Byte) (small : AreBytes (values orders)) where
       ∙ ap (λ (l : List (Event AnySample)). Events.ticked ∷ l)
       (fed-done room orders (leaves sampledLent tick) enough (call-kept sampledLent tick tt sampled-valid) small ∙ sym (append-nil _)))
 
-  -- what the orders make of the servo stands in the record
-  ends-in : (gone : Servo) → getElem? (run kind (happens orders) (setUp types) .net .modules) 0 ≡ some (servo, gone) → At (leftBy (calls orders) lent) 0 gone
-  ends-in gone goes =
-      ap (λ (n : Net Module). getElem? (n .modules) 0)
-      (any-calls lent (calls orders) valid are-handed .network
+  -- the network that the record holds then, and the servo that the orders make
+  pub ends-with : netIn slots (leftBy (calls orders) lent) ≡ run kind (happens orders) (setUp types) .net
+  ends-with =
+      any-calls lent (calls orders) valid are-handed .network
       ∙ ap (λ (l : List (Event AnySample)). run kind l (netIn slots lent) .net) all-done
       ∙ ap (λ (o : Events.Outcome Module). o .net) (run-singly kind (happens orders) (netIn slots lent))
-      ∙ ap (λ (n : Net Module). run kind (happens orders) n .net) held)
-      ∙ goes
+      ∙ ap (λ (n : Net Module). run kind (happens orders) n .net) held
+
+  ends-in : (gone : Servo) → getElem? (run kind (happens orders) (setUp types) .net .modules) 0 ≡ some (servo, gone) → At (leftBy (calls orders) lent) 0 gone
+  ends-in gone goes = ap (λ (n : Net Module). getElem? (n .modules) 0) ends-with ∙ goes
 
   -- and what it does then was sent
   sent-for : (gone : Servo) → At (leftBy (calls orders) lent) 0 gone → WasSent lent (calls orders) 0 (length (calls orders)) gone

@@ -1,8 +1,8 @@
 -- The mill's question in any time. Assumes nothing.
 use mathlib.Core.Path.{_≡_, refl, sym, ap, ap₂, subst, _∙_}
 use mathlib.Core.Logic.{_⊎_, inl, inr}
-use mathlib.Core.List.{List, [], _∷_}
-use mathlib.Core.Bool.{Bool, true, false, cond, true≢false}
+use mathlib.Core.List.{List}
+use mathlib.Core.Bool.{Bool, true, false, cond}
 use mathlib.Core.Option.{some}
 use Prim.Native.Nat.{ℕ, zero, suc, _<_, _≤_}
 use native.Mathlib.Omega.{arith}
@@ -28,7 +28,7 @@ use Rattle.demands_rules.specs.Motion.{At}
 use Rattle.demands_rules.specs.Place.{after, Stands, Touched, inTime, throughTime}
 use Rattle.demands_rules.specs.Question.{Missed, IsStart, QuestionInTime}
 use Rattle.demands_rules.proofs.Making.{Made, same, framed, measured, timed, made}
-use Rattle.demands_rules.proofs.Placing.{call-at, time-at, valid-after, untouched}
+use Rattle.demands_rules.proofs.Placing.{below, call-at, time-at, valid-after, untouched}
 use Rattle.demands_rules.proofs.Question.{missed-is, start-refused}
 
 -- a choice of two servos with another cause
@@ -57,11 +57,6 @@ time-waits net i (servoSample place raw power ad) m =
     either (Waits w) (eqb (first (servoSampleTable net place power)) 0) _ m (either (Waits w) (eqb i place) (sampled _ m) m refl refl) refl
 time-waits net i (ioSample place inputs ad1 ad2 ad3 counter) m = refl
 time-waits net i tick m = either (Waits (m .settings .load .waits)) (eqb (first (tickTable net)) 0) (ticked m) m refl refl
-
-below : (cs : List Call) (n : ℕ) (c : Call) → getElem? cs n ≡ some c → n < length cs
-below [] n c e = let z : _≡_ {A = Bool} true false = cc in absurd (true≢false z)
-below (d ∷ cs) zero c e = omega arith
-below (d ∷ cs) (suc n) c e = let h = below cs n c e in omega arith
 
 -- two names of one byte give one answer, and one damage
 same-answer : (r : Receiver) (mark y mark′ y′ : ℕ) {room room′ : List ℕ} → some (byte mark y room) ≡ some (byte mark′ y′ room′)

@@ -14,6 +14,14 @@ pub mod Order
 pub mod OnTheLine
 pub mod Alive
 pub mod Sheet
+pub mod Racing
+pub mod Arriving
+pub mod Reaching
+pub mod Mirroring
+pub mod OnTheWay
 pub mod Meaning
 pub mod Examples
+mod Computing
 pub mod TimeExample
+pub mod QuickestExamples
+pub mod MoveExample

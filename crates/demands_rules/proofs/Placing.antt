@@ -5,18 +5,29 @@ use mathlib.Core.Bool.{Bool, true, false, true≢false}
 use mathlib.Core.Option.{some}
 use Prim.Native.Nat.{ℕ, zero, suc, _<_, _≤_}
 use native.Mathlib.Omega.{arith}
+use lib.Dec.{eqb}
 use lib.ListN.{length, getElem?, take}
-use Rattle.line_receiver.specs.Frames.{Frame}
+use Rattle.line_receiver.specs.declared.Receiver.{Receiver}
+use Rattle.line_receiver.specs.declared.Answer.the-variants.{Ended}
+use Rattle.line_receiver.specs.Receive.{taken}
+use Rattle.line_receiver.specs.Frames.{Frame, frameIn}
 use Rattle.chain_rules.specs.Chain.{addresses, touched}
 use Rattle.servo_rules.specs.declared.Servo.{Servo}
 use Rattle.types_rules.specs.Types.{kind, slots}
 use Rattle.net_rules.specs.Record.{netIn}
-use Rattle.api_rules.specs.Promises.{ValidRecord}
+use Rattle.api_rules.specs.Table.{byteTable}
+use Rattle.api_rules.specs.Promises.{ValidRecord, Passes}
 use Rattle.demands_history_rules.specs.Calls.{Call, byte, Handed, AllHanded, leaves, leftBy}
 use Rattle.demands_history_rules.proofs.Calls.{call-kept}
 use Rattle.demands_rules.specs.Motion.{At}
-use Rattle.demands_rules.specs.Place.{after, Stands, Touched, inTime, throughTime}
+use Rattle.demands_rules.specs.Place.{after, Stands, Touched, Executed, inTime, throughTime}
 use Rattle.demands_rules.proofs.Making.{Silent, was-servo}
+
+-- where there is a call there are as many
+pub below : (cs : List Call) (n : ℕ) (c : Call) → getElem? cs n ≡ some c → n < length cs
+below [] n c e = let z : _≡_ {A = Bool} true false = cc in absurd (true≢false z)
+below (d ∷ cs) zero c e = omega arith
+below (d ∷ cs) (suc n) c e = let h = below cs n c e in omega arith
 
 -- call n, the record after it, and what time makes of a servo by it
 pub call-at : (cs : List Call) (net : List ℕ) (n : ℕ) → n < length cs → AllHanded cs
@@ -51,3 +62,22 @@ untouched net cs i n c e s g x =
     let z : c ≡ byte (x .mark) (x .value) (x .room) = let y : some c ≡ some (byte (x .mark) (x .value) (x .room)) = sym e ∙ x .call in cc in
     subst (Silent (after net cs i n) i) z s (g .damaged) (x .done) (x .ended)
     (subst (λ (f : Frame). touched true (f .address) (addresses kind (netIn slots (after net cs i n) .modules)) i ≡ true) (x .frame) (x .touches))
+
+-- k is the servo after n calls
+abbrev pub Only : List ℕ → List Call → ℕ → ℕ → Servo → Type 0
+Only net cs i n k = (m : Servo) → Stands net cs i n m → m ≡ k
+
+-- a byte that ends an undamaged frame for place i, and leaves the servo there with cause 0, has executed it
+module _ (net : List ℕ) (cs : List Call) (i n : ℕ) (mark value : ℕ) (room : List ℕ) where
+  abbrev receiver : Receiver
+  receiver = netIn slots (after net cs i n) .receiver
+
+  pub executed-by : getElem? cs n ≡ some (byte mark value room) → Passes (byteTable (after net cs i n) mark room)
+      → touched true (receiver .address) (addresses kind (netIn slots (after net cs i n) .modules)) i ≡ true
+      → taken receiver value (eqb mark 1) .answer ≡ Ended false
+      → (k : Servo) → Only net cs i (suc n) k → k .station .cause ≡ 0 → Executed net cs i n (frameIn receiver false)
+  executed-by call goes touches e k o z = record {
+    met = record { mark = mark; value = value; room = room; call = call; done = goes; ended = e; frame = refl; touches = touches };
+    undamaged = refl;
+    cause = λ m st. ap (λ (k : Servo). k .station .cause) (o m st) ∙ z;
+  }

@@ -33,6 +33,7 @@ use Rattle.demands_rules.specs.Place.{Stands, Executed, None, Since}
 use Rattle.demands_rules.specs.Sent.{Has, pulseIn, signedIn, Halts, encoder, HeldAt, Loaded, Given, Started, itself, byStart, Began, SlowingSent, HoldSent, WasSent, numberIn}
 use Rattle.demands_rules.proofs.Known.{WayBits, way-bits}
 use Rattle.demands_rules.proofs.Alike.{Alike}
+use Rattle.demands_rules.proofs.Placing.{Only}
 use Rattle.demands_rules.proofs.Motion.{zero?}
 
 -- what takes the place of the number of bit k, or forgets it
@@ -81,10 +82,6 @@ module _ (f : Frame) where
   bits-are = way-bits f
 
 module _ (net : List ℕ) (cs : List Call) (i : ℕ) where
-  -- k is the servo after n calls
-  abbrev pub Only : ℕ → Servo → Type 0
-  Only n k = (m : Servo) → Stands net cs i n m → m ≡ k
-
   pub none-on : (P : Frame → Type 0) (a n : ℕ) → None net cs i P a n → ((f : Frame) → Executed net cs i n f → P f → ⊥) → None net cs i P a (suc n)
   none-on P a n h g j f l q e z = at (up-to (suc j) n q)
     where
@@ -95,14 +92,14 @@ module _ (net : List ℕ) (cs : List Call) (i : ℕ) where
   pub none-yet : (P : Frame → Type 0) (n : ℕ) → None net cs i P n (suc n)
   none-yet P n j f l q e z = absurd (omega arith)
 
-  since-on : (P : Servo → Type 0) (a n : ℕ) (k : Servo) → Since net cs i a n P → Only (suc n) k → P k → Since net cs i a (suc n) P
+  since-on : (P : Servo → Type 0) (a n : ℕ) (k : Servo) → Since net cs i a n P → Only net cs i (suc n) k → P k → Since net cs i a (suc n) P
   since-on P a n k h o p j m l q e = at (up-to j n q)
     where
       at : (j ≤ n) ⊎ (j ≡ suc n) → P m
       at (inl q) = h j m l q e
       at (inr q) = subst P (sym (o m (subst (λ (j : ℕ). Stands net cs i j m) q e))) p
 
-  since-first : (P : Servo → Type 0) (n : ℕ) (k : Servo) → Only (suc n) k → P k → Since net cs i n (suc n) P
+  since-first : (P : Servo → Type 0) (n : ℕ) (k : Servo) → Only net cs i (suc n) k → P k → Since net cs i n (suc n) P
   since-first P n k o p j m l q e =
       let z : j ≡ suc n = omega arith in
       subst P (sym (o m (subst (λ (j : ℕ). Stands net cs i j m) z e))) p
@@ -118,7 +115,7 @@ module _ (net : List ℕ) (cs : List Call) (i : ℕ) where
 
   -- one call more since a start: other bits and another meaning may be told of it
   began-on : {Bits Others : Frame → Type 0} {Is Also : Servo → Frame → Servo → Type 0} (s n : ℕ) (k : Servo)
-      → Began net cs i s n Bits Is → Only (suc n) k
+      → Began net cs i s n Bits Is → Only net cs i (suc n) k
       → ((f : Frame) → Bits f → Others f)
       → ((before m : Servo) (f : Frame) → Is before f m → Also before f m)
       → ((before : Servo) (f : Frame) → Since net cs i s n (Is before f) → Also before f k)
@@ -144,7 +141,7 @@ module _ (net : List ℕ) (cs : List Call) (i : ℕ) where
   }
 
   -- one call more, from m to k
-  module _ (n : ℕ) (m k : Servo) (stands : Stands net cs i n m) (only : Only (suc n) k) where
+  module _ (n : ℕ) (m k : Servo) (stands : Stands net cs i n m) (only : Only net cs i (suc n) k) where
     -- a start is before the calls since
     at-last : {P : Servo → Type 0} (s : ℕ) → s < n → Since net cs i s n P → P m
     at-last s l h = h n m l (le-refl n) stands

@@ -60,8 +60,8 @@ use Rattle.demands_rules.specs.Sent.{control, Has, Lacks, WholeLoad, Hal
 use Rattle.demands_rules.proofs.Known.{Known, known, BitOf, haltBits, halt-bits, not-keep, keep-spares}
 use Rattle.demands_rules.proofs.Alike.{Alike, alike, shift-alike, tick-alike}
 use Rattle.demands_rules.proofs.Making.{same-place, fits-at, Silent, Made, same, framed, measured, timed, made, set-up-is}
-use Rattle.demands_rules.proofs.Placing.{untouched, call-at, stood-before}
-use Rattle.demands_rules.proofs.Sending.{Replaces, brought, Only, none-yet, loaded-on, off-sent, alike-sent, start-sent, hold-sent, slow-sent}
+use Rattle.demands_rules.proofs.Placing.{untouched, call-at, stood-before, Only, executed-by}
+use Rattle.demands_rules.proofs.Sending.{Replaces, brought, none-yet, loaded-on, off-sent, alike-sent, start-sent, hold-sent, slow-sent}
 
 -- what takes a number's place drops a waiting load too
 replaces-drops : (k : ℕ) (f : Frame) → Replaces k f → Drops f
@@ -313,11 +313,7 @@ module _ (net : List ℕ) (cs : List Call) (i : ℕ) where
       ending = frameIn r false
 
       exec-by : taken r value (eqb mark 1) .answer ≡ Ended false → (k : Servo) → Only net cs i (suc n) k → k .station .cause ≡ 0 → Executed net cs i n ending
-      exec-by e k o z = record {
-        met = record { mark = mark; value = value; room = room; call = call; done = goes; ended = e; frame = refl; touches = touches };
-        undamaged = refl;
-        cause = λ m st. ap (λ (k : Servo). k .station .cause) (o m st) ∙ z;
-      }
+      exec-by = executed-by net cs i n mark value room call goes touches
 
       only-one : (g : Frame) → Executed net cs i n g → g ≡ ending
       only-one g x = x .met .frame ∙ ap (frameIn r) (x .undamaged)

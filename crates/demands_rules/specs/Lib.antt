@@ -4,3 +4,4 @@ pub mod Question
 pub mod Sent
 pub mod Meaning
 pub mod Order
+pub mod Quickest

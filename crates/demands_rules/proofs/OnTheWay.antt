@@ -1,0 +1,328 @@
+-- QuickestOnTheLine: a servo through calls that do not disturb its move. Assumes nothing.
+use mathlib.Core.Path.{_≡_, refl, sym, ap, subst, _∙_}
+use mathlib.Core.Logic.{inl, inr, _↔_}
+use mathlib.Core.List.{List, [], _∷_}
+use mathlib.Core.Bool.{Bool, true, false, cond, not, true≢false}
+use mathlib.Core.Option.{some}
+use Prim.Native.Nat.{ℕ, zero, suc, _+_, _-_, _*_, _<_, _≤_}
+use native.Mathlib.Omega.{arith}
+use native.Mathlib.Nat.{le-refl}
+use borrow.Author.Tests.{eqb-true, eqb-false}
+use lib.IntN.{pos, natAbs}
+use lib.Signed.{ltZ}
+use lib.ListN.{length, getElem?, take}
+use lib.Seq.{take-length}
+use lib.Dec.{eqb}
+use Rattle.base_integers.specs.Bits.{bit}
+use Rattle.line_receiver.specs.declared.Answer.the-variants.{Ended}
+use Rattle.line_receiver.specs.Receive.{taken}
+use Rattle.line_receiver.specs.Frames.{Frame, frameIn}
+use Rattle.module_rules.specs.Rules.{Request, malformed, set, reset, wants, settled}
+use Rattle.module_rules.proofs.Settled.{settles}
+use Rattle.servo_motion.specs.declared.Profile.{Profile}
+use Rattle.servo_motion.specs.Setpoint.{moved}
+use Rattle.servo_motion.specs.Profile.{left, byTrapezoid}
+use Rattle.servo_motion.specs.Promises.{Running}
+use Rattle.servo_motion.proofs.Apart.{reaches}
+use Rattle.servo_motion.proofs.Near.{near}
+use Rattle.servo_rules.specs.declared.Halt.{Halt}
+use Rattle.servo_rules.specs.declared.Halt.the-variants.{Keep, Release, Abrupt, Smooth, Here}
+use Rattle.servo_rules.specs.declared.Order.{Order}
+use Rattle.servo_rules.specs.declared.Order.the-variants.{ResetPosition, LoadTrajectory, Start, SetGain, Stop, ClearBits}
+use Rattle.servo_rules.specs.declared.Mode.{Mode}
+use Rattle.servo_rules.specs.declared.Mode.the-variants.{Pwm, Velocity, Trapezoid}
+use Rattle.servo_rules.specs.declared.Way.{Way}
+use Rattle.servo_rules.specs.declared.Way.the-variants.{Pulse, Speed, Move}
+use Rattle.servo_rules.specs.declared.Carried.{Carried}
+use Rattle.servo_rules.specs.declared.Servo.{Servo}
+use Rattle.servo_rules.specs.Carried.{carriedIn}
+use Rattle.servo_rules.specs.State.{servoOff, sampled}
+use Rattle.servo_rules.specs.Loads.{loaded, startsNow, signedBy, start}
+use Rattle.servo_rules.specs.Perform.{stopped, can, perform}
+use Rattle.servo_rules.specs.Tick.{advancedBy, advanced, ticked}
+use Rattle.servo_rules.specs.Answers as Answers
+use Rattle.servo_rules.specs.Answers.{done, bitAt, status, request, withCause, execute}
+use Rattle.servo_rules.specs.LoadPromises.{Completes, Startable}
+use Rattle.servo_rules.specs.TickPromises.{followed}
+use Rattle.servo_rules.proofs.Keeping.{by-test, either, distinct}
+use Rattle.servo_rules.proofs.Starting.{starts, start-now, begins}
+use Rattle.servo_rules.proofs.Completing.{complete}
+use Rattle.servo_rules.proofs.Ticking.{ticks}
+use Rattle.servo_rules.proofs.Finishing.{move-done}
+use Rattle.servo_rules.proofs.Reply.{status-bits}
+use Rattle.servo_slot_rules.specs.Promises.{Fits}
+use Rattle.servo_slot_rules.proofs.Good.{InMode, good}
+use Rattle.types_rules.specs.Table.{servo}
+use Rattle.types_rules.specs.Types.{slots}
+use Rattle.types_rules.proofs.Promised.{every-type}
+use Rattle.net_rules.specs.Record.{netIn}
+use Rattle.api_rules.specs.Table.{first, servoSampleTable, tickTable}
+use Rattle.api_rules.specs.Promises.{ValidRecord, Passes}
+use Rattle.api_rules.proofs.Refused as Refused
+use Rattle.demands_history_rules.specs.Calls.{Call, byte, servoSample, ioSample, tick, AllHanded, leaves, leftBy}
+use Rattle.demands_history_rules.proofs.Calls.{call-kept}
+use Rattle.demands_rules.specs.Motion.{LoadStarts, byStart, byLoad, At, CallStarts}
+use Rattle.demands_rules.specs.Place.{after, Stands, inTime}
+use Rattle.demands_rules.specs.Sent.{control, WholeLoad}
+use Rattle.demands_rules.specs.Quickest.{total, final, speedsFrom, ticksOf, ticksIn, Disturbs, Undisturbed, SetsOff, OnItsWay, QuickestOnTheLine}
+use Rattle.demands_rules.proofs.Known.{Known, known, BitOf, haltBits, halt-bits}
+use Rattle.demands_rules.proofs.Making.{same-place, fits-at, Silent, Made, same, framed, measured, timed, made}
+use Rattle.demands_rules.proofs.Placing.{call-at, valid-after, Only, executed-by}
+use Rattle.demands_rules.proofs.Racing.{no-quicker, never-past}
+use Rattle.demands_rules.proofs.Mirroring.{signed-size, signed-zero, along-itself, Goes, can-stop, sets-off, after-tick, Gone, gone}
+use Rattle.demands_rules.proofs.Mirroring as Profiles
+
+-- k runs as m does: the same profile in the same mode
+abbrev Same : Servo → Servo → Type 0
+Same m k = (k .run .profile ≡ m .run .profile) × (k .run .drive .mode ≡ m .run .drive .mode)
+
+-- ---- a frame
+
+-- no order that is carried out changes what runs, unless it disturbs
+module _ (f : Frame) (calm : Disturbs f → ⊥) (m : Servo) where
+  load-keeps : WholeLoad f → Same m (perform (LoadTrajectory (carriedIn (f .content))) m)
+  unfolding carriedIn loaded
+  load-keeps w =
+      by-test (Same m) (startsNow (carriedIn (f .content))) (start (loaded (carriedIn (f .content)) m)) (loaded (carriedIn (f .content)) m)
+      (λ e. absurd (calm (inr (inl (w .0, e))))) (λ e. (refl, refl))
+
+  halts : f .code ≡ 7 → (h : Halt) (a : Bool) (x : ℕ) → BitOf h (haltBits (control f)) → Same m (stopped a h x m)
+  unfolding stopped
+  halts c Keep a x b = (refl, refl)
+  halts c Release a x b = absurd (calm (inr (inr (inr (inr (c, inl b))))))
+  halts c Abrupt a x b = absurd (calm (inr (inr (inr (inr (c, inr (inl b)))))))
+  halts c Smooth a x b = absurd (calm (inr (inr (inr (inr (c, inr (inr (inl b))))))))
+  halts c Here a x b = absurd (calm (inr (inr (inr (inr (c, inr (inr (inr b))))))))
+
+  order-keeps : (c : Order) → Known f (wants c) → Same m (perform c m)
+  order-keeps ResetPosition k = absurd (calm (inl k))
+  order-keeps (LoadTrajectory c) (w, e) = subst (λ (c : Carried). Same m (perform (LoadTrajectory c) m)) (sym e) (load-keeps w)
+  order-keeps Start k = absurd (calm (inr (inr (inl (k .0)))))
+  order-keeps (SetGain t) k = (refl, refl)
+  order-keeps (Stop a h x) (c, e, y, l) = halts c h a x (subst (λ (h : Halt). BitOf h (haltBits (control f))) (sym e) (halt-bits (control f)))
+  order-keeps ClearBits k = (refl, refl)
+
+  settled-keeps : (q : Request Order) → Known f q → Same m (settled Answers.servo q m)
+  settled-keeps malformed k = (refl, refl)
+  settled-keeps (set s) k = (refl, refl)
+  settled-keeps reset k = absurd (calm (inr (inr (inr (inl k)))))
+  settled-keeps (wants c) k = either (Same m) (can c m) (withCause 0 (perform c m)) (withCause 3 m) (order-keeps c k) (refl, refl)
+
+-- a frame that is not executed leaves all but the cause; one that is, and disturbs nothing, leaves what runs
+frame-keeps : (f : Frame) (alone : Bool) (m : Servo) → (f .damaged ≡ false → execute f alone m .station .cause ≡ 0 → Disturbs f → ⊥) → Same m (execute f alone m)
+frame-keeps f alone m calm = at (f .damaged) refl (eqb (execute f alone m .station .cause) 0) refl
+  where
+    at : (d : Bool) → f .damaged ≡ d → (t : Bool) → eqb (execute f alone m .station .cause) 0 ≡ t → Same m (execute f alone m)
+    at true d t e = subst (Same m) (sym (every-type servo .cause f alone m .damaged d)) (refl, refl)
+    at false d true e =
+        subst (Same m) (sym (settles Answers.servo f alone m d refl))
+        (settled-keeps f (calm d (eqb-true _ 0 e)) m (request f alone) (known f alone))
+    at false d false e = subst (Same m) (sym (every-type servo .cause f alone m .kept (eqb-false _ 0 e))) (refl, refl)
+
+-- ---- time
+
+-- a tick at power 1 or 2 with the error within EL makes a trapezoid's step
+tick-steps : (m : Servo) → m .run .drive .mode ≡ Trapezoid → (m .samples .waiting .power ≡ 0 → ⊥) → natAbs (followed m) ≤ m .settings .tuning .gains .el
+    → (ticked m .run .profile ≡ byTrapezoid (m .run .profile)) × (ticked m .run .drive .mode ≡ Trapezoid)
+unfolding advanced
+tick-steps m e p l =
+    let r = ticks m .runs p (ap servoOff e) l in
+    (r .0 ∙ ap (λ (k : Mode). advancedBy k (m .run .profile)) e, r .2 ∙ e)
+
+valid-ticks : (net : List ℕ) → ValidRecord net → Passes (tickTable net)
+valid-ticks net v = ap (λ (t : Bool). cond (not t) 16 0) (v .0)
+
+-- k runs as m would after n ticks
+abbrev Later : ℕ → Servo → Servo → Type 0
+Later n m k = (k .run .profile ≡ Profiles.after n (m .run .profile)) × (k .run .drive .mode ≡ m .run .drive .mode)
+
+-- time makes a step of a tick, and nothing of anything else
+time-steps : (net : List ℕ) (i : ℕ) (c : Call) (m : Servo) → ValidRecord net → m .run .drive .mode ≡ Trapezoid
+    → (c ≡ tick → (m .samples .waiting .power ≡ 0 → ⊥) × (natAbs (followed m) ≤ m .settings .tuning .gains .el))
+    → Later (ticksOf c) m (inTime net i c m)
+unfolding Profiles.after
+time-steps net i (byte mark x room) m v e q = (refl, refl)
+time-steps net i (servoSample place raw power ad) m v e q =
+    either (Same m) (eqb (first (servoSampleTable net place power)) 0) _ m (either (Same m) (eqb i place) (sampled _ m) m (refl, refl) (refl, refl)) (refl, refl)
+time-steps net i (ioSample place inputs ad1 ad2 ad3 counter) m v e q = (refl, refl)
+time-steps net i tick m v e q =
+    let (p, l) = q refl in
+    let (f, g) = tick-steps m e p l in
+    subst (Later 1 m) (Refused.done (tickTable net) m (ticked m) refl (valid-ticks net v)) (f, g ∙ sym e)
+
+-- ---- one call more, and any number
+
+after-sum : (j n : ℕ) (p : Profile) → Profiles.after j (Profiles.after n p) ≡ Profiles.after (j + n) p
+unfolding Profiles.after
+after-sum zero n p = ap (λ (k : ℕ). Profiles.after k p) (let e : n ≡ 0 + n = omega arith in e)
+after-sum (suc j) n p =
+    ap (Profiles.after j) (after-tick n p)
+    ∙ after-sum j (suc n) p
+    ∙ ap (λ (k : ℕ). Profiles.after k p) (let e : j + suc n ≡ suc j + n = omega arith in e)
+
+ticks-at : (cs : List Call) (n : ℕ) (c : Call) → getElem? cs n ≡ some c → ticksIn (take (suc n) cs) ≡ ticksOf c + ticksIn (take n cs)
+ticks-at [] n c e = let z : _≡_ {A = Bool} true false = cc in absurd (true≢false z)
+ticks-at (d ∷ cs) zero c e = let z : d ≡ c = cc in ap (λ (c : Call). ticksOf c + 0) z
+ticks-at (d ∷ cs) (suc n) c e = let i = ticks-at cs n c e in omega arith
+
+module _ (net : List ℕ) (cs : List Call) (i : ℕ) (s : Servo) (v : ValidRecord net) (h : AllHanded cs) (at : At net i s)
+    (runs : s .run .drive .mode ≡ Trapezoid) (u : Undisturbed net cs i) where
+  -- a call leaves what time makes of the servo, or a frame that does not disturb it
+  call-steps : (n : ℕ) (c : Call) (m k : Servo) → getElem? cs n ≡ some c → ValidRecord (after net cs i n) → Stands net cs i n m → m .run .drive .mode ≡ Trapezoid
+      → Only net cs i (suc n) k → Made (after net cs i n) i m c k → Later (ticksOf c) m k
+  unfolding Profiles.after
+  call-steps n _ _ _ g w st e o (framed mark x room d goes a t) =
+      frame-keeps (frameIn (netIn slots (after net cs i n) .receiver) d) _ _ (calm d a o)
+    where
+      calm : (d : Bool) {k : Servo} → taken (netIn slots (after net cs i n) .receiver) x (eqb mark 1) .answer ≡ Ended d → Only net cs i (suc n) k
+          → d ≡ false → k .station .cause ≡ 0 → Disturbs (frameIn (netIn slots (after net cs i n) .receiver) d) → ⊥
+      calm true a o z q b = true≢false z
+      calm false {k} a o z q b = u .frames n _ (executed-by net cs i n mark x room g goes t a k o q) b
+  call-steps n _ m _ g w st e o (same c y q) = subst (Later (ticksOf c) m) q (time-steps (after net cs i n) i c m w e (λ z. u .ticks n m (g ∙ ap some z) st))
+  call-steps n _ m _ g w st e o (measured c x y z q) = subst (Later (ticksOf c) m) q (time-steps (after net cs i n) i c m w e (λ z. u .ticks n m (g ∙ ap some z) st))
+  call-steps n _ m _ g w st e o (timed q) = subst (Later 1 m) q (time-steps (after net cs i n) i tick m w e (λ z. u .ticks n m g st))
+
+  -- the servo after n calls
+  goes : (n : ℕ) → n ≤ length cs → (m : Servo) × Stands net cs i n m × Later (ticksIn (take n cs)) s m
+  unfolding Profiles.after
+  goes zero l = (s, at, (refl, refl))
+  goes (suc n) l =
+      let (m, st, (p, d)) = goes n (omega arith) in
+      let (c, g, z, hc) = call-at cs net n (omega arith) h in
+      let w = valid-after net cs i n v h (omega arith) in
+      let (k, e, b) = made (after net cs i n) c i m hc w st in
+      let st′ : Stands net cs i (suc n) k = subst (λ (r : List ℕ). At r i k) (sym z) e in
+      let (q, f) = call-steps n c m k g w st (d ∙ runs) (λ m e. same-place (netIn slots (after net cs i (suc n)) .modules) i m k e st′) b in
+      (k, st′, (q ∙ ap (Profiles.after (ticksOf c)) p ∙ after-sum (ticksOf c) _ _ ∙ ap (λ (j : ℕ). Profiles.after j (s .run .profile)) (sym (ticks-at cs n c g)), f ∙ d))
+
+  -- and after all of them
+  went : (k : Servo) → At (leftBy cs net) i k → Later (ticksIn cs) s k
+  went k e =
+      let (m, st, l) = goes (length cs) (le-refl (length cs)) in
+      let z : m ≡ k = same-place (netIn slots (leftBy cs net) .modules) i m k (subst (λ (ds : List Call). At (leftBy ds net) i m) (take-length cs) st) e in
+      subst (Later (ticksIn cs) s) z (subst (λ (ds : List Call). Later (ticksIn ds) s m) (take-length cs) l)
+
+-- ---- where it is then
+
+-- a bit that is 1 was set
+bit-set : (t : Bool) → bitAt 1 t ≡ 1 → t ≡ true
+bit-set true e = refl
+bit-set false e = absurd (omega (arith, e))
+
+module _ (p : Profile) (n : ℕ) (off : SetsOff p) (g : Goes (ltZ (left p) (pos 0)) (natAbs (left p)) 0 p) (k : Servo)
+    (profile : k .run .profile ≡ Profiles.after n p) (runs : k .run .drive .mode ≡ Trapezoid) where
+  abbrev back : Bool
+  back = ltZ (left p) (pos 0)
+
+  abbrev xs : List ℕ
+  xs = speedsFrom p n
+
+  is-there : Gone back (natAbs (left p)) 0 p xs (Profiles.after n p)
+  is-there = gone n back (natAbs (left p)) 0 p (off .near) g
+
+  far : left (k .run .profile) ≡ signedBy back (natAbs (left p) - total xs)
+  far = ap left profile ∙ is-there .far
+
+  speed-is : k .run .profile .speed ≡ signedBy back (final 0 xs)
+  speed-is = ap (λ (q : Profile). q .speed) profile ∙ is-there .speed
+
+  setpoint-is : k .run .profile .setpoint ≡ moved (p .setpoint) (signedBy back (total xs))
+  setpoint-is = ap (λ (q : Profile). q .setpoint) profile ∙ is-there .setpoint
+
+  covered : total xs ≤ natAbs (left p)
+  covered = never-past n (p .acceleration) (p .top) (natAbs (left p)) 0 (off .force) (can-stop back (natAbs (left p)) 0 p g)
+
+  -- a size with a sign is 0 where its size is
+  nothing : (x : ℕ) → signedBy back x ≡ pos 0 → x ≡ 0
+  nothing x e = sym (signed-size back x) ∙ ap natAbs e
+
+  done-is : (bit 0 (status k) ≡ 1) ↔ ((total xs ≡ natAbs (left p)) × (final 0 xs ≡ 0))
+  done-is = (
+    λ e.
+        let (z, v) = move-done k .trapezoid runs .0 (bit-set (done (k .run)) (sym (status-bits k .finished) ∙ e)) in
+        (omega (arith, nothing (natAbs (left p) - total xs) (sym far ∙ z), covered), nothing (final 0 xs) (sym speed-is ∙ v)),
+    λ q.
+        let z : natAbs (left p) - total xs ≡ 0 = omega (arith, q .0) in
+        status-bits k .finished
+        ∙ ap (bitAt 1) (move-done k .trapezoid runs .1 (far ∙ ap (signedBy back) z ∙ signed-zero back, speed-is ∙ ap (signedBy back) (q .1) ∙ signed-zero back)),
+  )
+
+  on-its-way : OnItsWay p n k
+  on-its-way = record {
+    setpoint = setpoint-is;
+    speed = speed-is;
+    done = done-is;
+    arrived = λ e.
+        setpoint-is
+        ∙ ap (λ (x : ℕ). moved (p .setpoint) (signedBy back x)) e
+        ∙ ap (moved (p .setpoint)) (along-itself (left p))
+        ∙ reaches (p .goal) (p .setpoint) (g .ranged .goal) (g .ranged .setpoint)
+        ∙ (let c : p .goal * 65536 ≡ 65536 * p .goal = omega arith in c);
+    quickest = λ ys m. no-quicker (p .acceleration) (p .top) (natAbs (left p)) ys (off .force) m n;
+  }
+
+-- ---- the start
+
+-- only a complete move starts a trapezoid
+move-started : (b : Servo) (w : Way) → b .settings .load .way ≡ w → Completes w b → start b .run .drive .mode ≡ Trapezoid
+    → (start b .run .profile .speed ≡ pos 0) × (0 < start b .run .profile .top)
+move-started b Pulse e c t = absurd (distinct Pwm Trapezoid refl (sym (begins b .pulse e .0) ∙ t))
+move-started b Speed e c t = absurd (distinct Velocity Trapezoid refl (sym (begins b .speed e .0) ∙ t))
+move-started b Move e c t =
+    let (m, g, a, top, r) = begins b .move e in
+    (r .speed ∙ c .still, omega (arith, top, c .fast))
+
+-- what a load's start leaves in a trapezoid is at rest, with some velocity
+starts-still : (f : Frame) (alone : Bool) (m : Servo) → LoadStarts f alone m → execute f alone m .run .drive .mode ≡ Trapezoid
+    → (execute f alone m .run .profile .speed ≡ pos 0) × (0 < execute f alone m .run .profile .top)
+starts-still f alone m l t = by l
+  where
+    from : (b : Servo) → Startable b → execute f alone m ≡ withCause 0 (start b)
+        → (execute f alone m .run .profile .speed ≡ pos 0) × (0 < execute f alone m .run .profile .top)
+    from b s e =
+        subst (λ (k : Servo). (k .run .profile .speed ≡ pos 0) × (0 < k .run .profile .top)) (sym e)
+        (move-started b (b .settings .load .way) refl (complete b .0 (s .entire)) (ap (λ (k : Servo). k .run .drive .mode) (sym e) ∙ t))
+
+    by : LoadStarts f alone m → (execute f alone m .run .profile .speed ≡ pos 0) × (0 < execute f alone m .run .profile .top)
+    by (byStart a s) = from m s (every-type servo .cause f alone m .executed Start (a .undamaged) (a .order) (starts m .1 s))
+    by (byLoad c a e s) =
+        from (loaded c m) s
+        (every-type servo .cause f alone m .executed (LoadTrajectory c) (a .undamaged) (a .order) (start-now c m .now e ∙ starts (loaded c m) .1 s)
+        ∙ ap (withCause 0) (start-now c m .does e))
+
+-- a call that starts something ends a frame for this place
+not-silent : (net : List ℕ) (c : Call) (i : ℕ) (m : Servo) → CallStarts LoadStarts net i m c → Silent net i c → ⊥
+not-silent net (byte mark x room) i m (p, l) s = s false p (l .ended) (l .touches)
+not-silent net (servoSample place raw power ad) i m l s = l
+not-silent net (ioSample place inputs ad1 ad2 ad3 counter) i m l s = l
+not-silent net tick i m l s = l
+
+made-still : (net : List ℕ) (c : Call) (i : ℕ) (m k : Servo) → CallStarts LoadStarts net i m c → Made net i m c k → k .run .drive .mode ≡ Trapezoid
+    → (k .run .profile .speed ≡ pos 0) × (0 < k .run .profile .top)
+made-still net _ i m _ l (same c s q) t = absurd (not-silent net c i m l s)
+made-still net _ i m _ l (measured c x y s q) t = absurd (not-silent net c i m l s)
+made-still net _ i m _ l (timed q) t = absurd l
+made-still net _ i m _ (p, l) (framed mark x room true goes a u) t = let z : true ≡ false = cc in absurd (true≢false z)
+made-still net _ i m _ (p, l) (framed mark x room false goes a u) t = starts-still (frameIn (netIn slots net .receiver) false) _ m (l .starts) t
+
+running-in : (m : Servo) → Fits m → m .run .drive .mode ≡ Trapezoid → Running (m .run .profile)
+running-in m f e = subst (λ (d : Mode). InMode d (m .samples .latched .power) (m .run)) e (good m f .sane .mode) .2
+
+pub quickest-on-the-line : QuickestOnTheLine
+quickest-on-the-line net c cs i m s k v hc h e l es t u ek =
+    let p : Profile = s .run .profile in
+    let w : ValidRecord (leaves net c) = call-kept net c hc v in
+    let f = fits-at (leaves net c) i s w es in
+    let r = running-in s f t in
+    let ranged = good s f .sane .profile in
+    let (still, fast) = started in
+    let off : SetsOff p = record { still = still; force = r .force; fast = fast; near = near (p .goal) (p .setpoint) .0 (r .near) } in
+    let (q, d) = went (leaves net c) cs i s w h es t u k ek in
+    (off, on-its-way p (ticksIn cs) off (sets-off p ranged r still) k q (d ∙ t))
+  where
+    started : (s .run .profile .speed ≡ pos 0) × (0 < s .run .profile .top)
+    started =
+        let (k, q, d) = made net c i m hc v e in
+        let z : k ≡ s = same-place (netIn slots (leaves net c) .modules) i k s q es in
+        subst (λ (k : Servo). (k .run .profile .speed ≡ pos 0) × (0 < k .run .profile .top)) z
+        (made-still net c i m k l d (ap (λ (k : Servo). k .run .drive .mode) z ∙ t))
