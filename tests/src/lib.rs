@@ -8,6 +8,7 @@ pub mod captures;
 pub mod dice;
 pub mod histories;
 pub mod model;
+pub mod moving;
 pub mod record;
 pub mod seen;
 pub mod slips;
