@@ -58,7 +58,7 @@ use Rattle.demands_rules.proofs.OnTheLine.{small, fed-handed, fed-done,
 
 -- ---- a servo and frames for it
 
-abbrev pub undamaged : ℕ → List ℕ → Frame
+abbrev undamaged : ℕ → List ℕ → Frame
 undamaged code ds = record { address = 0; code = code; content = ds; damaged = false }
 
 -- a servo that has seen power 1 and a Clear Bits: it could start, if a load waited

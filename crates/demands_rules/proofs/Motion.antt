@@ -32,7 +32,7 @@ use Rattle.servo_rules.specs.Perform.{resetPosition, shifted, holding, smooth, 
 use Rattle.servo_rules.specs.Tick.{unpowered, advancedBy, advanced, tripped, pulsed, ticked}
 use Rattle.servo_rules.specs.Answers as Answers
 use Rattle.servo_rules.specs.Answers.{request, withCause, execute}
-use Rattle.servo_rules.specs.LoadPromises.{Starting}
+use Rattle.servo_rules.specs.LoadPromises.{Startable, Starting}
 use Rattle.servo_rules.specs.StopPromises.{Counted}
 use Rattle.servo_rules.specs.RestPromises.{Resting, following}
 use Rattle.servo_rules.proofs.Keeping.{by-test, either, number, distinct}
@@ -347,12 +347,19 @@ frame-starts f alone m t (turnedOn a b z) = at (stops-here? f alone m)
     at (inl s) = s
     at (inr u) = absurd (z (turns-on-here f alone m (counted m t) (λ h x d q k. u (Stop h Here x) (d, q, k) refl) a b))
 
+-- what either start of a load leaves: the servo started with the load that waited, or with the one that came
+pub load-started : (f : Frame) (alone : Bool) (m : Servo) → LoadStarts f alone m
+    → (b : Servo) × Startable b × (execute f alone m ≡ withCause 0 (start b))
+load-started f alone m (byStart a s) = (m, s, every-type servo .cause f alone m .executed Start (a .undamaged) (a .order) (starts m .1 s))
+load-started f alone m (byLoad c a e s) = (
+  loaded c m,
+  s,
+  every-type servo .cause f alone m .executed (LoadTrajectory c) (a .undamaged) (a .order) (start-now c m .now e ∙ starts (loaded c m) .1 s)
+      ∙ ap (withCause 0) (start-now c m .does e),
+)
+
 pub starts-are-executed : StartsAreExecuted
-starts-are-executed f alone m (ofLoad (byStart a s)) =
-    ap (λ (k : Servo). k .station .cause) (every-type servo .cause f alone m .executed Start (a .undamaged) (a .order) (starts m .1 s))
-starts-are-executed f alone m (ofLoad (byLoad c a e s)) =
-    ap (λ (k : Servo). k .station .cause)
-    (every-type servo .cause f alone m .executed (LoadTrajectory c) (a .undamaged) (a .order) (start-now c m .now e ∙ starts (loaded c m) .1 s))
+starts-are-executed f alone m (ofLoad l) = ap (λ (k : Servo). k .station .cause) (load-started f alone m l .2)
 starts-are-executed f alone m (byStopHere h x a r) =
     ap (λ (k : Servo). k .station .cause) (every-type servo .cause f alone m .executed (Stop h Here x) (a .undamaged) (a .order) (stops-now h x m .here .1 r))
 

@@ -1,13 +1,13 @@
--- Beside the quickest move on the line: two histories that meet what it asks for, computed. A servo sets out forth at power 1, and back, through 0, at
--- power 2; between the ticks come the bytes of a poll and of a load that waits. Assumes nothing.
+-- Beside the quickest move on the line: two histories that meet what it asks for, computed. A servo is sent forth by a Start, at power 1, and back
+-- through 0 by a Load that starts now, at power 2; between the ticks come the bytes of a poll and of a load that waits. Assumes nothing.
 use mathlib.Core.Path.{_≡_, refl, sym, ap, _∙_}
 use mathlib.Core.Logic.{_⊎_, inl, inr}
 use mathlib.Core.List.{List, [], _∷_, _++_}
 use mathlib.Core.Bool.{Bool, true, false, not, _&&_, _||_, true≢false, false≢true}
 use mathlib.Core.Option.{Option, some, none}
-use Prim.Native.Nat.{ℕ, _+_, _-_, _^_, _≤_}
+use Prim.Native.Nat.{ℕ, _-_, _^_, _<_, _≤_}
 use native.Mathlib.Omega.{arith}
-use borrow.Author.Tests.{eqb-true, eqb-false, leb-true}
+use borrow.Author.Tests.{eqb-true, eqb-false, leb-true, ltb-true}
 use lib.Count.{ones}
 use lib.IntN.{ℤ, pos, negsuc, natAbs}
 use lib.ListN.{length, getElem?}
@@ -44,7 +44,7 @@ use Rattle.demands_rules.specs.Sent.{control}
 use Rattle.demands_rules.specs.Place.{after}
 use Rattle.demands_rules.specs.Quickest.{Disturbs, Undisturbed, SetsOff, OnItsWay}
 use Rattle.demands_rules.proofs.Making.{servoIn}
-use Rattle.demands_rules.proofs.Examples.{undamaged, lit, types, lent, room, valid, enough, calls, happens, are-handed, ends-with}
+use Rattle.demands_rules.proofs.Examples.{lit, types, lent, room, valid, enough, calls, happens, are-handed, ends-with}
 use Rattle.demands_rules.proofs.OnTheLine.{areSmall, small, byte-goes}
 use Rattle.demands_rules.proofs.Calls.{any-calls}
 use Rattle.demands_rules.proofs.EveryCall.{every-call}
@@ -115,46 +115,33 @@ undisturbed net cs v h o e = record {
 
 -- ---- the two moves: with A 2 and V 5, in 65,536ths, a count forth and a count back
 
--- Set Gain with EL 16,383 and all gains 0; a Load of a move to a position of these bytes, and one that waits
-abbrev gain : Frame
-gain = undamaged 6 (0 ∷ 0 ∷ 0 ∷ 0 ∷ 0 ∷ 0 ∷ 0 ∷ 0 ∷ 0 ∷ 0 ∷ 0xFF ∷ 0x3F ∷ 1 ∷ 0 ∷ 1 ∷ [])
+-- Set Gain with EL 16,383 and all gains 0; what a Load of a move to a position of these bytes carries
+abbrev gain : List ℕ
+gain = 0 ∷ 0 ∷ 0 ∷ 0 ∷ 0 ∷ 0 ∷ 0 ∷ 0 ∷ 0 ∷ 0 ∷ 0xFF ∷ 0x3F ∷ 1 ∷ 0 ∷ 1 ∷ []
 
-abbrev moveTo : List ℕ → Frame
-moveTo place = undamaged 4 (0x17 ∷ place ++ 5 ∷ 0 ∷ 0 ∷ 0 ∷ 2 ∷ 0 ∷ 0 ∷ 0 ∷ [])
+abbrev moveTo : ℕ → List ℕ → List ℕ
+moveTo control place = control ∷ place ++ 5 ∷ 0 ∷ 0 ∷ 0 ∷ 2 ∷ 0 ∷ 0 ∷ 0 ∷ []
 
--- Clear Bits, Set Gain, the Load and a Start but for its last byte, which is the call that starts the move
-abbrev orders : List ℕ → List Byte
-orders place = clean (written 0 11 [] ++ written 0 6 (gain .content) ++ written 0 4 (moveTo place .content) ++ 0xAA ∷ 0 ∷ 5 ∷ [])
+-- Clear Bits and Set Gain, then: forth, a Load and a Start; back, a Load that starts now; each but for its last byte, which starts the move
+abbrev forth : List Byte
+forth = clean (written 0 11 [] ++ written 0 6 gain ++ written 0 4 (moveTo 0x17 (1 ∷ 0 ∷ 0 ∷ 0 ∷ [])) ++ 0xAA ∷ 0 ∷ 5 ∷ [])
 
--- then a sample, which waits for the first tick
+abbrev back : List Byte
+back = clean (written 0 11 [] ++ written 0 6 gain ++ 0xAA ∷ 0 ∷ 0xD4 ∷ moveTo 0x97 (0xFF ∷ 0xFF ∷ 0xFF ∷ 0xFF ∷ []))
+
+abbrev start-byte : ℕ → Call
+start-byte x = byte 0 x room
+
+-- before it a sample, which waits for the first tick
 abbrev measure : ℕ → Call
 measure power = servoSample 0 0 power 0
 
-abbrev start-byte : Call
-start-byte = byte 0 5 room
-
--- a poll and a load that waits, with a tick behind each byte
+-- after it a poll and a load that waits, with a tick behind each byte
 abbrev line : List Byte
-line = clean (written 0 14 [] ++ written 0 4 (moveTo (9 ∷ 0 ∷ 0 ∷ 0 ∷ []) .content))
+line = clean (written 0 14 [] ++ written 0 4 (moveTo 0x17 (9 ∷ 0 ∷ 0 ∷ 0 ∷ [])))
 
 abbrev meanwhile : List Call
 meanwhile = spread room line
-
-abbrev forth : List ℕ
-forth = 1 ∷ 0 ∷ 0 ∷ 0 ∷ []
-
-abbrev back : List ℕ
-back = 0xFF ∷ 0xFF ∷ 0xFF ∷ 0xFF ∷ []
-
--- the network after the orders, before the start's last byte, and after it
-abbrev ordered : List ℕ → Net Module
-ordered place = run kind (happens (orders place)) (setUp types) .net
-
-abbrev before : List ℕ → ℕ → Net Module
-before place power = event kind (does (measure power)) (ordered place) .net
-
-abbrev started : List ℕ → ℕ → Net Module
-started place power = event kind (does start-byte) (before place power) .net
 
 -- the servo at place 0 of a network, and whether there is one
 abbrev servoAt : Net Module → Servo
@@ -171,113 +158,153 @@ is-there n e = at (getElem? (n .modules) 0) e
     at (some (servo, m)) e = refl
     at (some (inout, m)) e = absurd (false≢true e)
 
--- the servo before the start, when it has started, and after the calls in between
-abbrev ready : List ℕ → ℕ → Servo
-ready place power = servoAt (before place power)
+-- one history: what is sent, at which power, and the byte that starts
+module _ (orders : List Byte) (power x : ℕ) where
+  -- the network after the orders, before the starting byte, and after it; the servo before it, after it, and after the calls that follow
+  abbrev ordered : Net Module
+  ordered = run kind (happens orders) (setUp types) .net
 
-abbrev off : List ℕ → ℕ → Servo
-off place power = servoAt (started place power)
+  abbrev before : Net Module
+  before = event kind (does (measure power)) ordered .net
 
-abbrev under-way : List ℕ → ℕ → Servo
-under-way place power = servoAt (through meanwhile (started place power))
+  abbrev started : Net Module
+  started = event kind (does (start-byte x)) before .net
 
--- what is computed of each, with where its setpoint is in the end and how fast it goes
-record Facts (place : List ℕ) (power setpoint : ℕ) (speed : ℤ) : Type 0 where
-  bytes : areSmall (values (orders place)) ≡ true
-  fair : ltb 2 power ≡ false
-  typed : ofType typeNumber (ordered place) 0 ≡ true
-  first : isThere (before place power) ≡ true
-  then : isThere (started place power) ≡ true
-  last : isThere (through meanwhile (started place power)) ≡ true
-  calm : allPass leaves-it (length meanwhile) meanwhile (started place power) ≡ true
-  rests : ready place power .run .drive .mode ≡ Off
-  runs : off place power .run .drive .mode ≡ Trapezoid
-  far : natAbs (left (off place power .run .profile)) ≡ 65536
-  there : under-way place power .run .profile .setpoint ≡ setpoint
-  goes : under-way place power .run .profile .speed ≡ speed
+  abbrev ready : Servo
+  ready = servoAt before
 
-module _ (place : List ℕ) (power : ℕ) {setpoint : ℕ} {speed : ℤ} (f : Facts place power setpoint speed) where
-  small-orders : AreBytes (values (orders place))
-  small-orders = small (values (orders place)) (f .bytes)
+  abbrev pub off : Servo
+  off = servoAt started
 
-  abbrev told : List ℕ
-  told = leftBy (calls (orders place)) lent
+  abbrev pub under-way : Servo
+  under-way = servoAt (through meanwhile started)
 
-  told-valid : ValidRecord told
-  told-valid = any-calls lent (calls (orders place)) valid (are-handed (orders place) small-orders) .valid
+  -- what is computed of it, with where its setpoint is in the end and how fast it goes
+  record Facts (setpoint : ℕ) (speed : ℤ) : Type 0 where
+    bytes : areSmall (values orders) ≡ true
+    small-byte : ltb x 256 ≡ true
+    fair : ltb 2 power ≡ false
+    typed : ofType typeNumber ordered 0 ≡ true
+    first : isThere before ≡ true
+    then : isThere started ≡ true
+    last : isThere (through meanwhile started) ≡ true
+    calm : allPass leaves-it (length meanwhile) meanwhile started ≡ true
+    rests : ready .run .drive .mode ≡ Off
+    runs : off .run .drive .mode ≡ Trapezoid
+    far : natAbs (left (off .run .profile)) ≡ 65536
+    there : under-way .run .profile .setpoint ≡ setpoint
+    goes : under-way .run .profile .speed ≡ speed
 
-  told-is : netIn slots told ≡ ordered place
-  told-is = ends-with (orders place) small-orders
+  module _ {setpoint : ℕ} {speed : ℤ} (f : Facts setpoint speed) where
+    small-orders : AreBytes (values orders)
+    small-orders = small (values orders) (f .bytes)
 
-  abbrev net : List ℕ
-  net = leaves told (measure power)
+    is-byte : x < 256
+    is-byte = ltb-true x 256 (f .small-byte)
 
-  is-valid : ValidRecord net
-  is-valid = call-kept told (measure power) (omega arith, omega arith) told-valid
+    abbrev told : List ℕ
+    told = leftBy (calls orders) lent
 
-  net-is : netIn slots net ≡ before place power
-  net-is =
-      passed-leaves told (measure power) (omega arith, omega arith) told-valid (rw (told-valid .0, told-is, f .typed, f .fair) refl)
-      ∙ ap (λ (n : Net Module). event kind (does (measure power)) n .net) told-is
+    told-valid : ValidRecord told
+    told-valid = any-calls lent (calls orders) valid (are-handed orders small-orders) .valid
 
-  started-valid : ValidRecord (leaves net start-byte)
-  started-valid = call-kept net start-byte (omega arith) is-valid
+    told-is : netIn slots told ≡ ordered
+    told-is = ends-with orders small-orders
 
-  started-net : netIn slots (leaves net start-byte) ≡ started place power
-  started-net =
-      passed-leaves net start-byte (omega arith) is-valid (byte-goes net room (record { value = 5; mark = false }) (is-valid .0) enough)
-      ∙ ap (λ (n : Net Module). event kind (does start-byte) n .net) net-is
+    abbrev net : List ℕ
+    net = leaves told (measure power)
 
-  at-start : At net 0 (ready place power)
-  at-start = ap (λ (n : Net Module). getElem? (n .modules) 0) net-is ∙ is-there (before place power) (f .first)
+    is-valid : ValidRecord net
+    is-valid = call-kept told (measure power) (omega arith, omega arith) told-valid
 
-  at-started : At (leaves net start-byte) 0 (off place power)
-  at-started = ap (λ (n : Net Module). getElem? (n .modules) 0) started-net ∙ is-there (started place power) (f .then)
+    net-is : netIn slots net ≡ before
+    net-is =
+        passed-leaves told (measure power) (omega arith, omega arith) told-valid (rw (told-valid .0, told-is, f .typed, f .fair) refl)
+        ∙ ap (λ (n : Net Module). event kind (does (measure power)) n .net) told-is
 
-  handed : AllHanded meanwhile
-  handed = spread-handed room line (small (values line) refl)
+    started-valid : ValidRecord (leaves net (start-byte x))
+    started-valid = call-kept net (start-byte x) is-byte is-valid
 
-  at-end : At (leftBy meanwhile (leaves net start-byte)) 0 (under-way place power)
-  at-end =
-      ap (λ (n : Net Module). getElem? (n .modules) 0)
-      (net-after meanwhile (leaves net start-byte) started-valid handed (spread-open room enough line) ∙ ap (through meanwhile) started-net)
-      ∙ is-there (through meanwhile (started place power)) (f .last)
+    started-net : netIn slots (leaves net (start-byte x)) ≡ started
+    started-net =
+        passed-leaves net (start-byte x) is-byte is-valid (byte-goes net room (record { value = x; mark = false }) (is-valid .0) enough)
+        ∙ ap (λ (n : Net Module). event kind (does (start-byte x)) n .net) net-is
 
-  -- the last byte of the Start starts the move
-  starts-it : CallStarts LoadStarts net 0 (ready place power) start-byte
-  starts-it =
-      every-call .command net start-byte 0 (ready place power) (off place power) (omega arith) is-valid at-start at-started no-tick .1
-      (bound still (inr (f .runs, λ e. let z : _≡_ {A = ℕ} 65536 0 = sym (f .far) ∙ ap natAbs e in omega arith)))
-    where
-      no-tick : start-byte ≡ tick → ⊥
-      no-tick e = let z : _≡_ {A = Bool} true false = cc in true≢false z
+    at-start : At net 0 ready
+    at-start = ap (λ (n : Net Module). getElem? (n .modules) 0) net-is ∙ is-there before (f .first)
 
-      still : Bound (ready place power) → ⊥
-      still (inl (e, n)) = distinct Off Velocity refl (sym (f .rests) ∙ e)
-      still (inr (e, n)) = distinct Off Trapezoid refl (sym (f .rests) ∙ e)
+    at-started : At (leaves net (start-byte x)) 0 off
+    at-started = ap (λ (n : Net Module). getElem? (n .modules) 0) started-net ∙ is-there started (f .then)
 
-  goes-its-way : SetsOff (off place power .run .profile) × OnItsWay (off place power .run .profile) 21 (under-way place power)
-  goes-its-way =
-      quickest-on-the-line net start-byte meanwhile 0 (ready place power) (off place power) (under-way place power) is-valid (omega arith) handed
-      at-start starts-it at-started (f .runs)
-      (undisturbed (leaves net start-byte) meanwhile started-valid handed (spread-open room enough line)
-      (ap (allPass leaves-it (length meanwhile) meanwhile) started-net ∙ f .calm))
-      at-end
+    handed : AllHanded meanwhile
+    handed = spread-handed room line (small (values line) refl)
+
+    at-end : At (leftBy meanwhile (leaves net (start-byte x))) 0 under-way
+    at-end =
+        ap (λ (n : Net Module). getElem? (n .modules) 0)
+        (net-after meanwhile (leaves net (start-byte x)) started-valid handed (spread-open room enough line) ∙ ap (through meanwhile) started-net)
+        ∙ is-there (through meanwhile started) (f .last)
+
+    -- the byte starts the move
+    starts-it : CallStarts LoadStarts net 0 ready (start-byte x)
+    starts-it =
+        every-call .command net (start-byte x) 0 ready off is-byte is-valid at-start at-started no-tick .1
+        (bound still (inr (f .runs, λ e. let z : _≡_ {A = ℕ} 65536 0 = sym (f .far) ∙ ap natAbs e in omega arith)))
+      where
+        no-tick : start-byte x ≡ tick → ⊥
+        no-tick e = let z : _≡_ {A = Bool} true false = cc in true≢false z
+
+        still : Bound ready → ⊥
+        still (inl (e, n)) = distinct Off Velocity refl (sym (f .rests) ∙ e)
+        still (inr (e, n)) = distinct Off Trapezoid refl (sym (f .rests) ∙ e)
+
+    goes-its-way : SetsOff (off .run .profile) × OnItsWay (off .run .profile) 21 under-way
+    goes-its-way =
+        quickest-on-the-line net (start-byte x) meanwhile 0 ready off under-way is-valid is-byte handed at-start starts-it at-started (f .runs)
+        (undisturbed (leaves net (start-byte x)) meanwhile started-valid handed (spread-open room enough line)
+        (ap (allPass leaves-it (length meanwhile) meanwhile) started-net ∙ f .calm))
+        at-end
 
 -- 2, 4 and nineteen times 5 from 0, forth and back
-forth-computed : Facts forth 1 101 (pos 5)
+forth-computed : Facts forth 1 0x05 101 (pos 5)
 unfolding taken byteStep Any.execute Any.request asked own ticked loadRequest gainRequest gainsIn gainsFit ones inRange carriedIn loaded loadOf ratesOf wayOf startable complete movable same start beginningAt toPlace distance difference signed servoed advanced byTrapezoid trapezoid stepped moved filtered terms stop pick greatest nextSpeed ran
-forth-computed =
-    record { bytes = refl; fair = refl; typed = refl; first = refl; then = refl; last = refl; calm = refl; rests = refl; runs = refl; far = refl; there = refl; goes = refl }
+forth-computed = record {
+  bytes = refl;
+  small-byte = refl;
+  fair = refl;
+  typed = refl;
+  first = refl;
+  then = refl;
+  last = refl;
+  calm = refl;
+  rests = refl;
+  runs = refl;
+  far = refl;
+  there = refl;
+  goes = refl;
+}
 
-back-computed : Facts back 2 (2 ^ 48 - 101) (negsuc 4)
+back-computed : Facts back 2 0x6E (2 ^ 48 - 101) (negsuc 4)
 unfolding taken byteStep Any.execute Any.request asked own ticked loadRequest gainRequest gainsIn gainsFit ones inRange carriedIn loaded loadOf ratesOf wayOf startable complete movable same start beginningAt toPlace distance difference signed servoed advanced byTrapezoid trapezoid stepped moved filtered terms stop pick greatest nextSpeed ran
-back-computed =
-    record { bytes = refl; fair = refl; typed = refl; first = refl; then = refl; last = refl; calm = refl; rests = refl; runs = refl; far = refl; there = refl; goes = refl }
+back-computed = record {
+  bytes = refl;
+  small-byte = refl;
+  fair = refl;
+  typed = refl;
+  first = refl;
+  then = refl;
+  last = refl;
+  calm = refl;
+  rests = refl;
+  runs = refl;
+  far = refl;
+  there = refl;
+  goes = refl;
+}
 
 -- So both are on their way as the theorem says.
-pub goes-forth : SetsOff (off forth 1 .run .profile) × OnItsWay (off forth 1 .run .profile) 21 (under-way forth 1)
-goes-forth = goes-its-way forth 1 forth-computed
+pub goes-forth : SetsOff (off forth 1 0x05 .run .profile) × OnItsWay (off forth 1 0x05 .run .profile) 21 (under-way forth 1 0x05)
+goes-forth = goes-its-way forth 1 0x05 forth-computed
 
-pub goes-back : SetsOff (off back 2 .run .profile) × OnItsWay (off back 2 .run .profile) 21 (under-way back 2)
-goes-back = goes-its-way back 2 back-computed
+pub goes-back : SetsOff (off back 2 0x6E .run .profile) × OnItsWay (off back 2 0x6E .run .profile) 21 (under-way back 2 0x6E)
+goes-back = goes-its-way back 2 0x6E back-computed

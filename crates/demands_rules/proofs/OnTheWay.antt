@@ -42,10 +42,10 @@ use Rattle.servo_rules.specs.Perform.{stopped, can, perform}
 use Rattle.servo_rules.specs.Tick.{advancedBy, advanced, ticked}
 use Rattle.servo_rules.specs.Answers as Answers
 use Rattle.servo_rules.specs.Answers.{done, bitAt, status, request, withCause, execute}
-use Rattle.servo_rules.specs.LoadPromises.{Completes, Startable}
+use Rattle.servo_rules.specs.LoadPromises.{Completes}
 use Rattle.servo_rules.specs.TickPromises.{followed}
 use Rattle.servo_rules.proofs.Keeping.{by-test, either, distinct}
-use Rattle.servo_rules.proofs.Starting.{starts, start-now, begins}
+use Rattle.servo_rules.proofs.Starting.{starts, begins}
 use Rattle.servo_rules.proofs.Completing.{complete}
 use Rattle.servo_rules.proofs.Ticking.{ticks}
 use Rattle.servo_rules.proofs.Finishing.{move-done}
@@ -61,12 +61,13 @@ use Rattle.api_rules.specs.Promises.{ValidRecord, Passes}
 use Rattle.api_rules.proofs.Refused as Refused
 use Rattle.demands_history_rules.specs.Calls.{Call, byte, servoSample, ioSample, tick, AllHanded, leaves, leftBy}
 use Rattle.demands_history_rules.proofs.Calls.{call-kept}
-use Rattle.demands_rules.specs.Motion.{LoadStarts, byStart, byLoad, At, CallStarts}
+use Rattle.demands_rules.specs.Motion.{LoadStarts, At, CallStarts}
 use Rattle.demands_rules.specs.Place.{after, Stands, inTime}
 use Rattle.demands_rules.specs.Sent.{control, WholeLoad}
 use Rattle.demands_rules.specs.Quickest.{total, final, speedsFrom, ticksOf, ticksIn, Disturbs, Undisturbed, SetsOff, OnItsWay, QuickestOnTheLine}
 use Rattle.demands_rules.proofs.Known.{Known, known, BitOf, haltBits, halt-bits}
 use Rattle.demands_rules.proofs.Making.{same-place, fits-at, Silent, Made, same, framed, measured, timed, made}
+use Rattle.demands_rules.proofs.Motion.{load-started}
 use Rattle.demands_rules.proofs.Placing.{call-at, valid-after, Only, executed-by}
 use Rattle.demands_rules.proofs.Racing.{no-quicker, never-past}
 use Rattle.demands_rules.proofs.Mirroring.{signed-size, signed-zero, along-itself, Goes, can-stop, sets-off, after-tick, Gone, gone}
@@ -275,20 +276,10 @@ move-started b Move e c t =
 -- what a load's start leaves in a trapezoid is at rest, with some velocity
 starts-still : (f : Frame) (alone : Bool) (m : Servo) → LoadStarts f alone m → execute f alone m .run .drive .mode ≡ Trapezoid
     → (execute f alone m .run .profile .speed ≡ pos 0) × (0 < execute f alone m .run .profile .top)
-starts-still f alone m l t = by l
-  where
-    from : (b : Servo) → Startable b → execute f alone m ≡ withCause 0 (start b)
-        → (execute f alone m .run .profile .speed ≡ pos 0) × (0 < execute f alone m .run .profile .top)
-    from b s e =
-        subst (λ (k : Servo). (k .run .profile .speed ≡ pos 0) × (0 < k .run .profile .top)) (sym e)
-        (move-started b (b .settings .load .way) refl (complete b .0 (s .entire)) (ap (λ (k : Servo). k .run .drive .mode) (sym e) ∙ t))
-
-    by : LoadStarts f alone m → (execute f alone m .run .profile .speed ≡ pos 0) × (0 < execute f alone m .run .profile .top)
-    by (byStart a s) = from m s (every-type servo .cause f alone m .executed Start (a .undamaged) (a .order) (starts m .1 s))
-    by (byLoad c a e s) =
-        from (loaded c m) s
-        (every-type servo .cause f alone m .executed (LoadTrajectory c) (a .undamaged) (a .order) (start-now c m .now e ∙ starts (loaded c m) .1 s)
-        ∙ ap (withCause 0) (start-now c m .does e))
+starts-still f alone m l t =
+    let (b, s, e) = load-started f alone m l in
+    subst (λ (k : Servo). (k .run .profile .speed ≡ pos 0) × (0 < k .run .profile .top)) (sym e)
+    (move-started b (b .settings .load .way) refl (complete b .0 (s .entire)) (ap (λ (k : Servo). k .run .drive .mode) (sym e) ∙ t))
 
 -- a call that starts something ends a frame for this place
 not-silent : (net : List ℕ) (c : Call) (i : ℕ) (m : Servo) → CallStarts LoadStarts net i m c → Silent net i c → ⊥
