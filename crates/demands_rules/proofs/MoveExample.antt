@@ -1,13 +1,13 @@
 -- Beside the quickest move on the line: two histories that meet what it asks for, computed. A servo is sent forth by a Start, at power 1, and back
--- through 0 by a Load that starts now, at power 2; between the ticks come the bytes of a poll and of a load that waits. Assumes nothing.
+-- through 0 by a Load that starts now, at power 2; between the ticks comes every frame that may. Assumes nothing.
 use mathlib.Core.Path.{_≡_, refl, sym, ap, _∙_}
 use mathlib.Core.Logic.{_⊎_, inl, inr}
 use mathlib.Core.List.{List, [], _∷_, _++_}
-use mathlib.Core.Bool.{Bool, true, false, not, _&&_, _||_, true≢false, false≢true}
+use mathlib.Core.Bool.{Bool, true, false, not, cond, _&&_, true≢false, false≢true}
 use mathlib.Core.Option.{Option, some, none}
 use Prim.Native.Nat.{ℕ, _-_, _^_, _<_, _≤_}
 use native.Mathlib.Omega.{arith}
-use borrow.Author.Tests.{eqb-true, eqb-false, leb-true, ltb-true}
+use borrow.Author.Tests.{leb-true, ltb-true}
 use lib.Count.{ones}
 use lib.IntN.{ℤ, pos, negsuc, natAbs}
 use lib.ListN.{length, getElem?}
@@ -25,8 +25,9 @@ use Rattle.servo_filter.specs.Filter.{filtered}
 use Rattle.servo_rules.specs.declared.Mode.the-variants.{Off, Velocity, Trapezoid}
 use Rattle.servo_rules.specs.declared.Servo.{Servo}
 use Rattle.servo_rules.specs.Carried.{isSet, carriedIn, inRange}
-use Rattle.servo_rules.specs.Asks.{loadRequest, gainsIn, gainsFit, gainRequest, own}
+use Rattle.servo_rules.specs.Asks.{loadRequest, gainsIn, gainsFit, gainRequest, haltOf, stopRequest, own}
 use Rattle.servo_rules.specs.Loads.{wayOf, loadOf, ratesOf, loaded, beginningAt, movable, complete, startable, toPlace, start}
+use Rattle.servo_rules.specs.Perform.{stopped}
 use Rattle.servo_rules.specs.Tick.{advanced, servoed, ran, ticked}
 use Rattle.servo_rules.specs.Answers.{typeNumber}
 use Rattle.servo_rules.specs.TickPromises.{followed}
@@ -40,7 +41,7 @@ use Rattle.demands_history_rules.specs.Events.{event, run}
 use Rattle.demands_history_rules.specs.Calls.{Call, byte, servoSample, ioSample, tick, AllHanded, leaves, leftBy, does}
 use Rattle.demands_history_rules.proofs.Calls.{call-kept, passed-leaves}
 use Rattle.demands_rules.specs.Motion.{Bound, bound, LoadStarts, At, CallStarts}
-use Rattle.demands_rules.specs.Sent.{control}
+use Rattle.demands_rules.specs.Sent.{control, Has}
 use Rattle.demands_rules.specs.Place.{after}
 use Rattle.demands_rules.specs.Quickest.{Disturbs, Undisturbed, SetsOff, OnItsWay}
 use Rattle.demands_rules.proofs.Making.{servoIn}
@@ -54,35 +55,42 @@ use Rattle.demands_rules.proofs.Placing.{below}
 
 -- ---- a test that nothing disturbs, call by call
 
--- a frame that is No Op, or a Load that waits
-abbrev isCalm : Frame → Bool
-isCalm f = eqb (f .code) 14 || (eqb (f .code) 4 && not (isSet 7 (control f)))
+-- a frame, by its code and its control byte, that would disturb nothing even if it were executed
+abbrev isCalm : ℕ → ℕ → Bool
+isCalm code control =
+    not (eqb code 0)
+    && (not (eqb code 5)
+    && (not (eqb code 15)
+    && (not (eqb code 4 && isSet 7 control)
+    && cond (eqb code 7) (not (isSet 1 control) && (not (isSet 2 control) && (not (isSet 3 control) && not (isSet 4 control)))) true)))
 
-calm-code : (c : ℕ) (b : Bool) → (eqb c 14 || (eqb c 4 && b)) ≡ true → (c ≡ 14) ⊎ ((c ≡ 4) × (b ≡ true))
-calm-code c b e = at (eqb c 14) (eqb c 4) refl refl e
+unset : (b : Bool) → not b ≡ true → b ≡ true → ⊥
+unset true n e = false≢true n
+unset false n e = false≢true e
+
+is-calm : (f : Frame) → isCalm (f .code) (control f) ≡ true → Disturbs f → ⊥
+is-calm f e d = by d
   where
-    at : (s t : Bool) → eqb c 14 ≡ s → eqb c 4 ≡ t → (s || (t && b)) ≡ true → (c ≡ 14) ⊎ ((c ≡ 4) × (b ≡ true))
-    at true t p q e = inl (eqb-true c 14 p)
-    at false true p q e = inr (eqb-true c 4 q, e)
-    at false false p q e = absurd (false≢true e)
+    at : (k : ℕ) → f .code ≡ k → isCalm k (control f) ≡ true
+    at k q = ap (λ (c : ℕ). isCalm c (control f)) (sym q) ∙ e
 
-is-calm : (f : Frame) → isCalm f ≡ true → Disturbs f → ⊥
-is-calm f e d = at (calm-code (f .code) (not (isSet 7 (control f))) e) d
-  where
-    other : (c k : ℕ) → eqb c k ≡ false → f .code ≡ c → f .code ≡ k → ⊥
-    other c k z p q = eqb-false c k z (sym p ∙ q)
-
-    at : (f .code ≡ 14) ⊎ ((f .code ≡ 4) × (not (isSet 7 (control f)) ≡ true)) → Disturbs f → ⊥
-    at (inl p) (inl q) = other 14 0 refl p q
-    at (inl p) (inr (inl (q, h))) = other 14 4 refl p q
-    at (inl p) (inr (inr (inl q))) = other 14 5 refl p q
-    at (inl p) (inr (inr (inr (inl q)))) = other 14 15 refl p q
-    at (inl p) (inr (inr (inr (inr (q, h))))) = other 14 7 refl p q
-    at (inr (p, n)) (inl q) = other 4 0 refl p q
-    at (inr (p, n)) (inr (inl (q, h))) = false≢true (sym (ap not h) ∙ n)
-    at (inr (p, n)) (inr (inr (inl q))) = other 4 5 refl p q
-    at (inr (p, n)) (inr (inr (inr (inl q)))) = other 4 15 refl p q
-    at (inr (p, n)) (inr (inr (inr (inr (q, h))))) = other 4 7 refl p q
+    by : Disturbs f → ⊥
+    by (inl q) = false≢true (at 0 q)
+    by (inr (inl (q, h))) = unset (isSet 7 (control f)) (both-hold (not (isSet 7 (control f))) _ (at 4 q) .0) h
+    by (inr (inr (inl q))) = false≢true (at 5 q)
+    by (inr (inr (inr (inl q)))) = false≢true (at 15 q)
+    by (inr (inr (inr (inr (q, h))))) =
+        let (n1, e2) = both-hold (not (isSet 1 (control f))) _ (at 7 q) in
+        let (n2, e3) = both-hold (not (isSet 2 (control f))) _ e2 in
+        let (n3, n4) = both-hold (not (isSet 3 (control f))) _ e3 in
+        bit h n1 n2 n3 n4
+      where
+        bit : Has 1 f ⊎ (Has 2 f ⊎ (Has 3 f ⊎ Has 4 f)) → not (isSet 1 (control f)) ≡ true → not (isSet 2 (control f)) ≡ true
+            → not (isSet 3 (control f)) ≡ true → not (isSet 4 (control f)) ≡ true → ⊥
+        bit (inl h) n1 n2 n3 n4 = unset _ n1 h
+        bit (inr (inl h)) n1 n2 n3 n4 = unset _ n2 h
+        bit (inr (inr (inl h))) n1 n2 n3 n4 = unset _ n3 h
+        bit (inr (inr (inr h))) n1 n2 n3 n4 = unset _ n4 h
 
 -- a tick would find power and a small error
 abbrev isSteady : Servo → Bool
@@ -94,7 +102,7 @@ is-steady m e =
     (λ z. false≢true (sym (ap (λ (x : ℕ). not (eqb x 0)) z) ∙ p), leb-true _ _ q)
 
 abbrev leaves-it : Net Module → Call → Bool
-leaves-it n (byte mark x room) = endsSuch isCalm n mark x
+leaves-it n (byte mark x room) = endsSuch (λ f. isCalm (f .code) (control f)) n mark x
 leaves-it n (servoSample place raw power ad) = true
 leaves-it n (ioSample place inputs ad1 ad2 ad3 counter) = true
 leaves-it n tick = elim (servoIn (getElem? (n .modules) 0)) [ none ↦ false | some m ↦ isSteady m ]
@@ -104,7 +112,7 @@ undisturbed : (net : List ℕ) (cs : List Call) → ValidRecord net → AllHande
 undisturbed net cs v h o e = record {
   frames = λ j f x.
       is-calm f
-      (ends-such isCalm (netIn slots (after net cs 0 j)) (x .met .mark) (x .met .value) f (passed j _ (x .met .call)) (x .met .ended) (x .met .frame));
+      (ends-such (λ f. isCalm (f .code) (control f)) (netIn slots (after net cs 0 j)) (x .met .mark) (x .met .value) f (passed j _ (x .met .call)) (x .met .ended) (x .met .frame));
   ticks = λ j m g st.
       is-steady m
       (sym (ap (λ (x : Option Module). elim (servoIn x) [ none ↦ false | some m ↦ isSteady m ]) st) ∙ passed j tick g);
@@ -136,9 +144,19 @@ start-byte x = byte 0 x room
 abbrev measure : ℕ → Call
 measure power = servoSample 0 0 power 0
 
--- after it a poll and a load that waits, with a tick behind each byte
+-- after it all that may come, with a tick behind each byte: No Op, Define Status, Read Status, Set Gain, Clear Bits, the amplifier bit, Set Baud by
+-- group, a load that waits, Set Address
 abbrev line : List Byte
-line = clean (written 0 14 [] ++ written 0 4 (moveTo 0x17 (9 ∷ 0 ∷ 0 ∷ 0 ∷ [])))
+line = clean (
+    written 0 14 []
+    ++ written 0 2 (1 ∷ [])
+    ++ written 0 3 (0xFF ∷ [])
+    ++ written 0 6 gain
+    ++ written 0 11 []
+    ++ written 0 7 (1 ∷ [])
+    ++ written 255 10 (3 ∷ [])
+    ++ written 0 4 (moveTo 0x17 (9 ∷ 0 ∷ 0 ∷ 0 ∷ []))
+    ++ written 0 1 (5 ∷ 0xFF ∷ []))
 
 abbrev meanwhile : List Call
 meanwhile = spread room line
@@ -258,16 +276,16 @@ module _ (orders : List Byte) (power x : ℕ) where
         still (inl (e, n)) = distinct Off Velocity refl (sym (f .rests) ∙ e)
         still (inr (e, n)) = distinct Off Trapezoid refl (sym (f .rests) ∙ e)
 
-    goes-its-way : SetsOff (off .run .profile) × OnItsWay (off .run .profile) 21 under-way
+    goes-its-way : SetsOff (off .run .profile) × OnItsWay (off .run .profile) 70 under-way
     goes-its-way =
         quickest-on-the-line net (start-byte x) meanwhile 0 ready off under-way is-valid is-byte handed at-start starts-it at-started (f .runs)
         (undisturbed (leaves net (start-byte x)) meanwhile started-valid handed (spread-open room enough line)
         (ap (allPass leaves-it (length meanwhile) meanwhile) started-net ∙ f .calm))
         at-end
 
--- 2, 4 and nineteen times 5 from 0, forth and back
-forth-computed : Facts forth 1 0x05 101 (pos 5)
-unfolding taken byteStep Any.execute Any.request asked own ticked loadRequest gainRequest gainsIn gainsFit ones inRange carriedIn loaded loadOf ratesOf wayOf startable complete movable same start beginningAt toPlace distance difference signed servoed advanced byTrapezoid trapezoid stepped moved filtered terms stop pick greatest nextSpeed ran
+-- 2, 4 and sixty-eight times 5 from 0, forth and back
+forth-computed : Facts forth 1 0x05 346 (pos 5)
+unfolding taken byteStep Any.execute Any.request asked own ticked loadRequest gainRequest gainsIn gainsFit stopRequest haltOf stopped ones inRange carriedIn loaded loadOf ratesOf wayOf startable complete movable same start beginningAt toPlace distance difference signed servoed advanced byTrapezoid trapezoid stepped moved filtered terms stop pick greatest nextSpeed ran
 forth-computed = record {
   bytes = refl;
   small-byte = refl;
@@ -284,8 +302,8 @@ forth-computed = record {
   goes = refl;
 }
 
-back-computed : Facts back 2 0x6E (2 ^ 48 - 101) (negsuc 4)
-unfolding taken byteStep Any.execute Any.request asked own ticked loadRequest gainRequest gainsIn gainsFit ones inRange carriedIn loaded loadOf ratesOf wayOf startable complete movable same start beginningAt toPlace distance difference signed servoed advanced byTrapezoid trapezoid stepped moved filtered terms stop pick greatest nextSpeed ran
+back-computed : Facts back 2 0x6E (2 ^ 48 - 346) (negsuc 4)
+unfolding taken byteStep Any.execute Any.request asked own ticked loadRequest gainRequest gainsIn gainsFit stopRequest haltOf stopped ones inRange carriedIn loaded loadOf ratesOf wayOf startable complete movable same start beginningAt toPlace distance difference signed servoed advanced byTrapezoid trapezoid stepped moved filtered terms stop pick greatest nextSpeed ran
 back-computed = record {
   bytes = refl;
   small-byte = refl;
@@ -303,8 +321,8 @@ back-computed = record {
 }
 
 -- So both are on their way as the theorem says.
-pub goes-forth : SetsOff (off forth 1 0x05 .run .profile) × OnItsWay (off forth 1 0x05 .run .profile) 21 (under-way forth 1 0x05)
+pub goes-forth : SetsOff (off forth 1 0x05 .run .profile) × OnItsWay (off forth 1 0x05 .run .profile) 70 (under-way forth 1 0x05)
 goes-forth = goes-its-way forth 1 0x05 forth-computed
 
-pub goes-back : SetsOff (off back 2 0x6E .run .profile) × OnItsWay (off back 2 0x6E .run .profile) 21 (under-way back 2 0x6E)
+pub goes-back : SetsOff (off back 2 0x6E .run .profile) × OnItsWay (off back 2 0x6E .run .profile) 70 (under-way back 2 0x6E)
 goes-back = goes-its-way back 2 0x6E back-computed

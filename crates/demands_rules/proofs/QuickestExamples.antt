@@ -65,7 +65,8 @@ is-gentle a v (x ∷ xs) e =
 is-move : (a top d : ℕ) (xs : List ℕ) → isSlow top xs ≡ true → isGentle a 0 (xs ++ 0 ∷ []) ≡ true → total xs ≡ d → Move a top d xs
 is-move a top d xs p q r = record { slow = is-slow top xs p; gentle = is-gentle a 0 (xs ++ 0 ∷ []) q; whole = r }
 
--- a softer move over the 12 of (f), one over 7 with V below A, and one tick over 2, whose list is shorter than the trapezoid's 2, 0
+-- a softer move over the 12 of (f), one over 7 with V below A, one over 3 with d below A, and one tick over 2, whose list is shorter than the
+-- trapezoid's 2, 0
 pub softer : Move 2 5 12 (1 ∷ 3 ∷ 4 ∷ 3 ∷ 1 ∷ [])
 unfolding total
 softer = is-move 2 5 12 (1 ∷ 3 ∷ 4 ∷ 3 ∷ 1 ∷ []) refl refl refl
@@ -74,13 +75,20 @@ pub later : Move 5 2 7 (1 ∷ 2 ∷ 2 ∷ 2 ∷ 0 ∷ [])
 unfolding total
 later = is-move 5 2 7 (1 ∷ 2 ∷ 2 ∷ 2 ∷ 0 ∷ []) refl refl refl
 
+pub brief : Move 5 9 3 (1 ∷ 2 ∷ [])
+unfolding total
+brief = is-move 5 9 3 (1 ∷ 2 ∷ []) refl refl refl
+
 pub one-tick : Move 2 5 2 (2 ∷ [])
 unfolding total
 one-tick = is-move 2 5 2 (2 ∷ []) refl refl refl
 
 -- so none of them is ahead at any time; that at rest at 7 after five ticks is not there before the trapezoid
-pub behind : (n : ℕ) → total (take n (1 ∷ 3 ∷ 4 ∷ 3 ∷ 1 ∷ [])) ≤ total (speedsIn n 2 5 12 0)
-behind = no-quicker 2 5 12 (1 ∷ 3 ∷ 4 ∷ 3 ∷ 1 ∷ []) (omega arith) softer
+pub softer-behind : (n : ℕ) → total (take n (1 ∷ 3 ∷ 4 ∷ 3 ∷ 1 ∷ [])) ≤ total (speedsIn n 2 5 12 0)
+softer-behind = no-quicker 2 5 12 (1 ∷ 3 ∷ 4 ∷ 3 ∷ 1 ∷ []) (omega arith) softer
+
+pub brief-behind : (n : ℕ) → total (take n (1 ∷ 2 ∷ [])) ≤ total (speedsIn n 5 9 3 0)
+brief-behind = no-quicker 5 9 3 (1 ∷ 2 ∷ []) (omega arith) brief
 
 pub no-sooner-there : (total (speedsIn 5 5 2 7 0) ≡ 7) × (final 0 (speedsIn 5 5 2 7 0) ≡ 0)
 unfolding total final

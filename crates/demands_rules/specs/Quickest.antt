@@ -47,7 +47,7 @@ abbrev pub Gentle : ℕ → ℕ → List ℕ → Type 0
 Gentle a v [] = Unit {0}
 Gentle a v (x ∷ xs) = (x ≤ v + a) × (v ≤ x + a) × Gentle a x xs
 
--- A move over d: speeds from 0 to top that change by at most a, from rest before the first tick to rest after the last, and cover d together.
+-- 02 P14: a move over d: speeds from 0 to top that change by at most a, from rest before the first tick to rest after the last, and cover d together.
 pub record Move (a top d : ℕ) (xs : List ℕ) : Type 0 where
   pub slow : Slow top xs
   pub gentle : Gentle a 0 (xs ++ 0 ∷ [])
@@ -58,7 +58,7 @@ unfoldable pub speedsIn : ℕ → ℕ → ℕ → ℕ → ℕ → List ℕ
 speedsIn zero a top d v = []
 speedsIn (suc n) a top d v = nextSpeed a top d v ∷ speedsIn n a top (d - nextSpeed a top d v) (nextSpeed a top d v)
 
--- No quicker move exists: after any number of ticks, no move over d from rest has covered more than the trapezoid. (Past its end it has covered d.)
+-- 02 P14: no quicker move exists: after any number of ticks, no move over d from rest has covered more than the trapezoid. (Past its end it has covered d.)
 abbrev pub NoQuicker : Type 0
 NoQuicker = (a top d : ℕ) (xs : List ℕ) → 0 < a → Move a top d xs → (n : ℕ) → total (take n xs) ≤ total (speedsIn n a top d 0)
 
@@ -83,7 +83,7 @@ pub record Reach (a top : ℕ) : Type 0 where
 abbrev pub Reaching : Type 0
 Reaching = (a top : ℕ) → 0 < a → Reach a top
 
--- The trapezoid from rest, undisturbed.
+-- 02 P14: the trapezoid from rest, undisturbed.
 pub record Arrives (a top d : ℕ) : Type 0 where
   -- at no time is a speed above top, a change above a, or more covered than d
   pub slow : (n : ℕ) → Slow top (speedsIn n a top d 0)
