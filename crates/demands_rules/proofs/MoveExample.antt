@@ -123,9 +123,9 @@ undisturbed net cs v h o e = record {
 
 -- ---- the two moves: with A 2 and V 5, in 65,536ths, a count forth and a count back
 
--- Set Gain with EL 16,383 and all gains 0; what a Load of a move to a position of these bytes carries
+-- Set Gain with EL 1, which is the size of the error on the way back, and all gains 0; what a Load of a move to a position of these bytes carries
 abbrev gain : List ℕ
-gain = 0 ∷ 0 ∷ 0 ∷ 0 ∷ 0 ∷ 0 ∷ 0 ∷ 0 ∷ 0 ∷ 0 ∷ 0xFF ∷ 0x3F ∷ 1 ∷ 0 ∷ 1 ∷ []
+gain = 0 ∷ 0 ∷ 0 ∷ 0 ∷ 0 ∷ 0 ∷ 0 ∷ 0 ∷ 0 ∷ 0 ∷ 1 ∷ 0 ∷ 1 ∷ 0 ∷ 1 ∷ []
 
 abbrev moveTo : ℕ → List ℕ → List ℕ
 moveTo control place = control ∷ place ++ 5 ∷ 0 ∷ 0 ∷ 0 ∷ 2 ∷ 0 ∷ 0 ∷ 0 ∷ []
