@@ -1,11 +1,11 @@
 -- What one event makes of each place. Assumes nothing.
 use mathlib.Core.Path.{_≡_, refl, sym, ap, ap₂, fun-ext, _∙_}
 use mathlib.Core.List.{List, [], _∷_, map, append-nil}
-use mathlib.Core.Bool.{Bool, true, false, cond}
+use mathlib.Core.Bool.{Bool, true, false, cond, true≢false}
 use mathlib.Core.Option.{Option, some, none, Option·map}
-use Prim.Native.Nat.{ℕ, zero, suc}
+use Prim.Native.Nat.{ℕ, zero, suc, _<_}
 use native.Mathlib.Omega.{arith}
-use lib.ListN.{getElem?}
+use lib.ListN.{length, getElem?}
 use lib.Dec.{eqb, eqb·zero-suc, eqb·suc-zero, eqb·suc-suc}
 use Rattle.line_receiver.specs.declared.Receiver.{Receiver}
 use Rattle.line_receiver.specs.declared.Answer.{Answer}
@@ -48,6 +48,12 @@ changed-at g zero (m ∷ ms) zero = refl
 changed-at g zero (m ∷ ms) (suc i) = rw (eqb·suc-zero i) (sym (map-same (getElem? ms i)))
 changed-at g (suc j) (m ∷ ms) zero = rw (eqb·zero-suc j)
 changed-at g (suc j) (m ∷ ms) (suc i) = rw (eqb·suc-suc i j) (changed-at g j ms i)
+
+-- where there is one there are as many
+pub below : {M : Type 0} (ms : List M) (i : ℕ) (m : M) → getElem? ms i ≡ some m → i < length ms
+below [] i m e = let z : _≡_ {A = Bool} true false = cc in absurd (true≢false z)
+below (x ∷ ms) zero m e = omega arith
+below (x ∷ ms) (suc i) m e = let h = below ms i m e in omega arith
 
 pub map-at : {M A : Type 0} (g : M → A) (ms : List M) (i : ℕ) → getElem? (map g ms) i ≡ Option·map g (getElem? ms i)
 map-at g [] i = refl

@@ -2,7 +2,7 @@
 -- Assumes nothing.
 use mathlib.Core.Path.{_≡_, refl, sym, ap, _∙_}
 use mathlib.Core.List.{List, [], _∷_}
-use mathlib.Core.Bool.{Bool, true, false, _&&_, true≢false, false≢true}
+use mathlib.Core.Bool.{Bool, true, false, _&&_, true≢false}
 use mathlib.Core.Option.{some}
 use Prim.Native.Nat.{ℕ, zero, suc, _<_, _≤_}
 use native.Mathlib.Omega.{arith}
@@ -15,6 +15,7 @@ use Rattle.line_receiver.specs.Frames.{Byte, Frame, frameIn, values, AreBytes}
 use Rattle.chain_rules.specs.Chain.{Net}
 use Rattle.types_rules.specs.Types.{Module, kind, slots}
 use Rattle.net_rules.specs.Record.{roomSize, netIn}
+use Rattle.net_rules.proofs.Tests.{and-true}
 use Rattle.api_rules.specs.Promises.{ValidRecord, Passes}
 use Rattle.demands_history_rules.specs.Events.{event}
 use Rattle.demands_history_rules.specs.Calls.{Call, byte, tick, AllHanded, refusals, leaves, leftBy, does}
@@ -45,20 +46,16 @@ allPass test zero cs n = true
 allPass test (suc k) [] n = true
 allPass test (suc k) (c ∷ cs) n = test n c && allPass test k cs (event kind (does c) n .net)
 
-pub both-hold : (a b : Bool) → (a && b) ≡ true → (a ≡ true) × (b ≡ true)
-both-hold true b e = (refl, e)
-both-hold false b e = absurd (false≢true e)
-
 pub passes-at : (test : Net Module → Call → Bool) (cs : List Call) (net : List ℕ) (k j : ℕ) (c : Call) → ValidRecord net → AllHanded cs → AllOpen cs
     → j < k → allPass test k cs (netIn slots net) ≡ true → getElem? cs j ≡ some c → test (netIn slots (leftBy (take j cs) net)) c ≡ true
 passes-at test cs net zero j c v h o l e g = absurd (omega arith)
 passes-at test [] net (suc k) j c v h o l e g = let z : _≡_ {A = Bool} true false = cc in absurd (true≢false z)
 passes-at test (d ∷ cs) net (suc k) zero c v h o l e g =
     let z : d ≡ c = cc in
-    ap (test (netIn slots net)) (sym z) ∙ both-hold (test (netIn slots net) d) _ e .0
+    ap (test (netIn slots net)) (sym z) ∙ and-true (test (netIn slots net) d) _ e .0
 passes-at test (d ∷ cs) net (suc k) (suc j) c v h o l e g =
     passes-at test cs (leaves net d) k j c (call-kept net d (h .0) v) (h .1) (o .1) (omega arith)
-    (ap (allPass test k cs) (passed-leaves net d (h .0) v (o .0 net v)) ∙ both-hold (test (netIn slots net) d) _ e .1)
+    (ap (allPass test k cs) (passed-leaves net d (h .0) v (o .0 net v)) ∙ and-true (test (netIn slots net) d) _ e .1)
     g
 
 -- a byte ends no frame, or one such as the test takes

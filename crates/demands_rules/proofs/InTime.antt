@@ -24,11 +24,12 @@ use Rattle.api_rules.specs.Table.{first, servoSampleTable, tickTable}
 use Rattle.api_rules.specs.Calls.{unless}
 use Rattle.api_rules.specs.Promises.{ValidRecord}
 use Rattle.demands_history_rules.specs.Calls.{Call, byte, servoSample, ioSample, tick, AllHanded}
+use Rattle.demands_history_rules.proofs.Events.{below}
 use Rattle.demands_rules.specs.Motion.{At}
 use Rattle.demands_rules.specs.Place.{after, Stands, Touched, inTime, throughTime}
 use Rattle.demands_rules.specs.Question.{Missed, IsStart, QuestionInTime}
 use Rattle.demands_rules.proofs.Making.{Made, same, framed, measured, timed, made}
-use Rattle.demands_rules.proofs.Placing.{below, call-at, time-at, valid-after, untouched}
+use Rattle.demands_rules.proofs.Placing.{call-at, time-at, valid-after, untouched}
 use Rattle.demands_rules.proofs.Question.{missed-is, start-refused}
 
 -- a choice of two servos with another cause

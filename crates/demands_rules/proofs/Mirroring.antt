@@ -4,10 +4,9 @@ use mathlib.Core.List.{List, _∷_, map}
 use mathlib.Core.Bool.{Bool, true, false}
 use Prim.Native.Nat.{ℕ, zero, suc, _+_, _-_, _^_, _≤_, _<_}
 use native.Mathlib.Omega.{arith}
-use borrow.Author.Tests.{le-ltb}
-use lib.IntN.{ℤ, pos, negsuc, negℤ, natAbs, _-ℤ_}
+use lib.IntN.{ℤ, pos, negℤ, natAbs, _-ℤ_}
 use lib.Signed.{ltZ}
-use Rattle.base_integers.proofs.Parts.{up, down, parts-neg, parts-diff, parts-same, parts-size}
+use Rattle.base_integers.proofs.Parts.{parts-neg, parts-diff, parts-same}
 use Rattle.servo_motion.specs.declared.Profile.{Profile}
 use Rattle.servo_motion.specs.Trapezoid.{nextSpeed}
 use Rattle.servo_motion.specs.Setpoint.{moved}
@@ -17,28 +16,11 @@ use Rattle.servo_motion.proofs.Speeds.{stillStops}
 use Rattle.servo_motion.proofs.Apart.{moved-turned}
 use Rattle.servo_motion.proofs.Runs.{taken, runs, inRange}
 use Rattle.servo_rules.specs.Loads.{signedBy}
-use Rattle.demands_rules.specs.Quickest.{total, final, speedsIn, along, Mirrored}
+use Rattle.servo_rules.proofs.Signs.{signed-size, signed-zero, signed-itself}
+use Rattle.demands_rules.specs.Quickest.{total, final, speedsIn, Mirrored}
 use Rattle.demands_rules.proofs.Racing.{never-past}
 
 -- ---- a size with a sign
-
-signed-up : (b : Bool) (x : ℕ) → up (signedBy b x) + down (signedBy b x) ≡ x
-unfolding signedBy
-signed-up true x = omega (arith, parts-neg (pos x))
-signed-up false x = omega arith
-
-pub signed-size : (b : Bool) (x : ℕ) → natAbs (signedBy b x) ≡ x
-signed-size b x = parts-size (signedBy b x) ∙ signed-up b x
-
-pub signed-zero : (b : Bool) → signedBy b 0 ≡ pos 0
-unfolding signedBy
-signed-zero true = refl
-signed-zero false = refl
-
-pub along-itself : (z : ℤ) → along z (natAbs z) ≡ z
-unfolding signedBy
-along-itself (pos n) = ap (λ (b : Bool). signedBy b n) (le-ltb n 0 (omega arith))
-along-itself (negsuc n) = refl
 
 signed-less : (b : Bool) (x y : ℕ) → y ≤ x → signedBy b x -ℤ signedBy b y ≡ signedBy b (x - y)
 unfolding signedBy
@@ -125,7 +107,7 @@ pub sets-off : (p : Profile) → Ranged p → Running p → p .speed ≡ pos 0 �
 sets-off p r s e = record {
   ranged = r;
   running = s;
-  far = sym (along-itself (left p));
+  far = sym (signed-itself (left p));
   speed = e ∙ sym (signed-zero (ltZ (left p) (pos 0)));
 }
 

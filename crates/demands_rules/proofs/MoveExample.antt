@@ -36,9 +36,11 @@ use Rattle.types_rules.specs.Table.{servo, inout}
 use Rattle.types_rules.specs.Types.{Module, kind, slots}
 use Rattle.net_rules.specs.Record.{netIn}
 use Rattle.net_rules.specs.Calls.{setUp, ofType}
+use Rattle.net_rules.proofs.Tests.{and-true}
 use Rattle.api_rules.specs.Promises.{ValidRecord}
 use Rattle.demands_history_rules.specs.Events.{event, run}
 use Rattle.demands_history_rules.specs.Calls.{Call, byte, servoSample, ioSample, tick, AllHanded, leaves, leftBy, does}
+use Rattle.demands_history_rules.proofs.Events.{below}
 use Rattle.demands_history_rules.proofs.Calls.{call-kept, passed-leaves}
 use Rattle.demands_rules.specs.Motion.{Bound, bound, LoadStarts, At, CallStarts}
 use Rattle.demands_rules.specs.Sent.{control, Has}
@@ -50,8 +52,7 @@ use Rattle.demands_rules.proofs.OnTheLine.{areSmall, small, byte-goes}
 use Rattle.demands_rules.proofs.Calls.{any-calls}
 use Rattle.demands_rules.proofs.EveryCall.{every-call}
 use Rattle.demands_rules.proofs.OnTheWay.{quickest-on-the-line}
-use Rattle.demands_rules.proofs.Computing.{both-hold, AllOpen, through, net-after, allPass, passes-at, endsSuch, ends-such, spread, spread-open, spread-handed}
-use Rattle.demands_rules.proofs.Placing.{below}
+use Rattle.demands_rules.proofs.Computing.{AllOpen, through, net-after, allPass, passes-at, endsSuch, ends-such, spread, spread-open, spread-handed}
 
 -- ---- a test that nothing disturbs, call by call
 
@@ -76,13 +77,13 @@ is-calm f e d = by d
 
     by : Disturbs f → ⊥
     by (inl q) = false≢true (at 0 q)
-    by (inr (inl (q, h))) = unset (isSet 7 (control f)) (both-hold (not (isSet 7 (control f))) _ (at 4 q) .0) h
+    by (inr (inl (q, h))) = unset (isSet 7 (control f)) (and-true (not (isSet 7 (control f))) _ (at 4 q) .0) h
     by (inr (inr (inl q))) = false≢true (at 5 q)
     by (inr (inr (inr (inl q)))) = false≢true (at 15 q)
     by (inr (inr (inr (inr (q, h))))) =
-        let (n1, e2) = both-hold (not (isSet 1 (control f))) _ (at 7 q) in
-        let (n2, e3) = both-hold (not (isSet 2 (control f))) _ e2 in
-        let (n3, n4) = both-hold (not (isSet 3 (control f))) _ e3 in
+        let (n1, e2) = and-true (not (isSet 1 (control f))) _ (at 7 q) in
+        let (n2, e3) = and-true (not (isSet 2 (control f))) _ e2 in
+        let (n3, n4) = and-true (not (isSet 3 (control f))) _ e3 in
         bit h n1 n2 n3 n4
       where
         bit : Has 1 f ⊎ (Has 2 f ⊎ (Has 3 f ⊎ Has 4 f)) → not (isSet 1 (control f)) ≡ true → not (isSet 2 (control f)) ≡ true
@@ -98,7 +99,7 @@ isSteady m = not (eqb (m .samples .waiting .power) 0) && leb (natAbs (followed m
 
 is-steady : (m : Servo) → isSteady m ≡ true → (m .samples .waiting .power ≡ 0 → ⊥) × (natAbs (followed m) ≤ m .settings .tuning .gains .el)
 is-steady m e =
-    let (p, q) = both-hold (not (eqb (m .samples .waiting .power) 0)) _ e in
+    let (p, q) = and-true (not (eqb (m .samples .waiting .power) 0)) _ e in
     (λ z. false≢true (sym (ap (λ (x : ℕ). not (eqb x 0)) z) ∙ p), leb-true _ _ q)
 
 abbrev leaves-it : Net Module → Call → Bool

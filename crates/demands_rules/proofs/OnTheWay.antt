@@ -45,6 +45,7 @@ use Rattle.servo_rules.specs.Answers.{done, bitAt, status, request, withCause, 
 use Rattle.servo_rules.specs.LoadPromises.{Completes}
 use Rattle.servo_rules.specs.TickPromises.{followed}
 use Rattle.servo_rules.proofs.Keeping.{by-test, either, distinct}
+use Rattle.servo_rules.proofs.Signs.{signed-size, signed-zero, signed-itself}
 use Rattle.servo_rules.proofs.Starting.{starts, begins}
 use Rattle.servo_rules.proofs.Completing.{complete}
 use Rattle.servo_rules.proofs.Ticking.{ticks}
@@ -70,7 +71,7 @@ use Rattle.demands_rules.proofs.Making.{same-place, fits-at, Silent, Ma
 use Rattle.demands_rules.proofs.Motion.{load-started}
 use Rattle.demands_rules.proofs.Placing.{call-at, valid-after, Only, executed-by}
 use Rattle.demands_rules.proofs.Racing.{no-quicker, never-past}
-use Rattle.demands_rules.proofs.Mirroring.{signed-size, signed-zero, along-itself, Goes, can-stop, sets-off, after-tick, Gone, gone}
+use Rattle.demands_rules.proofs.Mirroring.{Goes, can-stop, sets-off, after-tick, Gone, gone}
 use Rattle.demands_rules.proofs.Mirroring as Profiles
 
 -- k runs as m does: the same profile in the same mode
@@ -256,7 +257,7 @@ module _ (p : Profile) (n : ℕ) (off : SetsOff p) (g : Goes (ltZ (left p) (pos 
     arrived = λ e.
         setpoint-is
         ∙ ap (λ (x : ℕ). moved (p .setpoint) (signedBy back x)) e
-        ∙ ap (moved (p .setpoint)) (along-itself (left p))
+        ∙ ap (moved (p .setpoint)) (signed-itself (left p))
         ∙ reaches (p .goal) (p .setpoint) (g .ranged .goal) (g .ranged .setpoint)
         ∙ (let c : p .goal * 65536 ≡ 65536 * p .goal = omega arith in c);
     quickest = λ ys m. no-quicker (p .acceleration) (p .top) (natAbs (left p)) ys (off .force) m n;

@@ -5,7 +5,6 @@ use mathlib.Core.Bool.{Bool, true, false, cond, _&&_}
 use mathlib.Core.Option.{Option, some, none, Option·map}
 use mathlib.Core.Logic.{inl, inr}
 use Prim.Native.Nat.{ℕ, zero, suc, _<_}
-use native.Mathlib.Omega.{arith}
 use lib.ListN.{length, getElem?}
 use Rattle.line_receiver.specs.declared.Receiver.{Receiver}
 use Rattle.line_receiver.specs.Receive.{idle}
@@ -22,7 +21,7 @@ use Rattle.net_rules.specs.Record.{netIn, stored}
 use Rattle.demands_history_rules.specs.Events.{Event, sent, sampled, ticked, Outcome, event, run, Harmless, Ordinary, singly, metBy, metInTurn, alone, aloneReplies}
 use Rattle.demands_history_rules.specs.Calls.{Call, doneBy}
 use Rattle.demands_rules.specs.Order.{EachAlone, MeetsTheSame, EndsTheSame, KeepsAddress, OrderDoesNotMatter, OrderOfAll, OfAnyKind, Product, ByCalls}
-use Rattle.demands_history_rules.proofs.Events.{fromSome, whole-event, event-idle}
+use Rattle.demands_history_rules.proofs.Events.{below, fromSome, whole-event, event-idle}
 use Rattle.demands_history_rules.proofs.Alone.{first-whole, later-frames, alone-at}
 use Rattle.demands_history_rules.proofs.Singly.{run-singly}
 use Rattle.demands_rules.proofs.Calls.{any-calls}
@@ -32,11 +31,6 @@ same-places [] [] h = refl
 same-places [] (y ∷ b) h = let n = h 0 in cc
 same-places (x ∷ a) [] h = let n = h 0 in cc
 same-places (x ∷ a) (y ∷ b) h = let n = h 0 in let r = same-places a b (λ i. h (suc i)) in cc
-
-place-below : {M : Type 0} (ms : List M) (i : ℕ) (m : M) → getElem? ms i ≡ some m → i < length ms
-place-below [] i m e = let z : none ≡ some m = e in let y : _≡_ {A = ℕ} 0 1 = cc in absurd (omega arith)
-place-below (x ∷ ms) zero m e = omega arith
-place-below (x ∷ ms) (suc i) m e = let h = place-below ms i m e in omega arith
 
 pub each-alone : {M S : Type 0} (K : Kind M S) → EachAlone K
 each-alone K n h i m z w e = let a = alone-at K (λ f. Unit {0}) h n i z w in (rw e at (a .0), rw e at (a .1))
@@ -102,7 +96,7 @@ module _ {M S : Type 0} (K : Kind M S) (keeps : KeepsAddress K) where
           let a = alone-at K Harmless h₁ n i z o₁ in
           let b = alone-at K Harmless h₂ n i z o₂ in
           record { sameRecord = a .0 ∙ rw p refl ∙ sym (b .0); sameReplies = a .1 ∙ rw p refl ∙ sym (b .1) }
-      go (some m) p = order-does-not-matter n h₁ h₂ i z o₁ o₂ (e i (place-below (n .modules) i m p))
+      go (some m) p = order-does-not-matter n h₁ h₂ i z o₁ o₂ (e i (below (n .modules) i m p))
 
   pub order-of-all : OrderOfAll K
   order-of-all n h₁ h₂ z o₁ o₂ e =

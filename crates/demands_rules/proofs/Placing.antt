@@ -23,12 +23,6 @@ use Rattle.demands_rules.specs.Motion.{At}
 use Rattle.demands_rules.specs.Place.{after, Stands, Touched, Executed, inTime, throughTime}
 use Rattle.demands_rules.proofs.Making.{Silent, was-servo}
 
--- where there is a call there are as many
-pub below : (cs : List Call) (n : ℕ) (c : Call) → getElem? cs n ≡ some c → n < length cs
-below [] n c e = let z : _≡_ {A = Bool} true false = cc in absurd (true≢false z)
-below (d ∷ cs) zero c e = omega arith
-below (d ∷ cs) (suc n) c e = let h = below cs n c e in omega arith
-
 -- call n, the record after it, and what time makes of a servo by it
 pub call-at : (cs : List Call) (net : List ℕ) (n : ℕ) → n < length cs → AllHanded cs
     → (c : Call) × (getElem? cs n ≡ some c) × (leftBy (take (suc n) cs) net ≡ leaves (leftBy (take n cs) net) c) × Handed c

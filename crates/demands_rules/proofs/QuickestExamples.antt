@@ -9,9 +9,9 @@ use borrow.Author.Tests.{leb-true}
 use lib.Dec.{eqb, leb, ltb}
 use lib.ListN.{take}
 use Rattle.servo_motion.specs.Trapezoid.{terms, stop, pick, greatest, nextSpeed}
+use Rattle.net_rules.proofs.Tests.{and-true}
 use Rattle.demands_rules.specs.Meaning.{gives, Holds}
 use Rattle.demands_rules.specs.Quickest.{total, final, Slow, Gentle, Move, speedsIn, reach}
-use Rattle.demands_rules.proofs.Computing.{both-hold}
 use Rattle.demands_rules.proofs.Racing.{no-quicker, no-sooner}
 
 -- ---- the trapezoid's lists: bench sheet (f) and (g), V below A, d below A, d below both
@@ -53,13 +53,13 @@ isGentle a v (x ∷ xs) = (leb x (v + a) && leb v (x + a)) && isGentle a x xs
 
 is-slow : (top : ℕ) (xs : List ℕ) → isSlow top xs ≡ true → Slow top xs
 is-slow top [] e = tt
-is-slow top (x ∷ xs) e = let (p, q) = both-hold (leb x top) (isSlow top xs) e in (leb-true x top p, is-slow top xs q)
+is-slow top (x ∷ xs) e = let (p, q) = and-true (leb x top) (isSlow top xs) e in (leb-true x top p, is-slow top xs q)
 
 is-gentle : (a v : ℕ) (xs : List ℕ) → isGentle a v xs ≡ true → Gentle a v xs
 is-gentle a v [] e = tt
 is-gentle a v (x ∷ xs) e =
-    let (p, q) = both-hold (leb x (v + a) && leb v (x + a)) (isGentle a x xs) e in
-    let (r, s) = both-hold (leb x (v + a)) (leb v (x + a)) p in
+    let (p, q) = and-true (leb x (v + a) && leb v (x + a)) (isGentle a x xs) e in
+    let (r, s) = and-true (leb x (v + a)) (leb v (x + a)) p in
     (leb-true x (v + a) r, leb-true v (x + a) s, is-gentle a x xs q)
 
 is-move : (a top d : ℕ) (xs : List ℕ) → isSlow top xs ≡ true → isGentle a 0 (xs ++ 0 ∷ []) ≡ true → total xs ≡ d → Move a top d xs

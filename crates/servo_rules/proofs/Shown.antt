@@ -1,11 +1,11 @@
 -- What a reset forgets, a sample tells or Set Gain stores shows in the record and its answers. Assumes nothing.
 use mathlib.Core.Path.{_≡_, refl, ap, _∙_}
-use mathlib.Core.Bool.{Bool, false, _&&_, and-false}
+use mathlib.Core.Bool.{Bool, true, false, _&&_, and-false}
 use Prim.Native.Nat.{ℕ, _%_, _^_, _<_}
 use native.Mathlib.Omega.{arith}
-use borrow.Author.Tests.{eq-eqb, ne-eqb, le-ltb}
+use borrow.Author.Tests.{eq-eqb, ne-eqb}
 use lib.Dec.{eqb}
-use lib.IntN.{ℤ, pos, negsuc, natAbs}
+use lib.IntN.{ℤ, pos, natAbs}
 use lib.Signed.{ltZ}
 use Rattle.base_integers.specs.Whole.{less}
 use Rattle.line_receiver.specs.Frames.{Frame}
@@ -24,6 +24,7 @@ use Rattle.servo_rules.specs.Answers.{bitAt, numbersOf, outputsFrom, ser
 use Rattle.servo_rules.specs.Promises.{Resets, Enabled, Gains, Samples}
 use Rattle.servo_rules.proofs.Taken.{gain-read}
 use Rattle.servo_rules.proofs.Apart.{apart}
+use Rattle.servo_rules.proofs.Signs.{signed-itself}
 
 pub less-self : (x : ℕ) → x < 2 ^ 32 → less x x ≡ 0
 less-self x h = omega arith
@@ -47,10 +48,12 @@ resets f alone m d c n =
     }
 
 -- size and sign give the number back
+told-back : (t : Bool) → eqb (bitAt 1 t) 1 ≡ t
+told-back true = refl
+told-back false = refl
+
 signed-back : (z : ℤ) → signedBy (eqb (bitAt 1 (ltZ z (pos 0))) 1) (natAbs z) ≡ z
-unfolding signedBy
-signed-back (pos n) = rw (le-ltb n 0 (omega arith)) refl
-signed-back (negsuc n) = refl
+signed-back z = ap (λ (s : Bool). signedBy s (natAbs z)) (told-back (ltZ z (pos 0))) ∙ signed-itself z
 
 pub enabled : Enabled
 unfolding outputsFrom

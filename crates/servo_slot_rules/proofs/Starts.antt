@@ -9,7 +9,6 @@ use lib.Dec.{eqb, ltb}
 use lib.IntN.{ℤ, pos, natAbs}
 use Rattle.base_integers.specs.Whole.{less}
 use Rattle.base_integers.proofs.Same.{same-eq}
-use Rattle.base_integers.proofs.Sizes.{abs-neg}
 use Rattle.base_layout.specs.Bytes.{Bytes}
 use Rattle.base_layout.proofs.Every.{every-hold}
 use Rattle.servo_motion.specs.Profile.{fastest}
@@ -27,9 +26,10 @@ use Rattle.servo_rules.specs.declared.Servo.{Servo}
 use Rattle.servo_rules.specs.Carried.{isSet, carriedIn, inRange}
 use Rattle.servo_rules.specs.AskPromises.{LoadRanged}
 use Rattle.servo_rules.specs.State.{position, ready, idled}
-use Rattle.servo_rules.specs.Loads.{loadOf, ratesOf, loaded, startsNow, beginning, atRest, movable, completeBy, complete, startable, signedBy, toSpeed, toPlace, startedBy, start}
+use Rattle.servo_rules.specs.Loads.{loadOf, ratesOf, loaded, startsNow, beginning, atRest, movable, completeBy, complete, startable, toSpeed, toPlace, startedBy, start}
 use Rattle.servo_rules.specs.Perform.{can, perform}
 use Rattle.servo_rules.proofs.Bounds.{load-range, fit}
+use Rattle.servo_rules.proofs.Signs.{signed-size}
 use Rattle.servo_rules.proofs.Keeping.{either}
 use Rattle.servo_rules.proofs.Ranges.{beginning-small}
 use Rattle.servo_slot_rules.proofs.Good as Fit
@@ -37,11 +37,6 @@ use Rattle.servo_slot_rules.proofs.Good.{Rated, Live, Sane, Good, rates
 use Rattle.servo_slot_rules.proofs.Replaced.{settings-good, run-good, dropped-fits, idle, idled-sane, ready-live}
 
 -- ---- starts
-
-signed-size : (s : Bool) (n : ℕ) → natAbs (signedBy s n) ≡ n
-unfolding signedBy
-signed-size true n = abs-neg (pos n)
-signed-size false n = refl
 
 module _ {power : ℕ} {r : Run} (s : Sane power r) (l : Live power (r .drive .error)) where
   pub toSpeed-sane : (x : ℕ) (aim : ℤ) (a : ℕ) → x < 2 ^ 48 → natAbs aim ≤ fastest → a ≤ fastest → Sane power (toSpeed x aim a r)
