@@ -1,5 +1,5 @@
--- Beside the theorems of quickest moves: moves, lists and histories of calls that meet what they ask for, computed; and lists that lack one thing
--- of a move and are ahead of the trapezoid. Assumes nothing.
+-- Beside the theorems of quickest moves: the trapezoid's lists and other moves, computed, and lists that lack one thing of a move and are ahead.
+-- Assumes nothing.
 use mathlib.Core.Path.{_≡_, refl}
 use mathlib.Core.List.{List, [], _∷_, _++_}
 use mathlib.Core.Bool.{Bool, true, false, _&&_}
@@ -14,27 +14,18 @@ use Rattle.demands_rules.specs.Meaning.{gives, Holds}
 use Rattle.demands_rules.specs.Quickest.{total, final, Slow, Gentle, Move, speedsIn, reach}
 use Rattle.demands_rules.proofs.Racing.{no-quicker, no-sooner}
 
--- ---- the trapezoid's lists: bench sheet (f) and (g), V below A, d below A, d below both
+-- ---- the trapezoid's lists
 
-pub bench-f : speedsIn 5 2 5 12 0 ≡ 2 ∷ 4 ∷ 4 ∷ 2 ∷ 0 ∷ []
+-- bench sheet (f) and (g); V below A; d below A; d below both
+pub lists : Holds (
+    gives (speedsIn 5 2 5 12 0) (2 ∷ 4 ∷ 4 ∷ 2 ∷ 0 ∷ [])
+    ∷ gives (speedsIn 5 2 5 11 0) (2 ∷ 4 ∷ 3 ∷ 2 ∷ 0 ∷ [])
+    ∷ gives (speedsIn 5 5 2 7 0) (2 ∷ 2 ∷ 2 ∷ 1 ∷ 0 ∷ [])
+    ∷ gives (speedsIn 2 5 9 3 0) (3 ∷ 0 ∷ [])
+    ∷ gives (speedsIn 2 7 3 1 0) (1 ∷ 0 ∷ [])
+    ∷ [])
 unfolding speedsIn nextSpeed greatest pick stop terms
-bench-f = refl
-
-pub bench-g : speedsIn 5 2 5 11 0 ≡ 2 ∷ 4 ∷ 3 ∷ 2 ∷ 0 ∷ []
-unfolding speedsIn nextSpeed greatest pick stop terms
-bench-g = refl
-
-pub steep : speedsIn 5 5 2 7 0 ≡ 2 ∷ 2 ∷ 2 ∷ 1 ∷ 0 ∷ []
-unfolding speedsIn nextSpeed greatest pick stop terms
-steep = refl
-
-pub short : speedsIn 2 5 9 3 0 ≡ 3 ∷ 0 ∷ []
-unfolding speedsIn nextSpeed greatest pick stop terms
-short = refl
-
-pub shortest : speedsIn 2 7 3 1 0 ≡ 1 ∷ 0 ∷ []
-unfolding speedsIn nextSpeed greatest pick stop terms
-shortest = refl
+lists = (refl, (refl, (refl, (refl, (refl, tt)))))
 
 -- each arrives in as many ticks as its distance needs, and not in one less
 pub arrives : (12 ≤ reach 4 2 5 0) × (reach 3 2 5 0 < 12) × (7 ≤ reach 4 5 2 0) × (reach 3 5 2 0 < 7) × (3 ≤ reach 1 5 9 0)
