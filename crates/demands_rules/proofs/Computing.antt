@@ -20,7 +20,7 @@ use Rattle.api_rules.specs.Promises.{ValidRecord, Passes}
 use Rattle.demands_history_rules.specs.Events.{event}
 use Rattle.demands_history_rules.specs.Calls.{Call, byte, tick, AllHanded, refusals, leaves, leftBy, does}
 use Rattle.demands_history_rules.proofs.Calls.{call-kept, passed-leaves}
-use Rattle.demands_rules.proofs.OnTheLine.{byte-goes}
+use Rattle.demands_rules.proofs.OnTheLine.{byte-goes, tick-goes}
 
 -- the call is done on every valid record
 abbrev pub Open : Call → Type 0
@@ -74,7 +74,7 @@ spread room (b ∷ bs) = byte 0 (b .value) room ∷ tick ∷ spread room bs
 
 pub spread-open : (room : List ℕ) → roomSize ≤ length room → (bs : List Byte) → AllOpen (spread room bs)
 spread-open room l [] = tt
-spread-open room l (b ∷ bs) = (λ net v. byte-goes net room (record { value = b .value; mark = false }) (v .0) l, (λ net v. rw (v .0) refl, spread-open room l bs))
+spread-open room l (b ∷ bs) = (λ net v. byte-goes net room (record { value = b .value; mark = false }) (v .0) l, (λ net v. tick-goes net (v .0), spread-open room l bs))
 
 pub spread-handed : (room : List ℕ) (bs : List Byte) → AreBytes (values bs) → AllHanded (spread room bs)
 spread-handed room [] h = tt

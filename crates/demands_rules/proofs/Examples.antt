@@ -54,7 +54,7 @@ use Rattle.demands_rules.specs.Sent.{MoveSent, PulseSent, WasSent}
 use Rattle.demands_rules.proofs.Motion.{resting-rests, frame-starts}
 use Rattle.demands_rules.proofs.Sent.{what-moves-was-sent}
 use Rattle.demands_rules.proofs.EveryCall.{every-call, never}
-use Rattle.demands_rules.proofs.OnTheLine.{small, fed-handed, fed-done, question-on-the-line}
+use Rattle.demands_rules.proofs.OnTheLine.{small, tick-goes, fed-handed, fed-done, question-on-the-line}
 
 -- ---- a servo and frames for it
 
@@ -227,7 +227,7 @@ module _ (orders : List Byte) (small : AreBytes (values orders)) where
   all-done =
       done-passed (servoSample 0 0 1 0) (tick ∷ fed room orders) lent (rw (valid .0, held) refl)
       ∙ ap (λ (l : List (Event AnySample)). Events.sampled 0 (servoSampleOf 0 1 0) ∷ l)
-      (done-passed tick (fed room orders) sampledLent (rw (sampled-valid .0) refl)
+      (done-passed tick (fed room orders) sampledLent (tick-goes sampledLent (sampled-valid .0))
       ∙ ap (λ (l : List (Event AnySample)). Events.ticked ∷ l)
       (fed-done room orders (leaves sampledLent tick) enough (call-kept sampledLent tick tt sampled-valid) small ∙ sym (append-nil _)))
 

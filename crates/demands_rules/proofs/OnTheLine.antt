@@ -24,7 +24,7 @@ use Rattle.net_rules.specs.Record.{roomSize, netIn, valid}
 use Rattle.net_rules.specs.Calls.{byteOf}
 use Rattle.api_rules.specs.Promises.{ValidRecord, Passes}
 use Rattle.demands_history_rules.specs.Events.{Event, sent, Outcome, taking, run, Reads, singly}
-use Rattle.demands_history_rules.specs.Calls.{Call, byte, AllHanded, refusals, leaves, leftBy, doneBy}
+use Rattle.demands_history_rules.specs.Calls.{Call, byte, tick, AllHanded, refusals, leaves, leftBy, doneBy}
 use Rattle.demands_history_rules.proofs.Events.{whole-event, event-idle}
 use Rattle.demands_history_rules.proofs.Singly.{run-singly}
 use Rattle.demands_history_rules.proofs.Calls.{call-kept}
@@ -54,6 +54,9 @@ byte-goes net room b v r = at (b .mark)
     at : (t : Bool) → Passes (refusals net (byte (cond t 1 0) (b .value) room))
     at true = rw (v, le-ltb (length room) roomSize r) refl
     at false = rw (v, le-ltb (length room) roomSize r) refl
+
+pub tick-goes : (net : List ℕ) → valid slots net ≡ true → Passes (refusals net tick)
+tick-goes net v = rw v refl
 
 pub fed-handed : (room : List ℕ) (bs : List Byte) → AreBytes (values bs) → AllHanded (fed room bs)
 fed-handed room [] h = tt

@@ -2,7 +2,7 @@
 use mathlib.Core.Path.{_≡_, refl, sym, ap, subst, _∙_}
 use mathlib.Core.Logic.{inl, inr, _↔_}
 use mathlib.Core.List.{List, [], _∷_}
-use mathlib.Core.Bool.{Bool, true, false, cond, not, true≢false}
+use mathlib.Core.Bool.{Bool, true, false, true≢false}
 use mathlib.Core.Option.{some}
 use Prim.Native.Nat.{ℕ, zero, suc, _+_, _-_, _*_, _<_, _≤_}
 use native.Mathlib.Omega.{arith}
@@ -58,7 +58,7 @@ use Rattle.types_rules.specs.Types.{slots}
 use Rattle.types_rules.proofs.Promised.{every-type}
 use Rattle.net_rules.specs.Record.{netIn}
 use Rattle.api_rules.specs.Table.{first, servoSampleTable, tickTable}
-use Rattle.api_rules.specs.Promises.{ValidRecord, Passes}
+use Rattle.api_rules.specs.Promises.{ValidRecord}
 use Rattle.api_rules.proofs.Refused as Refused
 use Rattle.demands_history_rules.specs.Calls.{Call, byte, servoSample, ioSample, tick, AllHanded, leaves, leftBy}
 use Rattle.demands_history_rules.proofs.Calls.{call-kept}
@@ -69,6 +69,7 @@ use Rattle.demands_rules.specs.Quickest.{total, final, speedsFrom, ticks
 use Rattle.demands_rules.proofs.Known.{Known, known, BitOf, haltBits, halt-bits}
 use Rattle.demands_rules.proofs.Making.{same-place, fits-at, Silent, Made, same, framed, measured, timed, made}
 use Rattle.demands_rules.proofs.Motion.{load-started}
+use Rattle.demands_rules.proofs.OnTheLine.{tick-goes}
 use Rattle.demands_rules.proofs.Placing.{call-at, valid-after, Only, executed-by}
 use Rattle.demands_rules.proofs.Racing.{no-quicker, never-past}
 use Rattle.demands_rules.proofs.Mirroring.{Goes, can-stop, sets-off, after-tick, Gone, gone}
@@ -131,9 +132,6 @@ tick-steps m e p l =
     let r = ticks m .runs p (ap servoOff e) l in
     (r .0 ∙ ap (λ (k : Mode). advancedBy k (m .run .profile)) e, r .2 ∙ e)
 
-valid-ticks : (net : List ℕ) → ValidRecord net → Passes (tickTable net)
-valid-ticks net v = ap (λ (t : Bool). cond (not t) 16 0) (v .0)
-
 -- k runs as m would after n ticks
 abbrev Later : ℕ → Servo → Servo → Type 0
 Later n m k = (k .run .profile ≡ Profiles.after n (m .run .profile)) × (k .run .drive .mode ≡ m .run .drive .mode)
@@ -150,7 +148,7 @@ time-steps net i (ioSample place inputs ad1 ad2 ad3 counter) m v e q = (refl, re
 time-steps net i tick m v e q =
     let (p, l) = q refl in
     let (f, g) = tick-steps m e p l in
-    subst (Later 1 m) (Refused.done (tickTable net) m (ticked m) refl (valid-ticks net v)) (f, g ∙ sym e)
+    subst (Later 1 m) (Refused.done (tickTable net) m (ticked m) refl (tick-goes net (v .0))) (f, g ∙ sym e)
 
 -- ---- one call more, and any number
 

@@ -68,8 +68,8 @@ NoSooner =
     (a top d : ℕ) (xs : List ℕ) → 0 < a → 0 < d → Move a top d xs → (n : ℕ) → total (take n xs) ≡ d
     → (total (speedsIn n a top d 0) ≡ d) × (final 0 (take n xs) ≡ 0 → final 0 (speedsIn n a top d 0) ≡ 0)
 
--- The most that n ticks cover from the speed v to rest: the next tick goes at v + a, at n a, from which n ticks can brake, or at top, whichever is
--- the least of the three.
+-- The most that n ticks cover from rest to rest, where v is 0: the next tick goes as fast as the ramp has come to, v + a, as n ticks can brake from,
+-- n a, or as top, whichever is the least; then n - 1 ticks go on with the ramp at v + a.
 unfoldable pub reach : ℕ → ℕ → ℕ → ℕ → ℕ
 reach zero a top v = 0
 reach (suc n) a top v = min (min (v + a) (suc n * a)) top + reach n a top (v + a)
