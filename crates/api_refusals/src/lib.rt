@@ -1,6 +1,7 @@
 // Which refusal a call meets, by its table.
 ghost use mathlib.Core.Path.{_≡_};
-ghost use Rattle.api_rules.specs.Table.{first, setupTable, byteTable, sampleTable, outputsTable};
+ghost use Rattle.base_layout.specs.First.{first};
+ghost use Rattle.api_rules.specs.Table.{setupTable, byteTable, sampleTable, outputsTable};
 
 pub fn setup_refusal(net: &[u8], types: &[u8]) -> u32
     ensures { λ r. ⌜ r ≡ first (setupTable (now (net .entry)) (now (types .entry))) ⌝ }

@@ -13,10 +13,10 @@ use Rattle.types_rules.proofs.Promised.{numbers}
 use Rattle.net_rules.specs.Record.{valid}
 use Rattle.net_rules.specs.Calls.{allKnown, isOf}
 use Rattle.net_rules.proofs.Calls.{type-beyond}
-use Rattle.api_rules.specs.Table.{Line, first, setupTable, byteTable, servoSampleTable, ioSampleTable, tickTable, outputsTable}
-use Rattle.api_rules.specs.Promises.{Given, here, later}
+use Rattle.base_layout.specs.First.{Line, first, Given, here, later}
+use Rattle.api_rules.specs.Table.{setupTable, byteTable, servoSampleTable, ioSampleTable, tickTable, outputsTable}
 use Rattle.api_rules.specs.TablePromises.{BadRecord, SetupBounds, ByteBounds, ServoBounds, IoBounds, OtherBounds, chainLength}
-use Rattle.api_rules.proofs.Tables.{given-first, none-first}
+use Rattle.base_layout.proofs.First.{given-first, none-first}
 
 -- the number that a table gives
 gives : {n : ℕ} (ls : List Line) → Given n ls → first ls ≡ n

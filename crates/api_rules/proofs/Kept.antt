@@ -21,7 +21,8 @@ use Rattle.net_rules.proofs.Valid.{valid-is}
 use Rattle.net_rules.proofs.Stored as Stored
 use Rattle.net_rules.proofs.Kept as Net
 use Rattle.net_rules.proofs.Powered as Powered
-use Rattle.api_rules.specs.Table.{Line, setupTable, byteTable, sampleTable, tickTable}
+use Rattle.base_layout.specs.First.{Line}
+use Rattle.api_rules.specs.Table.{setupTable, byteTable, sampleTable, tickTable}
 use Rattle.api_rules.specs.Calls.{stepOf, servoSampleOf, ioSampleOf, sampleRecord, setupRecord, byteRecord, tickRecord}
 use Rattle.api_rules.specs.Promises.{Passes, ValidRecord, ServoHanded, IoHanded, Kept, Holds, ThereAndBack}
 use Rattle.api_rules.proofs.Refused.{done, either-way, setup-passes, setup-some, byte-passes, sample-passes, tick-passes}

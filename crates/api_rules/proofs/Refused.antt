@@ -14,10 +14,11 @@ use Rattle.net_rules.specs.declared.Called.{Called}
 use Rattle.net_rules.specs.Record.{chainMost, recordSize, roomSize, netIn, stored, valid}
 use Rattle.net_rules.specs.Calls.{byteOf, calledBy, sampleStep}
 use Rattle.net_rules.proofs.Calls.{of-type-below}
-use Rattle.api_rules.specs.Table.{Line, first, setupTable, byteTable, sampleTable, tickTable, outputsTable}
+use Rattle.base_layout.specs.First.{Line, first}
+use Rattle.api_rules.specs.Table.{setupTable, byteTable, sampleTable, tickTable, outputsTable}
 use Rattle.api_rules.specs.Promises.{Passes}
 use Rattle.api_rules.specs.Calls.{unless, stepOf, sampleRecord, byteNumber, byteRecord, byteRoom, byteWritten}
-use Rattle.api_rules.proofs.Tables.{none-applies}
+use Rattle.base_layout.proofs.First.{none-applies}
 
 -- by the number that a refusing function gave
 pub refused : {A : Type 0} (ls : List Line) (x y : A) {n : ℕ} → n ≡ first ls → (n ≡ 0 → ⊥) → x ≡ unless ls x y

@@ -28,7 +28,8 @@ use Rattle.net_rules.specs.Calls.{byteOf}
 use Rattle.net_rules.proofs.Valid.{valid-is}
 use Rattle.net_rules.proofs.Head.{length-receiver}
 use Rattle.net_rules.proofs.Exact.{waits, length-modules}
-use Rattle.api_rules.specs.Table.{Line, first, byteTable}
+use Rattle.base_layout.specs.First.{Line, first}
+use Rattle.api_rules.specs.Table.{byteTable}
 use Rattle.api_rules.specs.Calls.{stepOf, byteNumber, byteRecord, byteRoom, byteWritten}
 use Rattle.api_rules.specs.Promises.{Passes, WrittenRoom, NoFrame}
 use Rattle.api_rules.proofs.Refused.{done, either-way, byte-passes}

@@ -18,7 +18,8 @@ use Rattle.chain_rules.proofs.Bytes.{step-on, step-end, number-told}
 use Rattle.types_rules.specs.Types.{Module, kind, slots}
 use Rattle.net_rules.specs.Record.{roomSize, netIn, stored, valid}
 use Rattle.net_rules.specs.Calls.{byteOf, fresh, tickStep, sampleStep, outputsIn, outputsAt}
-use Rattle.api_rules.specs.Table.{Line, first, setupTable, byteTable, servoSampleTable, ioSampleTable, tickTable, outputsTable}
+use Rattle.base_layout.specs.First.{Line, first}
+use Rattle.api_rules.specs.Table.{setupTable, byteTable, servoSampleTable, ioSampleTable, tickTable, outputsTable}
 use Rattle.api_rules.specs.Calls.{unless, stepOf, servoSampleOf, ioSampleOf, sampleRecord, setupRecord, byteNumber, tickRecord, outputsBytes, readingBytes}
 use Rattle.api_rules.specs.Promises.{Refuses, Passes, Unchanged, Answers, OutputsTold, ReadingSpelled, OneOutcome}
 use Rattle.api_rules.specs.TablePromises.{ByteNumbers}

@@ -12,7 +12,8 @@ use Rattle.types_rules.specs.Types.{Module, AnySample, kind, slots}
 use Rattle.net_rules.specs.Record.{netIn, stored}
 use Rattle.net_rules.specs.Calls.{byteOf, fresh, tickStep, sampleStep, outputsAt}
 use Rattle.host_rules.specs.declared.Reading.{Reading}
-use Rattle.api_rules.specs.Table.{Line, first, setupTable, byteTable, tickTable, outputsTable}
+use Rattle.base_layout.specs.First.{Line, first}
+use Rattle.api_rules.specs.Table.{setupTable, byteTable, tickTable, outputsTable}
 
 -- what holds where no line of a table applies, and what where one does
 abbrev pub unless : {A : Type 0} → List Line → A → A → A

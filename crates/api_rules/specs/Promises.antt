@@ -8,6 +8,7 @@ use mathlib.Core.Bool.{true, false}
 use mathlib.Core.Option.{some}
 use lib.ListN.{length, getD, getElem?, take, drop}
 use Rattle.base_layout.specs.Bytes.{le, Bytes}
+use Rattle.base_layout.specs.First.{Line, first, Ordered}
 use Rattle.line_receiver.specs.Frames.{Frame}
 use Rattle.module_rules.specs.Report.{itemsFor}
 use Rattle.module_rules.specs.Kind.{executed, replied}
@@ -23,35 +24,8 @@ use Rattle.net_rules.specs.Promises.{There, Back}
 use Rattle.host_rules.specs.declared.Answered.{Answered}
 use Rattle.host_rules.specs.Reading.{statusOf}
 use Rattle.host_rules.specs.Promises.{shown}
-use Rattle.api_rules.specs.Table.{Line, first, setupTable, byteTable, servoSampleTable, ioSampleTable, tickTable, outputsTable}
+use Rattle.api_rules.specs.Table.{setupTable, byteTable, servoSampleTable, ioSampleTable, tickTable, outputsTable}
 use Rattle.api_rules.specs.Calls.{setupRecord, stepOf, byteNumber, byteRecord, byteRoom, byteWritten, servoSampleOf, ioSampleOf, sampleRecord, tickRecord, outputsBytes, readingBytes}
-
--- n is given by a table: a line with the number n applies, and no line before it does
-pub data Given (n : ℕ) : List Line → Type 0 where
-  here : {l : Line} {ls : List Line} → l .number ≡ n → l .applies ≡ true → Given n (l ∷ ls)
-  later : {l : Line} {ls : List Line} → l .applies ≡ false → Given n ls → Given n (l ∷ ls)
-
--- no line of a table applies
-abbrev pub NoneApplies : List Line → Type 0
-NoneApplies [] = Unit {0}
-NoneApplies (l ∷ ls) = (l .applies ≡ false) × NoneApplies ls
-
--- no line has the number 0
-abbrev pub Numbered : List Line → Type 0
-Numbered [] = Unit {0}
-Numbered (l ∷ ls) = (0 < l .number) × Numbered ls
-
--- A number other than 0 is given exactly when a line with it applies and none before it; 0 is given exactly when none applies.
-abbrev pub Exactly : Type 0
-Exactly =
-    (ls : List Line)
-    → Numbered ls
-    → ((n : ℕ) → (n ≡ 0 → ⊥) → (first ls ≡ n) ↔ Given n ls)
-    × ((first ls ≡ 0) ↔ NoneApplies ls)
-
--- these are the numbers of a table, in its order, and none is 0
-abbrev pub Ordered : List Line → List ℕ → Type 0
-Ordered ls ns = (map (λ (l : Line). l .number) ls ≡ ns) × Numbered ls
 
 -- The tables have the order of document 01, "Numbers given back": 16, 11, 12, 13, 14, 15.
 pub record Tables : Type 0 where

@@ -1,24 +1,15 @@
 -- The refusals of each call of a network, in the order of the table (document 01, "Numbers given back").
 use Prim.Native.Nat.{ℕ}
 use mathlib.Core.List.{List, [], _∷_}
-use mathlib.Core.Bool.{Bool, cond, not, _||_}
+use mathlib.Core.Bool.{Bool, not, _||_}
 use lib.ListN.{length}
 use lib.Dec.{eqb, ltb}
+use Rattle.base_layout.specs.First.{Line}
 use Rattle.inout_rules.specs.Answers as Inout
 use Rattle.servo_rules.specs.Answers as Servos
 use Rattle.types_rules.specs.Types.{slots}
 use Rattle.net_rules.specs.Record.{chainMost, recordSize, roomSize, netIn, valid}
 use Rattle.net_rules.specs.Calls.{allKnown, ofType}
-
--- a line of the table: its number, and whether it applies
-pub record Line : Type 0 where
-  pub number : ℕ
-  pub applies : Bool
-
--- the number of the first line that applies, 0 where none does
-abbrev pub first : List Line → ℕ
-first [] = 0
-first (l ∷ ls) = cond (l .applies) (l .number) (first ls)
 
 -- 16: the record breaks the list of what a record satisfies, its length among it
 abbrev pub broken : List ℕ → Line

@@ -13,7 +13,8 @@ use Rattle.types_rules.specs.Table.{servo, inout, Of}
 use Rattle.types_rules.specs.Types.{Module, slots}
 use Rattle.types_rules.specs.Promises.{ThereIs}
 use Rattle.net_rules.specs.Record.{netIn, valid}
-use Rattle.api_rules.specs.Table.{first, setupTable, byteTable, servoSampleTable, ioSampleTable, tickTable, outputsTable}
+use Rattle.base_layout.specs.First.{first}
+use Rattle.api_rules.specs.Table.{setupTable, byteTable, servoSampleTable, ioSampleTable, tickTable, outputsTable}
 use Rattle.api_rules.specs.Calls.{byteNumber}
 use Rattle.api_rules.specs.Promises.{Passes}
 

@@ -9,7 +9,7 @@ use lib.Dec.{eqb}
 use Rattle.chain_rules.specs.Chain.{flat}
 use Rattle.types_rules.specs.Types.{kind, slots}
 use Rattle.net_rules.specs.Record.{netIn}
-use Rattle.api_rules.specs.Table.{Line, first}
+use Rattle.base_layout.specs.First.{Line, first}
 use Rattle.api_rules.specs.Calls.{stepOf}
 use Rattle.api_rules.specs.Promises.{ValidRecord, Refuses, Passes}
 use Rattle.api_rules.proofs.Kept.{kept, holds}

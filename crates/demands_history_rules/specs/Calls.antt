@@ -5,7 +5,8 @@ use lib.ListN.{take}
 use lib.Dec.{eqb}
 use Rattle.types_rules.specs.Types.{AnySample}
 use Rattle.net_rules.specs.Calls.{byteOf}
-use Rattle.api_rules.specs.Table.{Line, byteTable, servoSampleTable, ioSampleTable, tickTable}
+use Rattle.base_layout.specs.First.{Line}
+use Rattle.api_rules.specs.Table.{byteTable, servoSampleTable, ioSampleTable, tickTable}
 use Rattle.api_rules.specs.Calls.{unless, byteRecord, byteRoom, byteWritten, servoSampleOf, ioSampleOf, sampleRecord, tickRecord}
 use Rattle.api_rules.specs.Promises.{ServoHanded, IoHanded}
 use Rattle.demands_history_rules.specs.Events.{Event, sent, sampled, ticked}

@@ -20,7 +20,8 @@ use Rattle.servo_rules.specs.Answers.{withCause, execute}
 use Rattle.servo_rules.proofs.Keeping.{either}
 use Rattle.types_rules.specs.Types.{slots}
 use Rattle.net_rules.specs.Record.{netIn}
-use Rattle.api_rules.specs.Table.{first, servoSampleTable, tickTable}
+use Rattle.base_layout.specs.First.{first}
+use Rattle.api_rules.specs.Table.{servoSampleTable, tickTable}
 use Rattle.api_rules.specs.Calls.{unless}
 use Rattle.api_rules.specs.Promises.{ValidRecord}
 use Rattle.demands_history_rules.specs.Calls.{Call, byte, servoSample, ioSample, tick, AllHanded}

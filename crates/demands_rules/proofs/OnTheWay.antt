@@ -57,7 +57,8 @@ use Rattle.types_rules.specs.Table.{servo}
 use Rattle.types_rules.specs.Types.{slots}
 use Rattle.types_rules.proofs.Promised.{every-type}
 use Rattle.net_rules.specs.Record.{netIn}
-use Rattle.api_rules.specs.Table.{first, servoSampleTable, tickTable}
+use Rattle.base_layout.specs.First.{first}
+use Rattle.api_rules.specs.Table.{servoSampleTable, tickTable}
 use Rattle.api_rules.specs.Promises.{ValidRecord}
 use Rattle.api_rules.proofs.Refused as Refused
 use Rattle.demands_history_rules.specs.Calls.{Call, byte, servoSample, ioSample, tick, AllHanded, leaves, leftBy}
