@@ -21,7 +21,7 @@ use Rattle.inout_rules.specs.Pins.{blend}
 use Rattle.inout_rules.specs.Answers as Inout
 use Rattle.servo_filter.specs.Filter.{held}
 use Rattle.servo_rules.specs.Carried.{carriedIn, inRange}
-use Rattle.servo_rules.specs.Asks.{loadRequest, gainsIn, gainsFit, gainRequest, haltOf, stopRequest, own}
+use Rattle.servo_rules.specs.Asks.{loadMeant, gainsIn, gainsFit, gainMeant, haltOf, stopMeant, own}
 use Rattle.servo_rules.specs.State.{idled}
 use Rattle.servo_rules.specs.Loads.{wayOf, loadOf, loaded, complete, startable, signedBy, start}
 use Rattle.servo_rules.specs.Perform.{stopped}
@@ -123,7 +123,7 @@ unfolding ready taken byteStep
 idles = refl
 
 ready-addresses : addresses kind (ready .modules) ≡ ws
-unfolding ws ready taken byteStep asked request execute own Tick.ticked gainRequest gainsFit gainsIn stopRequest ones haltOf stopped
+unfolding ws ready taken byteStep asked request execute own Tick.ticked gainMeant gainsFit gainsIn stopMeant ones haltOf stopped
 ready-addresses = refl
 
 met-by : (i : ℕ) → metBy ws i oneByOne ≡ metBy ws i inTurns
@@ -172,7 +172,7 @@ in-turns =
     (x, (a, (y, (b, (c, (z, (d, tt)))))))
 
 lives : Lives (run kind oneByOne ready) × Lives (run kind inTurns ready)
-unfolding ready taken byteStep asked request execute reply replyOf report InoutAsks.own blend own gainRequest gainsFit gainsIn stopRequest haltOf loadRequest ones inRange carriedIn loaded loadOf wayOf complete startable signedBy start idled stopped held putOut pulsed ran Tick.ticked done statusOf numbersOf outputsFrom
+unfolding ready taken byteStep asked request execute reply replyOf report InoutAsks.own blend own gainMeant gainsFit gainsIn stopMeant haltOf loadMeant ones inRange carriedIn loaded loadOf wayOf complete startable signedBy start idled stopped held putOut pulsed ran Tick.ticked done statusOf numbersOf outputsFrom
 lives = (
   record { servoDrives = refl; inoutDrives = refl; servoReplied = refl; inoutReplied = refl },
   record { servoDrives = refl; inoutDrives = refl; servoReplied = refl; inoutReplied = refl },

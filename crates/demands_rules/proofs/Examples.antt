@@ -25,7 +25,7 @@ use Rattle.servo_filter.specs.Filter.{filtered}
 use Rattle.servo_rules.specs.declared.Mode.the-variants.{Pwm, Velocity, Trapezoid}
 use Rattle.servo_rules.specs.declared.Servo.{Servo}
 use Rattle.servo_rules.specs.Carried.{needed, carriedIn, inRange}
-use Rattle.servo_rules.specs.Asks.{loadRequest, haltOf, stopRequest, own}
+use Rattle.servo_rules.specs.Asks.{loadMeant, haltOf, stopMeant, own}
 use Rattle.servo_rules.specs.State.{started, sampled, idled}
 use Rattle.servo_rules.specs.Loads.{wayOf, loadOf, ratesOf, loaded, beginningAt, movable, complete, startable, signedBy, toSpeed, toPlace, start}
 use Rattle.servo_rules.specs.Perform.{holding, stopped}
@@ -110,21 +110,21 @@ rests = resting-rests awake (record { speed = refl; pulse = refl; aim = λ e. re
 
 -- each of the three begins motion
 pub by-start : Begins (execute pulse true awake) (execute go true (execute pulse true awake))
-unfolding Any.execute Any.request asked own ticked ran loadRequest carriedIn inRange loaded loadOf wayOf startable complete start idled signedBy ones
+unfolding Any.execute Any.request asked own ticked ran loadMeant carriedIn inRange loaded loadOf wayOf startable complete start idled signedBy ones
 by-start = out (moving (still (execute pulse true awake) refl refl) (inr (some-number 99 _ refl)))
 
 pub by-load : Begins awake (execute speed true awake)
-unfolding Any.execute Any.request asked own ticked loadRequest carriedIn inRange loaded loadOf ratesOf wayOf startable complete start toSpeed signedBy ones
+unfolding Any.execute Any.request asked own ticked loadMeant carriedIn inRange loaded loadOf ratesOf wayOf startable complete start toSpeed signedBy ones
 by-load = out (bound (rests .1) (inl (refl, some-number 99 _ refl)))
 
 pub by-stop-here : Begins awake (execute here true awake)
-unfolding Any.execute Any.request asked own ticked ran stopRequest haltOf stopped holding difference signed ones
+unfolding Any.execute Any.request asked own ticked ran stopMeant haltOf stopped holding difference signed ones
 by-stop-here =
     let e : following (execute here true awake) ≡ pos 100 = refl in
     put (some-number 99 _ e) (some-number 99 _ e)
 
 pub by-turning-on : Begins awake (execute here true awake)
-unfolding Any.execute Any.request asked own ticked ran stopRequest haltOf stopped holding difference signed ones
+unfolding Any.execute Any.request asked own ticked ran stopMeant haltOf stopped holding difference signed ones
 by-turning-on = turnedOn refl refl (some-number 99 _ refl)
 
 pub starts : Starts speed true awake
@@ -132,11 +132,11 @@ starts = frame-starts speed true awake awake-fits by-load
 
 -- the speed laws of both modes speak of ticks that there are
 pub climbs : (execute speed true awake .run .drive .mode ≡ Velocity) × (ticked (execute speed true awake) .run .drive .mode ≡ Velocity) × Moves (ticked (execute speed true awake))
-unfolding Any.execute Any.request asked own ticked ran loadRequest carriedIn inRange loaded loadOf ratesOf wayOf startable complete start beginningAt toSpeed signedBy ones servoed advanced byVelocity stepped moved toward difference signed filtered
+unfolding Any.execute Any.request asked own ticked ran loadMeant carriedIn inRange loaded loadOf ratesOf wayOf startable complete start beginningAt toSpeed signedBy ones servoed advanced byVelocity stepped moved toward difference signed filtered
 climbs = (refl, refl, inl (some-number 99 _ refl))
 
 pub travels : (execute go true (execute move true awake) .run .drive .mode ≡ Trapezoid) × (ticked (execute go true (execute move true awake)) .run .drive .mode ≡ Trapezoid)
-unfolding Any.execute Any.request asked own ticked ran loadRequest carriedIn inRange loaded loadOf ratesOf wayOf startable complete movable same start beginningAt toPlace distance difference signed ones servoed advanced byTrapezoid trapezoid stepped moved filtered terms stop pick greatest nextSpeed
+unfolding Any.execute Any.request asked own ticked ran loadMeant carriedIn inRange loaded loadOf ratesOf wayOf startable complete movable same start beginningAt toPlace distance difference signed ones servoed advanced byTrapezoid trapezoid stepped moved filtered terms stop pick greatest nextSpeed
 travels = (refl, refl)
 
 -- ---- a record of one servo
@@ -273,11 +273,11 @@ unfolding taken byteStep Any.execute Any.request asked own ticked
 ends-moving = ends-in pulseOrders pulse-bytes gone refl
 
 pub ends-bound : At (leftBy (calls moveOrders) lent) 0 sentOff
-unfolding taken byteStep Any.execute Any.request asked own ticked loadRequest ones inRange carriedIn loaded
+unfolding taken byteStep Any.execute Any.request asked own ticked loadMeant ones inRange carriedIn loaded
 ends-bound = ends-in moveOrders move-bytes sentOff refl
 
 gone-moves : Moves gone
-unfolding Any.execute Any.request asked own ticked loadRequest carriedIn inRange loaded loadOf wayOf startable complete start idled signedBy ones
+unfolding Any.execute Any.request asked own ticked loadMeant carriedIn inRange loaded loadOf wayOf startable complete start idled signedBy ones
 gone-moves = inr (some-number 99 _ refl)
 
 started-rests : AtRest started
@@ -290,7 +290,7 @@ was-started =
 
 -- and what it does was sent: the PWM byte, and the position
 gone-pulses : gone .run .drive .mode ≡ Pwm
-unfolding Any.execute Any.request asked own ticked loadRequest carriedIn inRange loaded loadOf wayOf startable complete start idled signedBy ones
+unfolding Any.execute Any.request asked own ticked loadMeant carriedIn inRange loaded loadOf wayOf startable complete start idled signedBy ones
 gone-pulses = refl
 
 pub was-sent : PulseSent lent (calls pulseOrders) 0 (length (calls pulseOrders))

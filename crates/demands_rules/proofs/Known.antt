@@ -6,8 +6,9 @@ use Prim.Native.Nat.{ℕ}
 use lib.ListN.{length, getD}
 use lib.Dec.{eqb}
 use Rattle.line_receiver.specs.Frames.{Frame}
+use Rattle.module_rules.specs.declared.Fault.the-variants.{Count}
 use Rattle.module_rules.specs.Rules.{Request, malformed, set, reset, wants}
-use Rattle.module_rules.proofs.Settled.{asks}
+use Rattle.module_rules.proofs.Settled.{Of, asks}
 use Rattle.servo_rules.specs.declared.Halt.{Halt}
 use Rattle.servo_rules.specs.declared.Halt.the-variants.{Keep, Release, Abrupt, Smooth, Here}
 use Rattle.servo_rules.specs.declared.Order.{Order}
@@ -15,10 +16,10 @@ use Rattle.servo_rules.specs.declared.Order.the-variants.{ResetPosition, LoadTr
 use Rattle.servo_rules.specs.declared.Way.{Way}
 use Rattle.servo_rules.specs.declared.Way.the-variants.{Pulse, Speed, Move}
 use Rattle.servo_rules.specs.Carried.{isSet, needed, carriedIn}
-use Rattle.servo_rules.specs.Asks.{haltOf, stopCount, own}
+use Rattle.servo_rules.specs.Asks.{loadMeant, gainMeant, haltOf, stopCount, stopMeant}
 use Rattle.servo_rules.specs.Loads.{wayOf}
 use Rattle.servo_rules.specs.Answers.{servo, request}
-use Rattle.servo_rules.proofs.Asks.{own-asks}
+use Rattle.servo_rules.proofs.Asks.{own-means}
 use Rattle.servo_rules.proofs.Coding.{codes}
 use Rattle.servo_rules.proofs.Taken.{load-read}
 use Rattle.demands_rules.specs.Sent.{control, Has, Lacks, WholeLoad, Drops, numberIn}
@@ -36,7 +37,7 @@ spares f e (inr (inr (inr (inr h)))) = false≢true (sym (ap spared (h .0)) ∙ 
 
 -- what is known of a frame by what it asks
 abbrev pub Known : Frame → Request Order → Type 0
-Known f malformed = Unit {0}
+Known f (malformed x) = Unit {0}
 Known f (set s) = Drops f → ⊥
 Known f reset = f .code ≡ 15
 Known f (wants ResetPosition) = f .code ≡ 0
@@ -52,21 +53,22 @@ module _ (f : Frame) where
   spared-by c s e = spares f (ap spared e ∙ s)
 
   pub known : (alone : Bool) → Known f (request f alone)
+  unfolding loadMeant gainMeant stopMeant
   known alone = asks servo (Known f) f alone (record {
-    malformed = tt;
+    malformed = λ x. tt;
     assign = spared-by 1 refl;
     define = spared-by 2 refl;
     rate = spared-by 10 refl;
     nothing = either;
     reset = λ e. e;
-    own = own-asks (Known f) (f .code) (f .content) (record {
-      malformed = tt;
-      resetPosition = λ c. c;
-      load = λ c n h. ((c, n), refl);
-      start = λ c n. (c, n);
-      gain = λ c h. spared-by 6 refl c;
-      stop = λ c n. (c, refl, refl, n);
-      clearBits = spared-by 11 refl;
+    own = own-means (Of (λ (c : Order). Known f (wants c)) (f .content)) (f .code) (f .content) (record {
+      unknown = tt;
+      resetPosition = λ c n g. c;
+      load = λ c n g. ((c, n), refl);
+      start = λ c n g. (c, n);
+      gain = λ c n g. spared-by 6 refl c;
+      stop = λ c n g. (c, refl, refl, n);
+      clearBits = λ c n g. spared-by 11 refl c;
     });
   })
     where
@@ -74,11 +76,11 @@ module _ (f : Frame) where
       either (inl e) = spared-by 3 refl e
       either (inr e) = spared-by 14 refl e
 
--- code 5 without data asks for a start; a load with a wrong count is malformed
+-- code 5 without data asks for a start; a load with another count than its control byte asks for has a wrong count
 pub start-asks : (f : Frame) (alone : Bool) → f .code ≡ 5 → length (f .content) ≡ 0 → request f alone ≡ wants Start
 start-asks f alone c n = codes f alone .start c .0 n
 
-pub short-asks : (f : Frame) (alone : Bool) → f .code ≡ 4 → (length (f .content) ≡ needed (getD (f .content) 0 0) → ⊥) → request f alone ≡ malformed
+pub short-asks : (f : Frame) (alone : Bool) → f .code ≡ 4 → (length (f .content) ≡ needed (getD (f .content) 0 0) → ⊥) → request f alone ≡ malformed Count
 short-asks f alone c n = codes f alone .load c ∙ load-read (f .content) .count n
 
 -- ---- bits by what they say

@@ -152,13 +152,13 @@ StopsHere (Stop a h x) = isHere h ≡ true
 StopsHere ClearBits = ⊥
 
 abbrev orderIn : Request Order → Order
-orderIn malformed = Start
+orderIn (malformed x) = Start
 orderIn (set s) = Start
 orderIn reset = Start
 orderIn (wants c) = c
 
 abbrev isWanted : Request Order → Bool
-isWanted malformed = false
+isWanted (malformed x) = false
 isWanted (set s) = false
 isWanted reset = false
 isWanted (wants c) = true
@@ -189,7 +189,7 @@ module _ (f : Frame) (alone : Bool) (m : Servo) where
 
       at : (d : Bool) → f .damaged ≡ d → (q : Request Order) → request f alone ≡ q → S ⊎ None P
       at true d q e = inr (λ c o z. true≢false (sym d ∙ o .0))
-      at false d malformed e = none malformed e refl
+      at false d (malformed x) e = none (malformed x) e refl
       at false d (set s) e = none (set s) e refl
       at false d reset e = none reset e refl
       at false d (wants c) e = able c d e (can c m) refl

@@ -25,7 +25,7 @@ use Rattle.servo_filter.specs.Filter.{filtered}
 use Rattle.servo_rules.specs.declared.Mode.the-variants.{Off, Velocity, Trapezoid}
 use Rattle.servo_rules.specs.declared.Servo.{Servo}
 use Rattle.servo_rules.specs.Carried.{isSet, carriedIn, inRange}
-use Rattle.servo_rules.specs.Asks.{loadRequest, gainsIn, gainsFit, gainRequest, haltOf, stopRequest, own}
+use Rattle.servo_rules.specs.Asks.{loadMeant, gainsIn, gainsFit, gainMeant, haltOf, stopMeant, own}
 use Rattle.servo_rules.specs.Loads.{wayOf, loadOf, ratesOf, loaded, beginningAt, movable, complete, startable, toPlace, start}
 use Rattle.servo_rules.specs.Perform.{stopped}
 use Rattle.servo_rules.specs.Tick.{advanced, servoed, ran, ticked}
@@ -286,7 +286,7 @@ module _ (orders : List Byte) (power x : ℕ) where
 
 -- 2, 4 and sixty-eight times 5 from 0, forth and back
 forth-computed : Facts forth 1 0x05 346 (pos 5)
-unfolding taken byteStep Any.execute Any.request asked own ticked loadRequest gainRequest gainsIn gainsFit stopRequest haltOf stopped ones inRange carriedIn loaded loadOf ratesOf wayOf startable complete movable same start beginningAt toPlace distance difference signed servoed advanced byTrapezoid trapezoid stepped moved filtered terms stop pick greatest nextSpeed ran
+unfolding taken byteStep Any.execute Any.request asked own ticked loadMeant gainMeant gainsIn gainsFit stopMeant haltOf stopped ones inRange carriedIn loaded loadOf ratesOf wayOf startable complete movable same start beginningAt toPlace distance difference signed servoed advanced byTrapezoid trapezoid stepped moved filtered terms stop pick greatest nextSpeed ran
 forth-computed = record {
   bytes = refl;
   small-byte = refl;
@@ -304,7 +304,7 @@ forth-computed = record {
 }
 
 back-computed : Facts back 2 0x6E (2 ^ 48 - 346) (negsuc 4)
-unfolding taken byteStep Any.execute Any.request asked own ticked loadRequest gainRequest gainsIn gainsFit stopRequest haltOf stopped ones inRange carriedIn loaded loadOf ratesOf wayOf startable complete movable same start beginningAt toPlace distance difference signed servoed advanced byTrapezoid trapezoid stepped moved filtered terms stop pick greatest nextSpeed ran
+unfolding taken byteStep Any.execute Any.request asked own ticked loadMeant gainMeant gainsIn gainsFit stopMeant haltOf stopped ones inRange carriedIn loaded loadOf ratesOf wayOf startable complete movable same start beginningAt toPlace distance difference signed servoed advanced byTrapezoid trapezoid stepped moved filtered terms stop pick greatest nextSpeed ran
 back-computed = record {
   bytes = refl;
   small-byte = refl;

@@ -107,7 +107,7 @@ module _ (f : Frame) (calm : Disturbs f → ⊥) (m : Servo) where
   order-keeps ClearBits k = (refl, refl)
 
   settled-keeps : (q : Request Order) → Known f q → Same m (settled Answers.servo q m)
-  settled-keeps malformed k = (refl, refl)
+  settled-keeps (malformed x) k = (refl, refl)
   settled-keeps (set s) k = (refl, refl)
   settled-keeps reset k = absurd (calm (inr (inr (inr (inl k)))))
   settled-keeps (wants c) k = either (Same m) (can c m) (withCause 0 (perform c m)) (withCause 3 m) (order-keeps c k) (refl, refl)

@@ -4,6 +4,7 @@ use mathlib.Core.Bool.{Bool, true, false, cond, _&&_, and-false, true≢false}
 use mathlib.Core.Logic.{inl, inr}
 use Prim.Native.Nat.{ℕ}
 use Rattle.line_receiver.specs.Frames.{Frame}
+use Rattle.module_rules.specs.declared.Fault.the-variants.{Count}
 use Rattle.servo_rules.specs.declared.Halt.the-variants.{Here}
 use Rattle.servo_rules.specs.declared.Order.the-variants.{LoadTrajectory, Start, Stop}
 use Rattle.servo_rules.specs.declared.Way.{Way}
@@ -18,7 +19,7 @@ use Rattle.servo_rules.proofs.Stopping.{stops, stops-now}
 use Rattle.types_rules.specs.Table.{servo}
 use Rattle.types_rules.proofs.Promised.{every-type}
 use Rattle.demands_rules.specs.Motion.{byStart, byLoad, ofLoad, byStopHere, OnlyTheCause}
-use Rattle.demands_rules.specs.Question.{Missed, elsewhere, damaged, short, NoneReady, IsStart, Question, Twice}
+use Rattle.demands_rules.specs.Question.{Missed, elsewhere, damaged, short, MissedTells, NoneReady, IsStart, Question, Twice}
 use Rattle.demands_rules.proofs.Known.{start-asks, short-asks, not-keep}
 
 -- a cause makes no load complete
@@ -39,19 +40,25 @@ unready c m (inr e) =
 pub start-refused : (c : ℕ) (m : Servo) (f : Frame) (apart : Bool) → NoneReady m → IsStart f → execute f apart (withCause c m) ≡ withCause 3 m
 start-refused c m f apart n s = every-type servo .cause f apart (withCause c m) .notNow Start (s .0) (start-asks f apart (s .1) (s .2)) (unready c m n)
 
+pub missed-tells : MissedTells
+missed-tells load alone m = record {
+  damaged = every-type servo .cause load alone m .damaged;
+  short = λ d c n. every-type servo .cause load alone m .malformed Count d (short-asks load alone c n);
+}
+
 -- what a load that was missed leaves: its own cause, or none
 pub missed-is : (load : Frame) (alone reached : Bool) (m : Servo) → Missed reached load → (c : ℕ) × (cond reached (execute load alone m) m ≡ withCause c m)
 missed-is load alone false m x = (m .station .cause, refl)
 missed-is load alone true m (elsewhere e) = absurd (true≢false e)
-missed-is load alone true m (damaged d) = (1, every-type servo .cause load alone m .damaged d)
+missed-is load alone true m (damaged d) = (1, missed-tells load alone m .damaged d)
 missed-is load alone true m (short c n) = at (load .damaged) refl
   where
     at : (d : Bool) → load .damaged ≡ d → (k : ℕ) × (execute load alone m ≡ withCause k m)
-    at true d = (1, every-type servo .cause load alone m .damaged d)
-    at false d = (2, every-type servo .cause load alone m .malformed d (short-asks load alone c n))
+    at true d = (1, missed-tells load alone m .damaged d)
+    at false d = (2, missed-tells load alone m .short d c n)
 
 pub only-the-cause : OnlyTheCause
-only-the-cause t = every-type t .cause
+only-the-cause t = (every-type t .cause, every-type t .tested)
 
 pub question : Question
 question m load start reached alone apart x n s =

@@ -15,7 +15,9 @@ use Rattle.line_receiver.specs.declared.Receiver.{Receiver}
 use Rattle.line_receiver.specs.declared.Answer.the-variants.{Ended}
 use Rattle.line_receiver.specs.Receive.{taken}
 use Rattle.line_receiver.specs.Frames.{Frame, frameIn}
-use Rattle.module_rules.specs.Rules.{Request, malformed, set, reset, wants, settled}
+use Rattle.module_rules.specs.declared.Fault.{Fault}
+use Rattle.module_rules.specs.declared.Fault.the-variants.{Unknown, Count, Value}
+use Rattle.module_rules.specs.Rules.{Request, malformed, set, reset, wants, faultCause, settled}
 use Rattle.module_rules.proofs.Settled.{settles}
 use Rattle.chain_rules.specs.Chain.{addresses, touched}
 use Rattle.servo_rules.specs.declared.Halt.{Halt}
@@ -300,6 +302,11 @@ module _ (net : List ℕ) (cs : List Call) (i : ℕ) where
     caused-told : (c : ℕ) → (c ≡ 0 → ⊥) → Stands net cs i (suc n) (withCause c m) → Only net cs i (suc n) (withCause c m) → Told (suc n) (withCause c m)
     caused-told c z st o = idle-told (withCause c m) o (λ g x. z (x .cause (withCause c m) st)) refl refl (inr (alike m (withCause c m) refl refl refl refl))
 
+    fault-told : (x : Fault) → faultCause x ≡ 0 → ⊥
+    fault-told Unknown z = omega arith
+    fault-told Count z = omega arith
+    fault-told Value z = omega arith
+
     silent-none : (c : Call) → getElem? cs n ≡ some c → Silent (after net cs i n) i c → (g : Frame) → Executed net cs i n g → ⊥
     silent-none c e s g x = untouched net cs i n c e s g (x .met)
 
@@ -320,7 +327,7 @@ module _ (net : List ℕ) (cs : List Call) (i : ℕ) where
 
       settled-told : (alone : Bool) → taken r value (eqb mark 1) .answer ≡ Ended false → (q : Request Order) → Known ending q
           → Stands net cs i (suc n) (settled Answers.servo q m) → Only net cs i (suc n) (settled Answers.servo q m) → Told (suc n) (settled Answers.servo q m)
-      settled-told alone e malformed k st o = caused-told 2 (λ z. omega arith) st o
+      settled-told alone e (malformed x) k st o = caused-told (faultCause x) (fault-told x) st o
       settled-told alone e (set s) k st o =
           alike-told _ o refl refl (spared ending (exec-by e _ o refl) only-one Drops k) (alike m _ refl refl refl refl)
       settled-told alone e reset k st o = reset-told ending (exec-by e _ o refl) only-one

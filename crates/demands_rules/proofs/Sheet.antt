@@ -12,9 +12,9 @@ use Rattle.servo_motion.specs.Setpoint.{distance, moved}
 use Rattle.servo_motion.specs.Velocity.{toward}
 use Rattle.servo_motion.specs.Profile.{trapezoid, stepped, byTrapezoid, byVelocity, speeds}
 use Rattle.servo_filter.specs.Filter.{held}
-use Rattle.servo_rules.specs.Asks.{loadRequest, own}
+use Rattle.servo_rules.specs.Asks.{loadMeant, own}
 use Rattle.demands_rules.specs.Meaning.{Sheet}
 
 pub sheet : Sheet
-unfolding signed difference taken reads after asked byteStep terms stop pick greatest nextSpeed distance moved toward trapezoid stepped byTrapezoid byVelocity speeds held ones loadRequest own request execute
+unfolding signed difference taken reads after asked byteStep terms stop pick greatest nextSpeed distance moved toward trapezoid stepped byTrapezoid byVelocity speeds held ones loadMeant own request execute
 sheet = (refl, (refl, (refl, (refl, (refl, (refl, (refl, (refl, (refl, (refl, tt))))))))))

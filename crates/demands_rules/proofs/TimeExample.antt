@@ -16,7 +16,7 @@ use Rattle.module_rules.specs.Commands.{asked}
 use Rattle.module_rules.specs.Rules as Any
 use Rattle.chain_rules.specs.Chain.{Net, addresses, touched, byteStep}
 use Rattle.servo_rules.specs.Carried.{needed}
-use Rattle.servo_rules.specs.Asks.{loadRequest, own}
+use Rattle.servo_rules.specs.Asks.{loadMeant, own}
 use Rattle.servo_rules.specs.State.{started}
 use Rattle.servo_rules.specs.Tick.{ran, ticked}
 use Rattle.servo_rules.specs.Answers.{withCause}
@@ -71,7 +71,7 @@ cs = spread room line
 
 -- the Start ends with call 32, and all that ends before it is the short load
 quiet : allPass ends 32 cs (setUp types) ≡ true
-unfolding taken byteStep Any.execute Any.request asked own loadRequest ticked ran ones
+unfolding taken byteStep Any.execute Any.request asked own loadMeant ticked ran ones
 quiet = refl
 
 abbrev go : Frame
@@ -85,7 +85,7 @@ before-start =
 reads-go : (frameIn (through (spread room (take 16 line)) (setUp types) .receiver) false ≡ go)
     × (taken (through (spread room (take 16 line)) (setUp types) .receiver) 5 false .answer ≡ Ended false)
     × (touched true 0 (addresses kind (through (spread room (take 16 line)) (setUp types) .modules)) 0 ≡ true)
-unfolding taken byteStep Any.execute Any.request asked own loadRequest ticked ran ones
+unfolding taken byteStep Any.execute Any.request asked own loadMeant ticked ran ones
 reads-go = (refl, refl, refl)
 
 start-touches : Touched lent cs 0 32 go

@@ -13,7 +13,7 @@ use Rattle.line_receiver.specs.Receive.{taken}
 use Rattle.line_receiver.specs.Frames.{Byte, Frame, frameIn}
 use Rattle.module_rules.specs.Touch.{individually}
 use Rattle.module_rules.specs.Rules.{wants}
-use Rattle.module_rules.specs.Promises.{Cause}
+use Rattle.module_rules.specs.Promises.{Cause, CauseTested}
 use Rattle.chain_rules.specs.Chain.{Net, flat, addresses, touched}
 use Rattle.servo_motion.specs.Profile.{left}
 use Rattle.servo_rules.specs.declared.Carried.{Carried}
@@ -63,9 +63,9 @@ RefusedIsNoStep =
     → (leftBy (before ++ c ∷ later) net ≡ leftBy (before ++ later) net)
     × (writtenBy (before ++ c ∷ later) net ≡ writtenBy (before ++ later) net)
 
--- A module of any type that can't carry out a frame keeps everything but its cause: 1, 2 or 3, tested in this order.
+-- A module of any type that can't carry out a frame keeps everything but its cause: 1, 4, 2, 5 or 3, tested in this order.
 abbrev pub OnlyTheCause : Type 0
-OnlyTheCause = (t : ModuleType) → Cause (rulesOf t)
+OnlyTheCause = (t : ModuleType) → Cause (rulesOf t) × CauseTested (rulesOf t)
 
 -- Motion: a speed or a PWM value other than 0.
 abbrev pub Moves : Servo → Type 0

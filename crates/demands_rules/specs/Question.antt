@@ -27,6 +27,15 @@ pub data Missed (reached : Bool) (load : Frame) : Type 0 where
   damaged : load .damaged ≡ true → Missed reached load
   short : load .code ≡ 4 → (length (load .content) ≡ needed (getD (load .content) 0 0) → ⊥) → Missed reached load
 
+-- what a missed load leaves at a servo that it reached: damaged the cause 1, short the cause 2 of a wrong count, and all else as it was
+pub record Tells (load : Frame) (alone : Bool) (m : Servo) : Type 0 where
+  pub damaged : load .damaged ≡ true → execute load alone m ≡ withCause 1 m
+  pub short : load .damaged ≡ false → load .code ≡ 4 → (length (load .content) ≡ needed (getD (load .content) 0 0) → ⊥)
+      → execute load alone m ≡ withCause 2 m
+
+abbrev pub MissedTells : Type 0
+MissedTells = (load : Frame) (alone : Bool) (m : Servo) → Tells load alone m
+
 -- no complete load waits: none at all, or one that is incomplete
 abbrev pub NoneReady : Servo → Type 0
 NoneReady m = (m .settings .load .waits ≡ false) ⊎ (complete m ≡ false)

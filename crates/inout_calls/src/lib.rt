@@ -40,8 +40,9 @@ fn settle(s: &mut [u8], f: Head, alone: bool, ds: &[u8])
     }
     let asked = inout_parse::request_of(f, alone, ds);
     match asked {
-        Request::Malformed => {
-            module_station::put_station(s, module_station::with_cause(station, 2));
+        Request::Malformed(fault) => {
+            let cause = module_station::fault_cause(fault);
+            module_station::put_station(s, module_station::with_cause(station, cause));
         }
         Request::Set(setting) => {
             let x = module_station::with_setting(station, setting);

@@ -2,12 +2,14 @@
 ghost use mathlib.Core.Path.{_≡_};
 ghost use lib.ListN.{getD};
 ghost use Rattle.module_rules.specs.Touch.{frameOf};
+ghost use Rattle.module_rules.specs.Rules.{counted, asking};
 ghost use Rattle.inout_rules.specs.Pins.{bitsOf};
-ghost use Rattle.inout_rules.specs.Asks.{asksOf, counted, own};
+ghost use Rattle.inout_rules.specs.Asks.{asksOf, own};
 ghost use Rattle.inout_rules.specs.Answers.{request};
 use inout_rules::Command;
 use inout_rules::Request;
 use module_rules::Asked;
+use module_rules::Fault;
 use module_rules::Head;
 
 // The twelve bits in the first two data bytes.
@@ -20,40 +22,45 @@ fn bits_in(ds: &[u8]) -> u16
     )
 }
 
-fn counted(n: usize, ds: &[u8], c: Command) -> Request
-    ensures { λ r. ⌜ asksOf r ≡ counted n (now (ds .entry)) c ⌝ }
+// What is asked where the number of data bytes is right.
+fn counted(n: usize, ds: &[u8], r: Request) -> Request
+    ensures { λ q. ⌜ asksOf q ≡ counted n (now (ds .entry)) (asksOf r) ⌝ }
 {
     if ds.len() == n {
-        return Request::Wants(c);
+        return r;
     }
-    Request::Malformed
+    Request::Malformed(Fault::Count)
 }
 
 // What the type's own codes ask.
 fn own_request(code: u8, ds: &[u8]) -> Request
-    ensures { λ r. ⌜ asksOf r ≡ own code (now (ds .entry)) ⌝ }
+    ensures { λ r. ⌜ asksOf r ≡ asking (now (ds .entry)) (own code (now (ds .entry))) ⌝ }
 {
     match code {
-        0 => counted(2, ds, Command::Direction(bits_in(ds))),
+        0 => counted(2, ds, Request::Wants(Command::Direction(bits_in(ds)))),
         4 => counted(
             2,
             ds,
-            Command::Pwm(base_layout::byte_at(ds, 0), base_layout::byte_at(ds, 1)),
+            Request::Wants(Command::Pwm(base_layout::byte_at(ds, 0), base_layout::byte_at(ds, 1))),
         ),
-        5 => counted(0, ds, Command::SynchOutput),
-        6 => counted(2, ds, Command::Output(bits_in(ds))),
+        5 => counted(0, ds, Request::Wants(Command::SynchOutput)),
+        6 => counted(2, ds, Request::Wants(Command::Output(bits_in(ds)))),
         7 => counted(
             4,
             ds,
-            Command::SynchStore(
+            Request::Wants(Command::SynchStore(
                 bits_in(ds),
                 base_layout::byte_at(ds, 2),
                 base_layout::byte_at(ds, 3),
-            ),
+            )),
         ),
-        8 => counted(1, ds, Command::Timer(base_layout::byte_at(ds, 0))),
-        12 => counted(0, ds, Command::SynchInput),
-        _ => Request::Malformed,
+        8 => counted(
+            1,
+            ds,
+            Request::Wants(Command::Timer(base_layout::byte_at(ds, 0))),
+        ),
+        12 => counted(0, ds, Request::Wants(Command::SynchInput)),
+        _ => Request::Malformed(Fault::Unknown),
     }
 }
 
@@ -64,8 +71,8 @@ pub fn request_of(f: Head, alone: bool, ds: &[u8]) -> Request
     let asked = module_station::asked_by(f.code, alone, ds);
     match asked {
         Asked::Other => own_request(f.code, ds),
-        Asked::Malformed => Request::Malformed,
-        Asked::Wants(s) => Request::Set(s),
-        Asked::Reset => Request::Reset,
+        Asked::Unknown => Request::Malformed(Fault::Unknown),
+        Asked::Wants(n, s) => counted(n, ds, Request::Set(s)),
+        Asked::Reset(n) => counted(n, ds, Request::Reset),
     }
 }

@@ -1,13 +1,11 @@
 -- The station stands apart from all else that an I/O module has. Assumes nothing.
 use mathlib.Core.Path.{_≡_, refl}
-use Rattle.module_rules.specs.Rules.{Own}
 use Rattle.module_rules.specs.Promises.{Apart}
 use Rattle.inout_rules.specs.declared.Io.{Io}
 use Rattle.inout_rules.specs.declared.Command.{Command}
 use Rattle.inout_rules.specs.declared.Command.the-variants.{Direction, Pwm, SynchOutput, Output, SynchStore, Timer, SynchInput}
 use Rattle.inout_rules.specs.Perform.{perform}
 use Rattle.inout_rules.specs.Answers.{inout}
-use Rattle.inout_rules.proofs.Asks.{own-asks}
 
 performs : (c : Command) (m : Io) → perform c m .station ≡ m .station
 performs (Direction d) m = refl
@@ -22,17 +20,6 @@ pub apart : Apart inout
 apart = record {
   put = λ s m. refl;
   again = λ s t m. refl;
-  own = λ code ds.
-      own-asks Own code ds (record {
-        malformed = tt;
-        direction = tt;
-        pwm = tt;
-        synchOutput = tt;
-        output = tt;
-        synchStore = tt;
-        timer = tt;
-        synchInput = tt;
-      });
   perform = performs;
   renewed = λ m. refl;
   sample = λ x m. refl;

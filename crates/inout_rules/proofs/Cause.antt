@@ -1,31 +1,66 @@
 -- Which causes an I/O module can have, and how its status byte tells them. Assumes nothing.
-use mathlib.Core.Path.{_≡_, refl, ap}
+use mathlib.Core.Path.{_≡_, refl, sym, ap, ap₂, subst, _∙_}
+use mathlib.Core.List.{List}
 use mathlib.Core.Bool.{Bool, true, false, cond}
-use Prim.Native.Nat.{ℕ, zero, suc, _%_, _≤_}
+use Prim.Native.Nat.{ℕ, zero, suc, _%_}
 use native.Mathlib.Nat.{pow-succ', div-eq-of-lt}
 use native.Mathlib.Omega.{arith}
 use borrow.Author.Tests.{eqb-true, eqb-false}
 use lib.Dec.{eqb}
 use lib.Pow.{pow-pos}
 use Rattle.base_integers.specs.Bits.{bit}
+use Rattle.module_rules.specs.declared.Asked.{Asked}
+use Rattle.module_rules.specs.declared.Asked.the-variants as Both
+use Rattle.module_rules.specs.Commands.{asked}
 use Rattle.module_rules.specs.Rules as Any
+use Rattle.module_rules.specs.Promises.{isUnknown, isMiscounted, isOutOfRange, isNotNow}
+use Rattle.module_rules.proofs.Settled.{cause-tested}
 use Rattle.module_rules.proofs.Replies as Every
 use Rattle.inout_rules.specs.declared.Io.{Io}
 use Rattle.inout_rules.specs.declared.Command.{Command}
-use Rattle.inout_rules.specs.Answers.{inout, request, withCause}
-use Rattle.inout_rules.specs.Promises.{CauseIs, Status, CauseBit, StatusFirst}
+use Rattle.inout_rules.specs.Asks.{own}
+use Rattle.inout_rules.specs.Answers.{inout}
+use Rattle.inout_rules.specs.Promises.{Causes, CauseIs, Status, CauseBit, StatusFirst}
+use Rattle.inout_rules.proofs.Apart.{apart}
+use Rattle.inout_rules.proofs.Asks.{own-means}
 
--- a frame that is damaged or not, and what it asks
-small : (d : Bool) (q : Any.Request Command) (m : Io) → cond d (withCause 1 m) (Any.settled inout q m) .station .cause ≤ 2
-small true q m = omega arith
-small false Any.malformed m = omega arith
-small false (Any.set s) m = omega arith
-small false Any.reset m = omega arith
-small false (Any.wants c) m = omega arith
+-- a meaning whose values are good, and that can be carried out now
+abbrev Fine : Io → Any.Meaning (Any.Request Command) → Type 0
+Fine m u = (isOutOfRange inout u ≡ false) × (isNotNow inout m u ≡ false)
+
+own-fine : (m : Io) (code : ℕ) (ds : List ℕ) → Fine m (Any.owned (own code ds))
+own-fine m code ds =
+    own-means (λ (u : Any.Meaning Command). Fine m (Any.owned u)) code ds (record {
+      unknown = (refl, refl);
+      direction = (refl, refl);
+      pwm = (refl, refl);
+      synchOutput = (refl, refl);
+      output = (refl, refl);
+      synchStore = (refl, refl);
+      timer = (refl, refl);
+      synchInput = (refl, refl);
+    })
+
+all-fine : (m : Io) (a : Asked) (code : ℕ) (ds : List ℕ) → Fine m (Any.joined a (own code ds))
+all-fine m Both.Other code ds = own-fine m code ds
+all-fine m Both.Unknown code ds = (refl, refl)
+all-fine m (Both.Wants n s) code ds = (refl, refl)
+all-fine m (Both.Reset n) code ds = (refl, refl)
+
+-- the tests that are left: damaged, unknown, miscounted
+few : (d u c : Bool) → Causes (cond d 1 (cond u 4 (cond c 2 0)))
+few true u c = record { most = omega arith; everNow = λ e. omega arith }
+few false true c = record { most = omega arith; everNow = λ e. omega arith }
+few false false true = record { most = omega arith; everNow = λ e. omega arith }
+few false false false = record { most = omega arith; everNow = λ e. omega arith }
 
 pub cause-is : CauseIs
-unfolding Any.execute
-cause-is f alone m = small (f .damaged) (request f alone) m
+cause-is f alone m =
+    let u : Any.Meaning (Any.Request Command) = Any.meaning inout f alone in
+    let fine = all-fine m (asked (f .code) alone (f .content)) (f .code) (f .content) in
+    let rest : Bool → Bool → ℕ = λ v n. cond (f .damaged) 1 (cond (isUnknown inout u) 4 (cond (isMiscounted inout (f .content) u) 2 (cond v 5 (cond n 3 0)))) in
+    subst Causes (sym (cause-tested inout apart f alone m .first ∙ ap₂ rest (fine .0) (fine .1)))
+    (few (f .damaged) (isUnknown inout u) (isMiscounted inout (f .content) u))
 
 -- 0 has no bits, and 2 has only bit 1
 no-bits : (k : ℕ) → bit k 0 ≡ 0

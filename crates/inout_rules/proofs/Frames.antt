@@ -10,6 +10,7 @@ use lib.Bits.{block-half, block-odd}
 use lib.Pow.{pow-pos, shr-shr}
 use Rattle.base_integers.specs.Bits.{bit}
 use Rattle.base_integers.proofs.Bits.{bit-half}
+use Rattle.module_rules.specs.declared.Fault.the-variants.{Count}
 use Rattle.module_rules.specs.Commands.{asked}
 use Rattle.module_rules.specs.Rules as Any
 use Rattle.module_rules.specs.FramePromises.{undamaged}
@@ -21,7 +22,7 @@ use Rattle.inout_rules.specs.Asks.{own}
 use Rattle.inout_rules.specs.State.{noSample}
 use Rattle.inout_rules.specs.Answers.{inout, execute}
 use Rattle.inout_rules.specs.Promises.{Put}
-use Rattle.inout_rules.specs.FramePromises.{Codes, Counts, Unknown, FromBytes, PutOut, Obeys, Items, Zero, PowersUp}
+use Rattle.inout_rules.specs.FramePromises.{Codes, Counted, Unknown, FromBytes, PutOut, Obeys, Items, Zero, PowersUp}
 use Rattle.inout_rules.proofs.Apart.{apart}
 use Rattle.inout_rules.proofs.Bits.{first, inputs-keep}
 
@@ -38,22 +39,22 @@ codes to alone = record {
   synchStore = λ a b p q. refl;
   timer = λ t. refl;
   baud = λ b. refl;
-  baudAlone = λ b. refl;
+  baudAlone = λ ds. refl;
   synchInput = refl;
   noOp = refl;
   hardReset = refl;
 }
 
-pub counts : Counts
+pub counted : Counted
 unfolding Any.request asked own
-counts = record {
-  direction = λ to ds alone m n. Every.unknown inout apart to 0 ds alone m (rw (ne-eqb (length ds) 2 n));
-  pwm = λ to ds alone m n. Every.unknown inout apart to 4 ds alone m (rw (ne-eqb (length ds) 2 n));
-  synchOutput = λ to ds alone m n. Every.unknown inout apart to 5 ds alone m (rw (ne-eqb (length ds) 0 n));
-  output = λ to ds alone m n. Every.unknown inout apart to 6 ds alone m (rw (ne-eqb (length ds) 2 n));
-  synchStore = λ to ds alone m n. Every.unknown inout apart to 7 ds alone m (rw (ne-eqb (length ds) 4 n));
-  timer = λ to ds alone m n. Every.unknown inout apart to 8 ds alone m (rw (ne-eqb (length ds) 1 n));
-  synchInput = λ to ds alone m n. Every.unknown inout apart to 12 ds alone m (rw (ne-eqb (length ds) 0 n));
+counted alone = record {
+  direction = λ to ds m n. Every.unread inout apart Count to 0 ds alone m (rw (ne-eqb (length ds) 2 n));
+  pwm = λ to ds m n. Every.unread inout apart Count to 4 ds alone m (rw (ne-eqb (length ds) 2 n));
+  synchOutput = λ to ds m n. Every.unread inout apart Count to 5 ds alone m (rw (ne-eqb (length ds) 0 n));
+  output = λ to ds m n. Every.unread inout apart Count to 6 ds alone m (rw (ne-eqb (length ds) 2 n));
+  synchStore = λ to ds m n. Every.unread inout apart Count to 7 ds alone m (rw (ne-eqb (length ds) 4 n));
+  timer = λ to ds m n. Every.unread inout apart Count to 8 ds alone m (rw (ne-eqb (length ds) 1 n));
+  synchInput = λ to ds m n. Every.unread inout apart Count to 12 ds alone m (rw (ne-eqb (length ds) 0 n));
 }
 
 pub unknown : Unknown

@@ -9,6 +9,7 @@ use Rattle.base_integers.specs.Bits.{bit}
 use Rattle.base_layout.specs.Bytes.{le}
 use Rattle.line_receiver.specs.Frames.{Frame}
 use Rattle.module_rules.specs.declared.Setting.the-variants.{Assign, Define, Rate, Nothing}
+use Rattle.module_rules.specs.declared.Fault.the-variants as Faults
 use Rattle.module_rules.specs.Rules.{malformed, set, reset, wants}
 use Rattle.module_rules.specs.FramePromises.{AtPowerUp, undamaged, Takes}
 use Rattle.inout_rules.specs.declared.Sample.{Sample}
@@ -36,7 +37,7 @@ pub record Asks (to : ℕ) (alone : Bool) : Type 0 where
   pub synchStore : (a b p q : ℕ) → request (undamaged to 7 (a ∷ b ∷ p ∷ q ∷ [])) alone ≡ wants (SynchStore (bitsOf a b) p q)
   pub timer : (t : ℕ) → request (undamaged to 8 (t ∷ [])) alone ≡ wants (Timer t)
   pub baud : (b : ℕ) → request (undamaged to 10 (b ∷ [])) false ≡ set (Rate b)
-  pub baudAlone : (b : ℕ) → request (undamaged to 10 (b ∷ [])) true ≡ malformed
+  pub baudAlone : (ds : List ℕ) → request (undamaged to 10 ds) true ≡ malformed Faults.Unknown
   pub synchInput : request (undamaged to 12 []) alone ≡ wants SynchInput
   pub noOp : request (undamaged to 14 []) alone ≡ set Nothing
   pub hardReset : request (undamaged to 15 []) alone ≡ reset
@@ -44,22 +45,25 @@ pub record Asks (to : ℕ) (alone : Bool) : Type 0 where
 abbrev pub Codes : Type 0
 Codes = (to : ℕ) (alone : Bool) → Asks to alone
 
--- 01 I/O module: how many data bytes each of its own codes takes; with any other number of them a frame is malformed.
-pub record Counts : Type 0 where
-  pub direction : Takes inout 0 2
-  pub pwm : Takes inout 4 2
-  pub synchOutput : Takes inout 5 0
-  pub output : Takes inout 6 2
-  pub synchStore : Takes inout 7 4
-  pub timer : Takes inout 8 1
-  pub synchInput : Takes inout 12 0
+-- 01 I/O module: how many data bytes each of its own codes takes; any other number of them is a wrong count.
+pub record Counts (alone : Bool) : Type 0 where
+  pub direction : Takes inout 0 2 alone
+  pub pwm : Takes inout 4 2 alone
+  pub synchOutput : Takes inout 5 0 alone
+  pub output : Takes inout 6 2 alone
+  pub synchStore : Takes inout 7 4 alone
+  pub timer : Takes inout 8 1 alone
+  pub synchInput : Takes inout 12 0 alone
 
--- 01 Who is touched: a frame with any other code than these thirteen is malformed.
+abbrev pub Counted : Type 0
+Counted = (alone : Bool) → Counts alone
+
+-- 02 P1: any other code than these thirteen is unknown, with any data.
 abbrev pub Unknown : Type 0
 Unknown =
     (f : Frame) (alone : Bool)
     → NoneOf (f .code) (0 ∷ 1 ∷ 2 ∷ 3 ∷ 4 ∷ 5 ∷ 6 ∷ 7 ∷ 8 ∷ 10 ∷ 12 ∷ 14 ∷ 15 ∷ [])
-    → request f alone ≡ malformed
+    → request f alone ≡ malformed Faults.Unknown
 
 -- twelve bits from two bytes: bits 0 to 7 are those of the first, bits 8 to 11 the lowest four of the second
 pub record FromBytes (bits a b : ℕ) : Type 0 where

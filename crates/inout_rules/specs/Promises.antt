@@ -22,9 +22,13 @@ use Rattle.inout_rules.specs.State.{fresh, readNow, sampled, ticked}
 use Rattle.inout_rules.specs.Perform.{pulsed, output, perform}
 use Rattle.inout_rules.specs.Answers.{numbers, outputsOf, inout, withCause, execute, reply}
 
--- The cause after a frame is 0, 1 or 2: nothing of this type is 3, not now.
+-- The cause after a frame is 0, 1, 2 or 4: nothing of this type is 3, not now, and no value of it is out of range, 5.
+pub record Causes (cause : ℕ) : Type 0 where
+  pub most : cause ≤ 4
+  pub everNow : cause ≡ 3 → ⊥
+
 abbrev pub CauseIs : Type 0
-CauseIs = (f : Frame) (alone : Bool) (m : Io) → execute f alone m .station .cause ≤ 2
+CauseIs = (f : Frame) (alone : Bool) (m : Io) → Causes (execute f alone m .station .cause)
 
 -- The status byte of a reply has bit 1 set if the cause is not 0, clear if it is 0, and no other bit.
 pub record Status (cause byte : ℕ) : Type 0 where

@@ -1,4 +1,5 @@
 // The I/O module, type 2 version 1: what it consists of, and what a frame asks of it. Types, definitions and promises; no function.
+use module_rules::Fault;
 use module_rules::Setting;
 use module_rules::Station;
 
@@ -67,7 +68,7 @@ pub enum Command {
 
 // What a frame asks.
 pub enum Request {
-    Malformed,
+    Malformed(Fault),
     Set(Setting),
     Reset,
     Wants(Command),

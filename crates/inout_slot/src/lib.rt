@@ -181,7 +181,7 @@ pub fn is_ok(s: &[u8]) -> bool
     (s[0] == inout_rules::TYPE)
         & (s[module_rules::LEADER_AT] <= 1)
         & (s[module_rules::LOW_AT] <= 1)
-        & (s[module_rules::CAUSE_AT] <= 3)
+        & (s[module_rules::CAUSE_AT] <= module_rules::CAUSE_MOST)
         & (s[inout_slot_rules::WAITING_AT + 1] <= 15)
         & (s[inout_slot_rules::LATCHED_AT + 1] <= 15)
         & (s[inout_slot_rules::DIRECTION_AT + 1] <= 15)

@@ -22,7 +22,7 @@ use Rattle.inout_rules.specs.Pins.{bitsOf, blend}
 use Rattle.inout_rules.specs.State.{withStation, withSamples, withPins, withSynch, withTimer, withCapture, fresh, noSample}
 use Rattle.inout_rules.specs.Asks.{own}
 use Rattle.inout_rules.specs.Answers.{outputsOf, inout}
-use Rattle.inout_rules.proofs.Asks.{own-asks}
+use Rattle.inout_rules.proofs.Asks.{own-means}
 use Rattle.inout_rules.proofs.Bits.{no-further}
 use Rattle.inout_slot_rules.specs.Slot.{twelve, sample, samples, pins, synch, capture, slots}
 use Rattle.inout_slot_rules.specs.Promises.{Fits, NumbersFit}
@@ -69,15 +69,15 @@ none-fits = ((omega arith, omega arith), (omega arith, (omega arith, (omega arit
 
 pub own-safe : (code : ℕ) (ds : List ℕ) → Bytes ds → Safe inout slots (sample .codec .fits) (own code ds)
 own-safe code ds b =
-    own-asks (Safe inout slots (sample .codec .fits)) code ds (record {
-      malformed = tt;
-      direction = λ m t e. pins-fit m t _ (bits-fit ds b, t .1 .1 .1 .0 .1);
-      pwm = λ m t e. pins-fit m t _ (t .1 .1 .1 .0 .0, (t .1 .1 .1 .0 .1 .0, (b 0, b 1)));
-      synchOutput = λ m t e. pins-fit m t _ (t .1 .1 .1 .0 .0, (picked-fits _ _ _, t .1 .1 .1 .1 .0 .1));
-      output = λ m t e. pins-fit m t _ (t .1 .1 .1 .0 .0, (picked-fits _ _ _, t .1 .1 .1 .0 .1 .1));
-      synchStore = λ m t e. synch-fits m t _ (bits-fit ds b, (b 2, b 3));
-      timer = λ m t e. timer-fits m t _ (b 0);
-      synchInput = λ m t e. capture-fits m t _ (picked-fits _ _ _, t .1 .1 .0 .1 .1 .1 .1 .1);
+    own-means (Safe inout slots (sample .codec .fits)) code ds (record {
+      unknown = tt;
+      direction = λ g m t e. pins-fit m t _ (bits-fit ds b, t .1 .1 .1 .0 .1);
+      pwm = λ g m t e. pins-fit m t _ (t .1 .1 .1 .0 .0, (t .1 .1 .1 .0 .1 .0, (b 0, b 1)));
+      synchOutput = λ g m t e. pins-fit m t _ (t .1 .1 .1 .0 .0, (picked-fits _ _ _, t .1 .1 .1 .1 .0 .1));
+      output = λ g m t e. pins-fit m t _ (t .1 .1 .1 .0 .0, (picked-fits _ _ _, t .1 .1 .1 .0 .1 .1));
+      synchStore = λ g m t e. synch-fits m t _ (bits-fit ds b, (b 2, b 3));
+      timer = λ g m t e. timer-fits m t _ (b 0);
+      synchInput = λ g m t e. capture-fits m t _ (picked-fits _ _ _, t .1 .1 .0 .1 .1 .1 .1 .1);
     })
 
 pub status-fits : (cause : ℕ) → causeBit cause < 256

@@ -15,7 +15,7 @@ use Rattle.inout_rules.specs.State.{started, sampled, ticked}
 use Rattle.inout_rules.specs.Answers.{typeNumber, numbers, sizes, execute}
 use Rattle.inout_slot_rules.specs.Slot.{sample, slot, decodeOf, okOf}
 
--- The values that a slot can hold: every number within its bytes, twelve-bit ones below 4,096, a cause of at most 3.
+-- The values that a slot can hold: every number within its bytes, twelve-bit ones below 4,096, a cause of at most 5.
 abbrev pub Fits : Io → Type 0
 Fits m = slot .codec .fits m
 
@@ -35,7 +35,7 @@ pub record Lines (s : List ℕ) : Type 0 where
   pub typeByte : getD s 0 0 ≡ typeNumber
   pub leader : getD s leaderAt 0 ≤ 1
   pub low : getD s lowAt 0 ≤ 1
-  pub cause : getD s causeAt 0 ≤ 3
+  pub cause : getD s causeAt 0 ≤ 5
   pub waitingInputs : decodeOf s .samples .waiting .inputs < 4096
   pub latchedInputs : decodeOf s .samples .latched .inputs < 4096
   pub direction : decodeOf s .pins .direction < 4096

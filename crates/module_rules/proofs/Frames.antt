@@ -12,11 +12,11 @@ use Rattle.module_rules.specs.declared.Address.{Address}
 use Rattle.module_rules.specs.declared.Station.{Station}
 use Rattle.module_rules.specs.declared.Setting.{Setting}
 use Rattle.module_rules.specs.declared.Setting.the-variants.{Assign, Define, Rate, Nothing}
-use Rattle.module_rules.specs.declared.Asked.{Asked}
-use Rattle.module_rules.specs.declared.Asked.the-variants.{Malformed}
+use Rattle.module_rules.specs.declared.Fault.{Fault}
+use Rattle.module_rules.specs.declared.Fault.the-variants.{Count}
 use Rattle.module_rules.specs.Commands.{asked, assigned, applied, caused}
 use Rattle.module_rules.specs.Kind.{Kind}
-use Rattle.module_rules.specs.Rules.{malformed, set, Rules, joined, request, settled, execute}
+use Rattle.module_rules.specs.Rules.{malformed, set, faultCause, Rules, request, settled, execute}
 use Rattle.module_rules.specs.Promises.{Apart}
 use Rattle.module_rules.specs.FramePromises.{PowersUp, Concerned, Replying, undamaged, Becomes, Stored, Counts}
 use Rattle.module_rules.proofs.Settled.{settles}
@@ -79,30 +79,23 @@ module _ {M S C : Type 0} (T : Rules M S C) (p : Apart T) where
         becomes (addressed a b m _ (ap₂ (λ (g : ℕ) (t : Bool). record { individual = a; group = g; leader = t; low = true }) g (le-ltb b 128 h)));
     items = λ b. becomes (set-once (Define b) m);
     baud = λ b. becomes (set-once (Rate b) m);
-    notAlone = λ b. becomes refl;
+    notAlone = λ ds. becomes refl;
     readStatus = λ b. becomes (set-once Nothing m);
     noOp = becomes (set-once Nothing m);
   }
 
-  -- a frame that asks for nothing known
-  pub unknown : (to code : ℕ) (ds : List ℕ) (alone : Bool) (m : M) → request T (undamaged to code ds) alone ≡ malformed
-      → Becomes T m (execute T (undamaged to code ds) alone m)
-      (record { address = T .station m .address; cause = 2; items = T .station m .items; baud = T .station m .baud })
-  unknown to code ds alone m q = becomes (settles T (undamaged to code ds) alone m refl q)
-
-  -- Set Baud with any other count than 1, individually or by group
-  baud-asks : (alone : Bool) (ds : List ℕ) → (length ds ≡ 1 → ⊥) → asked 10 alone ds ≡ Malformed
-  unfolding asked
-  baud-asks true ds n = refl
-  baud-asks false ds n = rw (ne-eqb (length ds) 1 n)
+  -- a frame that can't be read
+  pub unread : (x : Fault) (to code : ℕ) (ds : List ℕ) (alone : Bool) (m : M) → request T (undamaged to code ds) alone ≡ malformed x
+      → Becomes T m (execute T (undamaged to code ds) alone m) (caused (faultCause x) (T .station m))
+  unread x to code ds alone m q = becomes (settles T (undamaged to code ds) alone m refl q)
 
   pub counts : Counts T
   unfolding request asked
   counts = record {
-    setAddress = λ to ds alone m n. unknown to 1 ds alone m (rw (ne-eqb (length ds) 2 n));
-    defineStatus = λ to ds alone m n. unknown to 2 ds alone m (rw (ne-eqb (length ds) 1 n));
-    readStatus = λ to ds alone m n. unknown to 3 ds alone m (rw (ne-eqb (length ds) 1 n));
-    setBaud = λ to ds alone m n. unknown to 10 ds alone m (ap (λ (q : Asked). joined q (T .own 10 ds)) (baud-asks alone ds n));
-    noOp = λ to ds alone m n. unknown to 14 ds alone m (rw (ne-eqb (length ds) 0 n));
-    hardReset = λ to ds alone m n. unknown to 15 ds alone m (rw (ne-eqb (length ds) 0 n));
+    setAddress = λ alone to ds m n. unread Count to 1 ds alone m (rw (ne-eqb (length ds) 2 n));
+    defineStatus = λ alone to ds m n. unread Count to 2 ds alone m (rw (ne-eqb (length ds) 1 n));
+    readStatus = λ alone to ds m n. unread Count to 3 ds alone m (rw (ne-eqb (length ds) 1 n));
+    setBaud = λ to ds m n. unread Count to 10 ds false m (rw (ne-eqb (length ds) 1 n));
+    noOp = λ alone to ds m n. unread Count to 14 ds alone m (rw (ne-eqb (length ds) 0 n));
+    hardReset = λ alone to ds m n. unread Count to 15 ds alone m (rw (ne-eqb (length ds) 0 n));
   }

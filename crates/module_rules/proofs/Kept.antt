@@ -1,16 +1,18 @@
 -- A module that a slot can hold stays one, whatever comes, for every type that owes what it owes. Assumes nothing.
+use mathlib.Core.List.{List}
 use mathlib.Core.Bool.{Bool, true, false, cond}
 use Prim.Native.Nat.{ℕ, _≤_}
 use native.Mathlib.Omega.{arith}
 use lib.ListN.{length, getD}
 use Rattle.line_receiver.specs.Frames.{Frame}
 use Rattle.module_rules.specs.declared.Setting.{Setting}
+use Rattle.module_rules.specs.declared.Fault.{Fault}
 use Rattle.module_rules.specs.declared.Setting.the-variants.{Assign, Define, Rate, Nothing}
 use Rattle.module_rules.specs.Slots.{Slots, Preserves}
-use Rattle.module_rules.specs.Rules.{Request, malformed, set, reset, wants, Rules, withCause, request, settled, execute, reply, kindOf}
+use Rattle.module_rules.specs.Rules.{Request, malformed, set, wants, Meaning, unknown, takes, faultCause, Rules, withCause, request, settled, execute, reply, kindOf}
 use Rattle.module_rules.specs.Owes.{Safe, Owes, replySize}
 use Rattle.module_rules.proofs.StationKept.{caused-fits, Sized, applied-fits}
-use Rattle.module_rules.proofs.Settled.{pick, asks}
+use Rattle.module_rules.proofs.Settled.{pick, Of, fault-small, asks}
 use Rattle.module_rules.proofs.Replies.{short}
 
 module _ {M S C : Type 0} (T : Rules M S C) (L : Slots M) (Good : S → Type 0) (o : Owes T L Good) where
@@ -18,18 +20,19 @@ module _ {M S C : Type 0} (T : Rules M S C) (L : Slots M) (Good : S → Type 0) 
   abbrev Keeps : Request C → Type 0
   Keeps q = (m : M) → L .fits m → L .fits (settled T q m)
 
-  caused-held : (c : ℕ) → c ≤ 3 → (m : M) → L .fits m → L .fits (withCause T c m)
+  caused-held : (c : ℕ) → c ≤ 5 → (m : M) → L .fits m → L .fits (withCause T c m)
   caused-held c h m t = o .withStation _ m (caused-fits c h (T .station m) (o .held m t)) t
 
   set-keeps : (z : Setting) → Sized z → Keeps (set z)
   set-keeps z h m t = caused-held 0 (omega arith) _ (o .withStation _ m (applied-fits z h (T .station m) (o .held m t)) t)
 
-  own-keeps : (q : Request C) → Safe T L Good q → Keeps q
-  own-keeps malformed s m t = caused-held 2 (omega arith) m t
-  own-keeps (set z) s m t = absurd s
-  own-keeps reset s m t = absurd s
-  own-keeps (wants c) s m t =
-      pick (λ (n : M). L .fits n) (T .can c m) _ _ (λ e. caused-held 0 (omega arith) _ (s m t e)) (caused-held 3 (omega arith) m t)
+  fault-keeps : (x : Fault) → Keeps (malformed x)
+  fault-keeps x m t = caused-held (faultCause x) (fault-small x) m t
+
+  own-keeps : (ds : List ℕ) (u : Meaning C) → Safe T L Good u → Of (λ (c : C). Keeps (wants c)) ds u
+  own-keeps ds unknown s = tt
+  own-keeps ds (takes n good c) s = λ e g m t.
+      pick (λ (n : M). L .fits n) (T .can c m) _ _ (λ e. caused-held 0 (omega arith) _ (s g m t e)) (caused-held 3 (omega arith) m t)
 
   frame-keeps : (d : Bool) (q : Request C) → Keeps q → (m : M) → L .fits m → L .fits (cond d (withCause T 1 m) (settled T q m))
   frame-keeps true q k m t = caused-held 1 (omega arith) m t
@@ -42,13 +45,13 @@ module _ {M S C : Type 0} (T : Rules M S C) (L : Slots M) (Good : S → Type 0) 
         frame-keeps (f .damaged) (request T f alone)
         (asks T Keeps f alone
         (record {
-          malformed = λ m t. caused-held 2 (omega arith) m t;
+          malformed = fault-keeps;
           assign = λ e. set-keeps (Assign (getD (f .content) 0 0) (getD (f .content) 1 0)) (b 0);
           define = λ e. set-keeps (Define (getD (f .content) 0 0)) (b 0);
           rate = λ e. set-keeps (Rate (getD (f .content) 0 0)) (b 0);
           nothing = λ e. set-keeps Nothing tt;
           reset = λ e m t. caused-held 0 (omega arith) (T .renewed m) (o .renewed m t);
-          own = own-keeps (T .own (f .code) (f .content)) (o .own (f .code) (f .content) b);
+          own = own-keeps (f .content) (T .own (f .code) (f .content)) (o .own (f .code) (f .content) b);
         }))
         m t;
     sample = o .sample;

@@ -11,7 +11,7 @@ use Rattle.module_rules.specs.Slot.{station}
 pub powerUp-fits : station .codec .fits powerUp
 powerUp-fits = ((omega arith, (omega arith, (tt, tt))), ((omega arith, omega arith), (omega arith, omega arith)))
 
-pub caused-fits : (c : ℕ) → c ≤ 3 → (s : Station) → station .codec .fits s → station .codec .fits (caused c s)
+pub caused-fits : (c : ℕ) → c ≤ 5 → (s : Station) → station .codec .fits s → station .codec .fits (caused c s)
 caused-fits c h s t = (t .0, ((omega arith, h), t .1 .1))
 
 -- the numbers that a setting stores as they are, which are bytes; a group is taken modulo 128

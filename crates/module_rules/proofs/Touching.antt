@@ -1,5 +1,5 @@
 -- What the calls on a slot of any type put there, put together: where only the station changes, it is put alone. Assumes nothing.
-use mathlib.Core.Path.{_≡_, refl, sym, ap, subst, _∙_}
+use mathlib.Core.Path.{_≡_, refl, sym, ap, ap₂, subst, _∙_}
 use mathlib.Core.List.{List}
 use mathlib.Core.Bool.{Bool, true, false, cond}
 use Prim.Native.Nat.{ℕ}
@@ -9,12 +9,13 @@ use Rattle.line_receiver.specs.Frames.{Frame}
 use Rattle.module_rules.specs.declared.Address.{Address}
 use Rattle.module_rules.specs.declared.Station.{Station}
 use Rattle.module_rules.specs.declared.Setting.{Setting}
+use Rattle.module_rules.specs.declared.Fault.{Fault}
 use Rattle.module_rules.specs.Touch.{individually, speaks}
 use Rattle.module_rules.specs.Commands.{applied, caused}
 use Rattle.module_rules.specs.Slot.{address, station}
 use Rattle.module_rules.specs.Kind.{executed, replied}
 use Rattle.module_rules.specs.Slots.{Slots, slotSize, stationAt}
-use Rattle.module_rules.specs.Rules.{Request, malformed, set, wants, Rules, withCause, request, settled, execute, reply, kindOf}
+use Rattle.module_rules.specs.Rules.{Request, malformed, set, wants, faultCause, Rules, withCause, request, settled, execute, reply, kindOf}
 use Rattle.module_rules.specs.Owes.{Owes}
 use Rattle.module_rules.proofs.Slotted as Slotted
 use Rattle.module_rules.proofs.Settled.{settles, cause}
@@ -66,10 +67,14 @@ module _ {M S C : Type 0} (T : Rules M S C) (L : Slots M) (Good : S → Type 0) 
       pub asked-put : {q : Request C} {n : M} {s′ : List ℕ} → request T f alone ≡ q → n ≡ settled T q before → s′ ≡ pasted 0 (L .enc n) s → After s′
       asked-put q e p = put-whole (e ∙ sym (settles T f alone before d q)) p
 
-      pub malformed-put : {x y : Station} {s′ : List ℕ} → request T f alone ≡ malformed → x ≡ station .codec .dec stationAt s → y ≡ caused 2 x
+      pub malformed-put : (z : Fault) {x y : Station} {c : ℕ} {s′ : List ℕ} → request T f alone ≡ malformed z → x ≡ station .codec .dec stationAt s
+          → c ≡ faultCause z
+          → y ≡ caused c x
           → s′ ≡ pasted stationAt (station .codec .enc y) s
           → After s′
-      malformed-put q ex ey p = asked-put q refl (put-alone (caused 2 (T .station before)) (ey ∙ ap (caused 2) (told ex)) p)
+      malformed-put z q ex ec ey p =
+          let c : ℕ = faultCause z in
+          asked-put q refl (put-alone (caused c (T .station before)) (ey ∙ ap₂ caused ec (told ex)) p)
 
       pub set-put : (z : Setting) {x y w : Station} {s′ : List ℕ} → request T f alone ≡ set z → x ≡ station .codec .dec stationAt s → y ≡ applied z x
           → w ≡ caused 0 y

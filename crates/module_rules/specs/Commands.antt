@@ -2,29 +2,25 @@
 use Prim.Native.Nat.{ℕ, _+_, _%_}
 use mathlib.Core.List.{List}
 use mathlib.Core.Bool.{Bool, true, cond}
-use lib.ListN.{length, getD}
+use lib.ListN.{getD}
 use lib.Dec.{eqb, ltb}
 use Rattle.module_rules.specs.declared.Address.{Address}
 use Rattle.module_rules.specs.declared.Station.{Station}
 use Rattle.module_rules.specs.declared.Setting.{Setting}
 use Rattle.module_rules.specs.declared.Setting.the-variants.{Assign, Define, Rate, Nothing}
 use Rattle.module_rules.specs.declared.Asked.{Asked}
-use Rattle.module_rules.specs.declared.Asked.the-variants.{Other, Malformed, Wants, Reset}
+use Rattle.module_rules.specs.declared.Asked.the-variants.{Other, Unknown, Wants, Reset}
 
--- what is asked, if the number of data bytes is n, and malformed if not
-abbrev pub counted : ℕ → List ℕ → Asked → Asked
-counted n ds what = cond (eqb (length ds) n) what Malformed
-
--- What a code asks with its data bytes: 1 Set Address (2), 2 Define Status (1), 3 Read Status (1), 10 Set Baud (1, to a group only),
--- 14 No Op (0), 15 Hard Reset (0). Any other code is the module type's own.
+-- What a code asks, and how many data bytes it takes: 1 Set Address (2), 2 Define Status (1), 3 Read Status (1), 10 Set Baud (1, unknown
+-- unless it is for a group), 14 No Op (0), 15 Hard Reset (0). Any other code is the module type's own.
 unfoldable pub asked : ℕ → Bool → List ℕ → Asked
 asked code alone ds =
-    cond (eqb code 1) (counted 2 ds (Wants (Assign (getD ds 0 0) (getD ds 1 0))))
-    (cond (eqb code 2) (counted 1 ds (Wants (Define (getD ds 0 0))))
-    (cond (eqb code 3) (counted 1 ds (Wants Nothing))
-    (cond (eqb code 10) (cond alone Malformed (counted 1 ds (Wants (Rate (getD ds 0 0)))))
-    (cond (eqb code 14) (counted 0 ds (Wants Nothing))
-    (cond (eqb code 15) (counted 0 ds Reset)
+    cond (eqb code 1) (Wants 2 (Assign (getD ds 0 0) (getD ds 1 0)))
+    (cond (eqb code 2) (Wants 1 (Define (getD ds 0 0)))
+    (cond (eqb code 3) (Wants 1 Nothing)
+    (cond (eqb code 10) (cond alone Unknown (Wants 1 (Rate (getD ds 0 0))))
+    (cond (eqb code 14) (Wants 0 Nothing)
+    (cond (eqb code 15) (Reset 0)
     Other)))))
 
 -- Set Address: the group byte b is group 128 + b mod 128, a leader exactly if b < 128; ADDR_OUT goes low
@@ -43,6 +39,6 @@ applied (Define items) s = record { address = s .address; cause = s .cause; item
 applied (Rate baud) s = record { address = s .address; cause = s .cause; items = s .items; baud = baud }
 applied Nothing s = s
 
--- the same station with another cause: 0 executed, 1 damaged, 2 malformed, 3 not now
+-- the same station with another cause
 abbrev pub caused : ℕ → Station → Station
 caused c s = record { address = s .address; cause = c; items = s .items; baud = s .baud }

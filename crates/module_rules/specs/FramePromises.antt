@@ -12,6 +12,7 @@ use Rattle.line_receiver.specs.Frames.{Frame}
 use Rattle.module_rules.specs.declared.Address.{Address}
 use Rattle.module_rules.specs.declared.Station.{Station}
 use Rattle.module_rules.specs.Touch.{powerUp, individually, named, speaks}
+use Rattle.module_rules.specs.Commands.{caused}
 use Rattle.module_rules.specs.Report.{chosen, report}
 use Rattle.module_rules.specs.Kind.{Kind, executed, replied}
 use Rattle.module_rules.specs.Rules.{Rules, execute}
@@ -86,13 +87,11 @@ module _ {M S C : Type 0} (T : Rules M S C) where
     pub items : (b : ℕ)
         → Becomes m (execute T (undamaged to 2 (b ∷ [])) alone m)
         (record { address = T .station m .address; cause = 0; items = b; baud = T .station m .baud })
-    -- 10 Set Baud, to a group only
+    -- 10 Set Baud, to a group only: individually it is unknown, with any data
     pub baud : (b : ℕ)
         → Becomes m (execute T (undamaged to 10 (b ∷ [])) false m)
         (record { address = T .station m .address; cause = 0; items = T .station m .items; baud = b })
-    pub notAlone : (b : ℕ)
-        → Becomes m (execute T (undamaged to 10 (b ∷ [])) true m)
-        (record { address = T .station m .address; cause = 2; items = T .station m .items; baud = T .station m .baud })
+    pub notAlone : (ds : List ℕ) → Becomes m (execute T (undamaged to 10 ds) true m) (caused 4 (T .station m))
     -- 3 Read Status, 14 No Op
     pub readStatus : (b : ℕ)
         → Becomes m (execute T (undamaged to 3 (b ∷ [])) alone m)
@@ -103,19 +102,16 @@ module _ {M S C : Type 0} (T : Rules M S C) where
   abbrev pub Stored : Type 0
   Stored = (to : ℕ) (alone : Bool) (m : M) → Stores to alone m
 
-  -- an undamaged frame of this code with any other number of data bytes is malformed
-  abbrev pub Takes : ℕ → ℕ → Type 0
-  Takes code n =
-      (to : ℕ) (ds : List ℕ) (alone : Bool) (m : M)
-      → (length ds ≡ n → ⊥)
-      → Becomes m (execute T (undamaged to code ds) alone m)
-      (record { address = T .station m .address; cause = 2; items = T .station m .items; baud = T .station m .baud })
+  -- an undamaged frame of this code with any other number of data bytes gives the cause of a wrong count
+  abbrev pub Takes : ℕ → ℕ → Bool → Type 0
+  Takes code n alone =
+      (to : ℕ) (ds : List ℕ) (m : M) → (length ds ≡ n → ⊥) → Becomes m (execute T (undamaged to code ds) alone m) (caused 2 (T .station m))
 
   -- 01 Commands of both types: how many data bytes each takes.
   pub record Counts : Type 0 where
-    pub setAddress : Takes 1 2
-    pub defineStatus : Takes 2 1
-    pub readStatus : Takes 3 1
-    pub setBaud : Takes 10 1
-    pub noOp : Takes 14 0
-    pub hardReset : Takes 15 0
+    pub setAddress : (alone : Bool) → Takes 1 2 alone
+    pub defineStatus : (alone : Bool) → Takes 2 1 alone
+    pub readStatus : (alone : Bool) → Takes 3 1 alone
+    pub setBaud : Takes 10 1 false
+    pub noOp : (alone : Bool) → Takes 14 0 alone
+    pub hardReset : (alone : Bool) → Takes 15 0 alone

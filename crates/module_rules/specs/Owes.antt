@@ -10,7 +10,7 @@ use Rattle.module_rules.specs.declared.Station.{Station}
 use Rattle.module_rules.specs.Report.{Fit}
 use Rattle.module_rules.specs.Slot.{station}
 use Rattle.module_rules.specs.Slots.{Slots, Lawful, slotSize, stationAt}
-use Rattle.module_rules.specs.Rules.{Request, malformed, set, reset, wants, Rules}
+use Rattle.module_rules.specs.Rules.{Meaning, unknown, takes, Rules}
 use Rattle.module_rules.specs.Promises.{Apart}
 
 -- the greatest length of a reply
@@ -23,12 +23,10 @@ AtMostFour [] = Unit {0}
 AtMostFour (k ∷ ks) = (k ≤ 4) × AtMostFour ks
 
 module _ {M S C : Type 0} (T : Rules M S C) (L : Slots M) (Good : S → Type 0) where
-  -- one of the own commands, if it keeps every module such as a slot can hold
-  abbrev pub Safe : Request C → Type 0
-  Safe malformed = Unit {0}
-  Safe (set s) = ⊥
-  Safe reset = ⊥
-  Safe (wants c) = (m : M) → L .fits m → T .can c m ≡ true → L .fits (T .perform c m)
+  -- a command whose values are good and that can be carried out keeps every module such as a slot can hold
+  abbrev pub Safe : Meaning C → Type 0
+  Safe unknown = Unit {0}
+  Safe (takes count good c) = good ≡ true → (m : M) → L .fits m → T .can c m ≡ true → L .fits (T .perform c m)
 
   pub record Owes : Type 0 where
     -- the station stands apart

@@ -1,30 +1,50 @@
 -- What a module type says of itself, and what follows for every type: a frame is damaged, or what it asks is settled (document 01, "Who is
--- touched", "Commands of both types").
+-- touched", "Commands of both types"; the causes of what can't be read are those of document 02, P1).
 use Prim.Native.Nat.{ℕ}
 use mathlib.Core.List.{List}
-use mathlib.Core.Bool.{Bool, cond}
+use mathlib.Core.Bool.{Bool, true, cond}
+use lib.ListN.{length}
+use lib.Dec.{eqb}
 use Rattle.line_receiver.specs.Frames.{Frame}
 use Rattle.module_rules.specs.declared.Station.{Station}
 use Rattle.module_rules.specs.declared.Setting.{Setting}
 use Rattle.module_rules.specs.declared.Asked.{Asked}
-use Rattle.module_rules.specs.declared.Asked.the-variants.{Other, Malformed, Wants, Reset}
+use Rattle.module_rules.specs.declared.Asked.the-variants as Both
+use Rattle.module_rules.specs.declared.Fault.{Fault}
+use Rattle.module_rules.specs.declared.Fault.the-variants.{Unknown, Count, Value}
 use Rattle.module_rules.specs.Commands.{asked, applied, caused}
 use Rattle.module_rules.specs.Report.{replyOf}
 use Rattle.module_rules.specs.Kind.{Kind}
 
--- What a frame asks of a module whose type's own commands are C: nothing that it knows, a command of every type, or one of its own.
+-- What a frame asks of a module whose type's own commands are C: nothing that it can read, a command of every type, or one of its own.
 pub data Request (C : Type 0) : Type 0 where
-  malformed : Request C
+  malformed : Fault → Request C
   set : Setting → Request C
   reset : Request C
   wants : C → Request C
 
--- it is no command of every type
-abbrev pub Own : {C : Type 0} → Request C → Type 0
-Own malformed = Unit {0}
-Own (set s) = ⊥
-Own reset = ⊥
-Own (wants c) = Unit {0}
+-- What a code means with its data bytes: nothing that a module knows, or something that takes so many data bytes and needs good values.
+pub data Meaning (X : Type 0) : Type 0 where
+  unknown : Meaning X
+  takes : (count : ℕ) (good : Bool) (what : X) → Meaning X
+
+-- 02 P1: the causes of what can't be read: 4 an unknown code, 2 a wrong number of data bytes, 5 a value out of range
+abbrev pub faultCause : Fault → ℕ
+faultCause Unknown = 4
+faultCause Count = 2
+faultCause Value = 5
+
+-- what is asked, if the number of data bytes is n; and if its values are good
+abbrev pub counted : {C : Type 0} → ℕ → List ℕ → Request C → Request C
+counted n ds q = cond (eqb (length ds) n) q (malformed Count)
+
+abbrev pub ranged : {C : Type 0} → Bool → Request C → Request C
+ranged good q = cond good q (malformed Value)
+
+-- 02 P1: whether the code is known comes first, then the number of data bytes, then their values
+abbrev pub judged : {C : Type 0} → List ℕ → Meaning (Request C) → Request C
+judged ds unknown = malformed Unknown
+judged ds (takes count good q) = counted count ds (ranged good q)
 
 -- A module type: its records M, its samples S, its own commands C.
 pub record Rules (M S C : Type 0) : Type 0 where
@@ -36,8 +56,8 @@ pub record Rules (M S C : Type 0) : Type 0 where
   -- power-up, and the power-up record that Hard Reset makes, which keeps the samples
   pub started : M
   pub renewed : M → M
-  -- what a code that is not one of every type's asks with its data bytes
-  pub own : ℕ → List ℕ → Request C
+  -- what a code that is not one of every type's means with its data bytes
+  pub own : ℕ → List ℕ → Meaning C
   -- whether an own command can be carried out now, and what it does then
   pub can : C → M → Bool
   pub perform : C → M → M
@@ -51,25 +71,37 @@ pub record Rules (M S C : Type 0) : Type 0 where
   -- what the board drives, in eight bytes
   pub outputs : M → List ℕ
 
--- the codes of every type come first
-abbrev pub joined : {C : Type 0} → Asked → Request C → Request C
-joined Other own = own
-joined Malformed own = malformed
-joined (Wants s) own = set s
-joined Reset own = reset
+-- one of the own commands as a request
+abbrev pub owned : {C : Type 0} → Meaning C → Meaning (Request C)
+owned unknown = unknown
+owned (takes count good c) = takes count good (wants c)
+
+-- what one of the own codes asks
+abbrev pub asking : {C : Type 0} → List ℕ → Meaning C → Request C
+asking ds u = judged ds (owned u)
+
+-- the codes of every type come first; of their commands every value is good
+abbrev pub joined : {C : Type 0} → Asked → Meaning C → Meaning (Request C)
+joined Both.Other own = owned own
+joined Both.Unknown own = unknown
+joined (Both.Wants count s) own = takes count true (set s)
+joined (Both.Reset count) own = takes count true reset
 
 module _ {M S C : Type 0} (T : Rules M S C) where
-  -- 01 Who is touched: the same module with another last cause: 0 executed, 1 damaged, 2 malformed, 3 not now
+  -- 01 Who is touched: the same module with another last cause: 0 executed, 1 damaged, 3 not now, or one of a fault
   abbrev pub withCause : ℕ → M → M
   withCause c m = T .withStation (caused c (T .station m)) m
 
-  -- 01 Commands of both types: what a frame asks; alone says that it was for this module individually
+  -- 01 Commands of both types: what a frame means and asks; alone says that it was for this module individually
+  abbrev pub meaning : Frame → Bool → Meaning (Request C)
+  meaning f alone = joined (asked (f .code) alone (f .content)) (T .own (f .code) (f .content))
+
   unfoldable pub request : Frame → Bool → Request C
-  request f alone = joined (asked (f .code) alone (f .content)) (T .own (f .code) (f .content))
+  request f alone = judged (f .content) (meaning f alone)
 
   -- 01 Who is touched: malformed, then not now; with either only the cause changes
   abbrev pub settled : Request C → M → M
-  settled malformed m = withCause 2 m
+  settled (malformed x) m = withCause (faultCause x) m
   settled (set s) m = withCause 0 (T .withStation (applied s (T .station m)) m)
   settled reset m = withCause 0 (T .renewed m)
   settled (wants c) m = cond (T .can c m) (withCause 0 (T .perform c m)) (withCause 3 m)

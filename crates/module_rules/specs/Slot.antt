@@ -22,6 +22,9 @@ stationOf t = record { address = t .0; cause = t .1 .0; items = t .1 .1 .0; baud
 abbrev pub address : Shape Address
 address = shaped addressOf addressParts (λ t. refl) (λ w. refl) (byte then byte then flag then flag)
 
--- a cause is 0 to 3
+-- 02 P1: a cause is 0 to 5
+abbrev pub causeMost : ℕ
+causeMost = 5
+
 abbrev pub station : Shape Station
-station = shaped stationOf stationParts (λ t. refl) (λ s. refl) (address then capped 3 then byte then byte)
+station = shaped stationOf stationParts (λ t. refl) (λ s. refl) (address then capped causeMost then byte then byte)

@@ -25,6 +25,9 @@ pub const OWN_AT: usize = BAUD_AT + 1;
 
 pub const STATION_LEN: usize = OWN_AT - STATION_AT;
 
+// The greatest cause.
+pub const CAUSE_MOST: u8 = 5;
+
 // A reply has at most this many bytes: the status byte, the items of any type, the sum.
 pub const REPLY_LEN: usize = 19;
 
@@ -58,10 +61,17 @@ pub enum Setting {
     Nothing,
 }
 
-// What a frame asks, as far as every type knows it.
+// What a code asks, as far as every type knows it: what is another's, what is unknown here, or a command with the number of its data bytes.
 pub enum Asked {
     Other,
-    Malformed,
-    Wants(Setting),
-    Reset,
+    Unknown,
+    Wants(usize, Setting),
+    Reset(usize),
+}
+
+// Why a frame can't be read: its code is unknown, the number of its data bytes is wrong, or a value is out of range.
+pub enum Fault {
+    Unknown,
+    Count,
+    Value,
 }

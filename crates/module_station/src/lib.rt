@@ -7,10 +7,12 @@ ghost use Rattle.base_layout.specs.Bytes.{pasted};
 ghost use Rattle.module_rules.specs.Touch.{powerUp, individually, named, speaks};
 ghost use Rattle.module_rules.specs.Slot.{address, station};
 ghost use Rattle.module_rules.specs.Slots.{stationAt, ownAt};
-ghost use Rattle.module_rules.specs.Commands.{counted, asked, assigned, applied, caused};
+ghost use Rattle.module_rules.specs.Commands.{asked, assigned, applied, caused};
+ghost use Rattle.module_rules.specs.Rules.{faultCause};
 ghost use Rattle.module_rules.specs.Report.{causeBit};
 use module_rules::Address;
 use module_rules::Asked;
+use module_rules::Fault;
 use module_rules::Setting;
 use module_rules::Station;
 
@@ -151,45 +153,37 @@ pub fn put_station(s: &mut [u8], x: Station)
     base_layout::put_all(s, module_rules::STATION_AT, &bytes);
 }
 
-// What is asked where the count is right.
-fn counted(n: usize, ds: &[u8], what: Asked) -> Asked
-    ensures { λ r. ⌜ r ≡ counted n (now (ds .entry)) what ⌝ }
-{
-    if ds.len() == n {
-        return what;
-    }
-    Asked::Malformed
-}
-
-// What a frame's code and data ask; alone says that the frame was for this module individually.
+// What a frame's code and data ask, with the number of data bytes that it takes; alone says that the frame was for this module individually.
 pub fn asked_by(code: u8, alone: bool, ds: &[u8]) -> Asked
     ensures { λ r. ⌜ r ≡ asked code alone (now (ds .entry)) ⌝ }
 {
     match code {
-        1 => counted(
+        1 => Asked::Wants(
             2,
-            ds,
-            Asked::Wants(Setting::Assign(base_layout::byte_at(ds, 0), base_layout::byte_at(ds, 1))),
+            Setting::Assign(base_layout::byte_at(ds, 0), base_layout::byte_at(ds, 1)),
         ),
-        2 => counted(
-            1,
-            ds,
-            Asked::Wants(Setting::Define(base_layout::byte_at(ds, 0))),
-        ),
-        3 => counted(1, ds, Asked::Wants(Setting::Nothing)),
+        2 => Asked::Wants(1, Setting::Define(base_layout::byte_at(ds, 0))),
+        3 => Asked::Wants(1, Setting::Nothing),
         10 => {
             if alone {
-                return Asked::Malformed;
+                return Asked::Unknown;
             }
-            counted(
-                1,
-                ds,
-                Asked::Wants(Setting::Rate(base_layout::byte_at(ds, 0))),
-            )
+            Asked::Wants(1, Setting::Rate(base_layout::byte_at(ds, 0)))
         }
-        14 => counted(0, ds, Asked::Wants(Setting::Nothing)),
-        15 => counted(0, ds, Asked::Reset),
+        14 => Asked::Wants(0, Setting::Nothing),
+        15 => Asked::Reset(0),
         _ => Asked::Other,
+    }
+}
+
+// The cause of a frame that can't be read.
+pub fn fault_cause(fault: Fault) -> u8
+    ensures { λ r. ⌜ r ≡ faultCause fault ⌝ }
+{
+    match fault {
+        Fault::Unknown => 4,
+        Fault::Count => 2,
+        Fault::Value => 5,
     }
 }
 

@@ -1,12 +1,14 @@
-// What a frame asks of a servo: its code, the number of its data bytes and their values, read into an order or found malformed.
+// What a frame asks of a servo: its code, the number of its data bytes and their values, read into an order or found at fault.
 ghost use mathlib.Core.Path.{_≡_};
 ghost use Prim.Native.Nat.{_<_};
 ghost use Rattle.base_layout.specs.Bytes.{ofLe, readAt};
 ghost use Rattle.module_rules.specs.Touch.{frameOf};
+ghost use Rattle.module_rules.specs.Rules.{wants, counted, ranged, asking};
 ghost use Rattle.servo_rules.specs.Carried.{needed, carriedAt, carriedIn, inRange};
-ghost use Rattle.servo_rules.specs.Asks.{asksOf, counted, ranged, loadRequest, gainsIn, gainsFit, gainRequest, haltOf, oneHalt, stopCount, stopRequest, own};
+ghost use Rattle.servo_rules.specs.Asks.{asksOf, loadMeant, gainsIn, gainsFit, gainMeant, haltOf, oneHalt, stopCount, stopMeant, own};
 ghost use Rattle.servo_rules.specs.Answers.{request};
 use module_rules::Asked;
+use module_rules::Fault;
 use module_rules::Head;
 use servo_filter::Gains;
 use servo_rules::Carried;
@@ -49,22 +51,23 @@ fn needed(control: u8) -> usize
     1 + 4 * numbers + pulse
 }
 
+// What is asked where the number of data bytes is right, and where the values are good.
 fn counted(n: usize, ds: &[u8], r: Request) -> Request
     ensures { λ q. ⌜ asksOf q ≡ counted n (now (ds .entry)) (asksOf r) ⌝ }
 {
     if ds.len() == n {
         return r;
     }
-    Request::Malformed
+    Request::Malformed(Fault::Count)
 }
 
-fn ranged(ok: bool, c: Order) -> Request
-    ensures { λ r. ⌜ asksOf r ≡ ranged ok c ⌝ }
+fn ranged(good: bool, c: Order) -> Request
+    ensures { λ r. ⌜ asksOf r ≡ ranged good (wants c) ⌝ }
 {
-    if ok {
+    if good {
         return Request::Wants(c);
     }
-    Request::Malformed
+    Request::Malformed(Fault::Value)
 }
 
 // A carried number, from place at on, 0 where it is not carried.
@@ -109,7 +112,7 @@ fn is_in_range(c: Carried) -> bool
 }
 
 fn load_request(ds: &[u8]) -> Request
-    ensures { λ r. ⌜ asksOf r ≡ loadRequest (now (ds .entry)) ⌝ }
+    ensures { λ r. ⌜ asksOf r ≡ asking (now (ds .entry)) (loadMeant (now (ds .entry))) ⌝ }
 {
     let c = carried_in(ds);
     counted(
@@ -139,7 +142,7 @@ fn gains_fit(g: Gains) -> bool
 }
 
 fn gain_request(ds: &[u8]) -> Request
-    ensures { λ r. ⌜ asksOf r ≡ gainRequest (now (ds .entry)) ⌝ }
+    ensures { λ r. ⌜ asksOf r ≡ asking (now (ds .entry)) (gainMeant (now (ds .entry))) ⌝ }
 {
     let gains = gains_in(ds);
     let fit = gains_fit(gains)
@@ -188,7 +191,7 @@ fn stop_count(control: u8) -> usize
 }
 
 fn stop_request(ds: &[u8]) -> Request
-    ensures { λ r. ⌜ asksOf r ≡ stopRequest (now (ds .entry)) ⌝ }
+    ensures { λ r. ⌜ asksOf r ≡ asking (now (ds .entry)) (stopMeant (now (ds .entry))) ⌝ }
 {
     let c = base_layout::byte_at(ds, 0);
     let halt = halt_of(c);
@@ -198,7 +201,7 @@ fn stop_request(ds: &[u8]) -> Request
 
 // What the type's own codes ask.
 fn own_request(code: u8, ds: &[u8]) -> Request
-    ensures { λ r. ⌜ asksOf r ≡ own code (now (ds .entry)) ⌝ }
+    ensures { λ r. ⌜ asksOf r ≡ asking (now (ds .entry)) (own code (now (ds .entry))) ⌝ }
 {
     match code {
         0 => counted(0, ds, Request::Wants(Order::ResetPosition)),
@@ -207,7 +210,7 @@ fn own_request(code: u8, ds: &[u8]) -> Request
         6 => gain_request(ds),
         7 => stop_request(ds),
         11 => counted(0, ds, Request::Wants(Order::ClearBits)),
-        _ => Request::Malformed,
+        _ => Request::Malformed(Fault::Unknown),
     }
 }
 
@@ -218,8 +221,8 @@ pub fn request_of(f: Head, alone: bool, ds: &[u8]) -> Request
     let asked = module_station::asked_by(f.code, alone, ds);
     match asked {
         Asked::Other => own_request(f.code, ds),
-        Asked::Malformed => Request::Malformed,
-        Asked::Wants(s) => Request::Set(s),
-        Asked::Reset => Request::Reset,
+        Asked::Unknown => Request::Malformed(Fault::Unknown),
+        Asked::Wants(n, s) => counted(n, ds, Request::Set(s)),
+        Asked::Reset(n) => counted(n, ds, Request::Reset),
     }
 }

@@ -1,6 +1,5 @@
 -- A servo's station stands apart from all else that it has. Assumes nothing.
 use mathlib.Core.Path.{_≡_, refl}
-use Rattle.module_rules.specs.Rules.{Own}
 use Rattle.module_rules.specs.Promises.{Apart}
 use Rattle.servo_rules.specs.declared.Order.{Order}
 use Rattle.servo_rules.specs.declared.Order.the-variants.{ResetPosition, LoadTrajectory, Start, SetGain, Stop, ClearBits}
@@ -9,7 +8,6 @@ use Rattle.servo_rules.specs.Loads.{loaded, startsNow, start}
 use Rattle.servo_rules.specs.Perform.{resetPosition, stopped, perform}
 use Rattle.servo_rules.specs.Tick.{ticked}
 use Rattle.servo_rules.specs.Answers.{servo}
-use Rattle.servo_rules.proofs.Asks.{own-asks}
 use Rattle.servo_rules.proofs.Keeping.{either}
 
 order-apart : (c : Order) (m : Servo) → perform c m .station ≡ m .station
@@ -26,16 +24,6 @@ unfolding ticked
 apart = record {
   put = λ s m. refl;
   again = λ s t m. refl;
-  own = λ code ds.
-      own-asks Own code ds (record {
-        malformed = tt;
-        resetPosition = λ c. tt;
-        load = λ c n h. tt;
-        start = λ c n. tt;
-        gain = λ c h. tt;
-        stop = λ c n. tt;
-        clearBits = λ c. tt;
-      });
   perform = order-apart;
   renewed = λ m. refl;
   sample = λ x m. refl;

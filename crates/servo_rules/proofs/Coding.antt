@@ -1,14 +1,13 @@
 -- Which code asks for what, with how many data bytes. Assumes nothing.
 use mathlib.Core.Path.{_≡_, refl, _∙_}
-use mathlib.Core.Bool.{Bool, cond}
+use mathlib.Core.Bool.{Bool}
 use Prim.Native.Nat.{ℕ}
 use borrow.Author.Tests.{eq-eqb, ne-eqb}
 use lib.ListN.{length}
-use lib.Dec.{eqb}
 use Rattle.line_receiver.specs.Frames.{Frame}
 use Rattle.module_rules.specs.Commands.{asked}
 use Rattle.module_rules.specs.Rules as Any
-use Rattle.module_rules.specs.Rules.{Request, malformed}
+use Rattle.module_rules.specs.Rules.{Request, counted}
 use Rattle.servo_rules.specs.declared.Order.{Order}
 use Rattle.servo_rules.specs.Asks.{own}
 use Rattle.servo_rules.specs.Answers.{request}
@@ -16,7 +15,7 @@ use Rattle.servo_rules.specs.AskPromises.{Line, Codes}
 
 -- a line of the servo's own codes
 own-line : (f : Frame) (alone : Bool) (n : ℕ) (q : Request Order)
-    → request f alone ≡ cond (eqb (length (f .content)) n) q malformed
+    → request f alone ≡ counted n (f .content) q
     → Line n q f alone
 own-line f alone n q e = (
   λ h. e ∙ rw (eq-eqb _ _ h) refl,

@@ -5,7 +5,7 @@ use Rattle.line_receiver.specs.Frames.{Frame}
 use Rattle.module_rules.specs.declared.Station.{Station}
 use Rattle.module_rules.specs.Commands.{applied, caused}
 use Rattle.module_rules.specs.Rules as Any
-use Rattle.module_rules.specs.Rules.{Request, malformed, set, reset, wants, settled}
+use Rattle.module_rules.specs.Rules.{Request, malformed, set, reset, wants, faultCause, settled}
 use Rattle.servo_rules.specs.declared.Order.{Order}
 use Rattle.servo_rules.specs.declared.Servo.{Servo}
 use Rattle.servo_rules.specs.State.{withStation}
@@ -27,7 +27,7 @@ leaves P f alone m e =
     (λ d. by (request f alone) d refl)
   where
     by : (q : Request Order) → f .damaged ≡ false → request f alone ≡ q → P (settled servo q m)
-    by malformed d g = e .kept (caused 2 (m .station))
+    by (malformed x) d g = e .kept (caused (faultCause x) (m .station))
     by (set s) d g = e .kept (caused 0 (applied s (m .station)))
     by reset d g = e .renewed d g
     by (wants c) d g =

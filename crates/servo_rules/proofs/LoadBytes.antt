@@ -6,14 +6,14 @@ use Prim.Native.Nat.{ℕ, _≤_, zero-le}
 use native.Mathlib.Omega.{arith}
 use Rattle.base_layout.specs.Bytes.{ofLe}
 use Rattle.line_receiver.specs.Frames.{Frame}
-use Rattle.module_rules.specs.Rules.{wants}
+use Rattle.module_rules.specs.Rules.{wants, asking}
 use Rattle.module_rules.proofs.Settled.{cause}
 use Rattle.servo_motion.specs.Profile.{fastest}
 use Rattle.servo_rules.specs.declared.Carried.{Carried}
 use Rattle.servo_rules.specs.declared.Order.the-variants.{LoadTrajectory}
 use Rattle.servo_rules.specs.declared.Servo.{Servo}
 use Rattle.servo_rules.specs.Carried.{isSet, inRange}
-use Rattle.servo_rules.specs.Asks.{loadRequest}
+use Rattle.servo_rules.specs.Asks.{loadMeant}
 use Rattle.servo_rules.specs.Loads.{loadOf, ratesOf, loaded, startable, signedBy, start}
 use Rattle.servo_rules.specs.Perform.{can}
 use Rattle.servo_rules.specs.Answers.{servo, request, withCause, execute}
@@ -95,7 +95,7 @@ module _ (c : ℕ) (p v a : List ℕ) (u : ℕ) where
     asks =
         let e = carried-parts c p v a u (l .fours) in
         codes f alone .load (l .code)
-        ∙ ap loadRequest (l .content)
+        ∙ ap (λ (ds : List ℕ). asking ds (loadMeant ds)) (l .content)
         ∙ load-read (loadBytes c p v a u) .read (length-load c p v a u (l .fours)) (ap inRange e ∙ in-range)
         ∙ ap (λ (x : Carried). wants (LoadTrajectory x)) e
 

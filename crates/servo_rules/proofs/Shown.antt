@@ -11,12 +11,14 @@ use Rattle.base_integers.specs.Whole.{less}
 use Rattle.line_receiver.specs.Frames.{Frame}
 use Rattle.module_rules.specs.Commands.{asked}
 use Rattle.module_rules.specs.Rules as Any
-use Rattle.module_rules.specs.Rules.{malformed}
+use Rattle.module_rules.specs.declared.Fault.{Fault}
+use Rattle.module_rules.specs.declared.Fault.the-variants.{Count, Value}
+use Rattle.module_rules.specs.Rules.{malformed, faultCause, asking}
 use Rattle.module_rules.proofs.Settled.{cause}
 use Rattle.module_rules.proofs.Replies.{resets as after-reset}
 use Rattle.servo_rules.specs.declared.Order.the-variants.{SetGain}
 use Rattle.servo_rules.specs.declared.Servo.{Servo}
-use Rattle.servo_rules.specs.Asks.{gainRequest, tuningIn, own}
+use Rattle.servo_rules.specs.Asks.{gainMeant, tuningIn, own}
 use Rattle.servo_rules.specs.State.{position, fresh}
 use Rattle.servo_rules.specs.Loads.{signedBy}
 use Rattle.servo_rules.specs.Tick.{ticked}
@@ -68,23 +70,24 @@ enabled m = record {
 }
 
 -- code 6 is Set Gain
-asks-gain : (f : Frame) (alone : Bool) → f .code ≡ 6 → request f alone ≡ gainRequest (f .content)
+asks-gain : (f : Frame) (alone : Bool) → f .code ≡ 6 → request f alone ≡ asking (f .content) (gainMeant (f .content))
 unfolding Any.request asked own
 asks-gain f alone c = rw c refl
 
 pub gains : Gains
 gains f alone m =
     let g = gain-read (f .content) in
-    let refused : f .damaged ≡ false → f .code ≡ 6 → gainRequest (f .content) ≡ malformed → execute f alone m ≡ withCause 2 m =
-    λ d c e. cause servo apart f alone m .malformed d (asks-gain f alone c ∙ e) in
+    let refused : (x : Fault) → f .damaged ≡ false → f .code ≡ 6 → asking (f .content) (gainMeant (f .content)) ≡ malformed x
+    → execute f alone m ≡ withCause (faultCause x) m =
+    λ x d c e. cause servo apart f alone m .malformed x d (asks-gain f alone c ∙ e) in
     record {
       tuning = λ t. refl;
       others = λ t. refl;
       taken = λ d c n v r b. cause servo apart f alone m .executed (SetGain (tuningIn (f .content))) d (asks-gain f alone c ∙ g .read n v r b) refl;
-      count = λ d c n. refused d c (g .count n);
-      value = λ d c v. refused d c (g .value v);
-      rate = λ d c r. refused d c (g .rate r);
-      band = λ d c b. refused d c (g .band b);
+      count = λ d c n. refused Count d c (g .count n);
+      value = λ d c n v. refused Value d c (g .value n v);
+      rate = λ d c n r. refused Value d c (g .rate n r);
+      band = λ d c n b. refused Value d c (g .band n b);
     }
 
 pub samples : Samples

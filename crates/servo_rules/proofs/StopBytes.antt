@@ -1,5 +1,6 @@
 -- The bytes of each kind of stop are that stop, and no others are one. Assumes nothing.
 use mathlib.Core.Path.{_≡_, refl, sym, ap, _∙_}
+use mathlib.Core.Logic.{_⊎_, inl, inr}
 use mathlib.Core.List.{List, [], _∷_}
 use mathlib.Core.Bool.{Bool, true, false, cond}
 use Prim.Native.Nat.{ℕ, _+_, _*_, _/_, _%_, _<_, _≤_}
@@ -13,19 +14,21 @@ use Rattle.base_integers.specs.Bits.{bit}
 use Rattle.base_integers.proofs.Bits.{bit-half}
 use Rattle.base_layout.specs.Bytes.{ofLe}
 use Rattle.base_layout.proofs.Every.{every-hold}
+use Rattle.module_rules.specs.declared.Fault.the-variants.{Count, Value}
 use Rattle.module_rules.specs.Rules.{Request, malformed, wants}
 use Rattle.servo_rules.specs.declared.Halt.{Halt}
 use Rattle.servo_rules.specs.declared.Halt.the-variants.{Keep, Release, Abrupt, Smooth, Here}
 use Rattle.servo_rules.specs.declared.Order.{Order}
 use Rattle.servo_rules.specs.declared.Order.the-variants.{Stop}
 use Rattle.servo_rules.specs.Carried.{isSet}
-use Rattle.servo_rules.specs.Asks.{haltOf, oneHalt, stopCount, stopRequest}
-use Rattle.servo_rules.specs.BytePromises.{stopBit, behind, stopBytes, StopBytes}
+use Rattle.servo_rules.specs.Asks.{haltOf, oneHalt, stopCount, stopMeant}
+use Rattle.servo_rules.specs.BytePromises.{stopBit, behind, stopBytes, stopAsks, StopBytes}
 use Rattle.servo_rules.proofs.Keeping.{by-test}
 use Rattle.servo_rules.proofs.LoadParts.{set-bit, unset-bit}
+use Rattle.servo_rules.proofs.Taken.{stop-read}
 
 abbrev Taken : Bool → Halt → List ℕ → Type 0
-Taken a h x = stopRequest (stopBytes a h x) ≡ wants (Stop a h (ofLe x))
+Taken a h x = stopAsks (stopBytes a h x) ≡ wants (Stop a h (ofLe x))
 
 -- of a control byte alone, with and without the amplifier
 either : (P : Bool → Type 0) → P true → P false → (a : Bool) → P a
@@ -33,7 +36,7 @@ either P t f true = t
 either P t f false = f
 
 alone : (h : Halt) → behind h ≡ 0 → (a : Bool) → Taken a h []
-unfolding stopRequest haltOf ones onesIn
+unfolding stopMeant haltOf ones onesIn
 alone Keep e = either (λ (a : Bool). Taken a Keep []) refl refl
 alone Release e = either (λ (a : Bool). Taken a Release []) refl refl
 alone Abrupt e = either (λ (a : Bool). Taken a Abrupt []) refl refl
@@ -41,7 +44,7 @@ alone Smooth e = either (λ (a : Bool). Taken a Smooth []) refl refl
 alone Here e = absurd (omega arith)
 
 here : (b c d e : ℕ) (a : Bool) → Taken a Here (b ∷ c ∷ d ∷ e ∷ [])
-unfolding stopRequest haltOf ones onesIn
+unfolding stopMeant haltOf ones onesIn
 here b c d e = either (λ (a : Bool). Taken a Here (b ∷ c ∷ d ∷ e ∷ [])) refl refl
 
 -- lists by their length
@@ -122,20 +125,39 @@ kind c o =
     let small : c < 32 = omega arith in
     by-bits c small (few c small (leb-true _ _ (t .0))) (isSet 1 c) (isSet 2 c) (isSet 3 c) (isSet 4 c) refl refl refl refl
 
-others : (ds : List ℕ) → ((a : Bool) (h : Halt) (x : List ℕ) → length x ≡ behind h → ds ≡ stopBytes a h x → ⊥) → stopRequest ds ≡ malformed
-unfolding stopRequest
-others [] n = refl
+-- one of the two faults that a stop can have
+abbrev Faulty : Request Order → Type 0
+Faulty q = (q ≡ malformed Count) ⊎ (q ≡ malformed Value)
+
+others : (ds : List ℕ) → ((a : Bool) (h : Halt) (x : List ℕ) → length x ≡ behind h → ds ≡ stopBytes a h x → ⊥) → Faulty (stopAsks ds)
+unfolding stopMeant
+others [] n = inl refl
 others (c ∷ x) n =
-    by-test (λ (q : Request Order). q ≡ malformed) (eqb (length (c ∷ x)) (stopCount c)) _ malformed
+    by-test Faulty (eqb (length (c ∷ x)) (stopCount c)) _ (malformed Count)
     (λ e.
-    by-test (λ (q : Request Order). q ≡ malformed) (oneHalt c) _ malformed
+    by-test Faulty (oneHalt c) _ (malformed Value)
     (λ o.
     let k = kind c o in
     absurd (n (isSet 0 c) (haltOf c) x
     (omega (arith, eqb-true (length (c ∷ x)) (stopCount c) e, k .count))
     (ap (λ (b : ℕ). b ∷ x) (k .whole ∙ ap (λ (b : ℕ). stopBit (haltOf c) + b) (sym (set-bit 0 c 1 ∙ omega arith))))))
-    (λ o. refl))
-    (λ e. refl)
+    (λ o. inr refl))
+    (λ e. inl refl)
+
+-- how many bytes stand behind the control byte, by bit 4
+with-here : (c : ℕ) → isSet 4 c ≡ true → stopCount c ≡ 5
+with-here c e = rw e refl
+
+without-here : (c : ℕ) → isSet 4 c ≡ false → stopCount c ≡ 1
+without-here c e = rw e refl
 
 pub stop-bytes : StopBytes
-stop-bytes = record { taken = taken; others = others }
+stop-bytes = record {
+  taken = taken;
+  others = others;
+  none = stop-read [] .count (λ e. omega arith);
+  hereCount = λ c x b n. stop-read (c ∷ x) .count (λ e. n (omega (arith, with-here c b)));
+  hereValue = λ c x b n v. stop-read (c ∷ x) .value (omega (arith, with-here c b)) v;
+  otherCount = λ c x b n. stop-read (c ∷ x) .count (λ e. n (omega (arith, without-here c b)));
+  otherValue = λ c b v. stop-read (c ∷ []) .value (omega (arith, without-here c b)) v;
+}

@@ -1,4 +1,4 @@
--- Which frames are taken and which are malformed. Assumes nothing.
+-- Which frames are taken, and what is wrong with the others. Assumes nothing.
 use mathlib.Core.Path.{_≡_, refl}
 use mathlib.Core.List.{List}
 use mathlib.Core.Bool.{Bool, true, false, cond, _&&_, and-false}
@@ -7,44 +7,36 @@ use borrow.Author.Tests.{eq-eqb, ne-eqb}
 use lib.ListN.{length, getD}
 use lib.Dec.{eqb}
 use Rattle.module_rules.specs.Commands.{asked}
-use Rattle.module_rules.specs.Rules.{Request, malformed, request}
+use Rattle.module_rules.specs.Rules.{request}
 use Rattle.servo_rules.specs.declared.Order.{Order}
 use Rattle.servo_rules.specs.Carried.{needed}
-use Rattle.servo_rules.specs.Asks.{counted, loadRequest, gainsIn, gainsFit, gainRequest, stopCount, stopRequest, own}
+use Rattle.servo_rules.specs.Asks.{loadMeant, gainsIn, gainsFit, gainMeant, stopMeant, own}
 use Rattle.servo_rules.specs.AskPromises.{LoadRead, GainRead, StopRead, Unknown}
 
--- what is malformed stays so with any number of data bytes
-still : (n : ℕ) (ds : List ℕ) → counted n ds malformed ≡ malformed
-still n ds = go (eqb (length ds) n)
-  where
-    go : (t : Bool) → cond {A = Request Order} t malformed malformed ≡ malformed
-    go true = refl
-    go false = refl
-
 pub load-read : LoadRead
-unfolding loadRequest
+unfolding loadMeant
 load-read ds = record {
   read = λ n v. rw (eq-eqb _ _ n, v);
   count = λ n. rw (ne-eqb _ _ n);
-  value = λ v. rw v (still (needed (getD ds 0 0)) ds);
+  value = λ n v. rw (eq-eqb _ _ n, v);
 }
 
 pub gain-read : GainRead
-unfolding gainRequest
+unfolding gainMeant
 gain-read ds = record {
   read = λ n v s d. rw (eq-eqb _ _ n, v, eq-eqb _ _ s, eq-eqb _ _ d);
   count = λ n. rw (ne-eqb _ _ n);
-  value = λ v. rw v (still 15 ds);
-  rate = λ s. rw (ne-eqb _ _ s, and-false (gainsFit (gainsIn ds))) (still 15 ds);
-  band = λ d. rw (ne-eqb _ _ d, and-false (gainsFit (gainsIn ds) && eqb (getD ds 12 0) 1)) (still 15 ds);
+  value = λ n v. rw (eq-eqb _ _ n, v);
+  rate = λ n s. rw (eq-eqb _ _ n, ne-eqb _ _ s, and-false (gainsFit (gainsIn ds)));
+  band = λ n d. rw (eq-eqb _ _ n, ne-eqb _ _ d, and-false (gainsFit (gainsIn ds) && eqb (getD ds 12 0) 1));
 }
 
 pub stop-read : StopRead
-unfolding stopRequest
+unfolding stopMeant
 stop-read ds = record {
   read = λ n v. rw (eq-eqb _ _ n, v);
   count = λ n. rw (ne-eqb _ _ n);
-  value = λ v. rw v (still (stopCount (getD ds 0 0)) ds);
+  value = λ n v. rw (eq-eqb _ _ n, v);
 }
 
 pub unknown : Unknown

@@ -12,16 +12,18 @@ use Rattle.servo_rules.specs.declared.Carried.{Carried}
 use Rattle.servo_rules.specs.declared.Order.{Order}
 use Rattle.servo_rules.specs.declared.Order.the-variants.{ResetPosition, LoadTrajectory, Start, SetGain, Stop, ClearBits}
 use Rattle.module_rules.specs.declared.Setting.the-variants.{Assign, Define, Rate, Nothing}
-use Rattle.module_rules.specs.Rules.{Request, malformed, set, reset, wants}
+use Rattle.module_rules.specs.declared.Fault.the-variants as Faults
+use Rattle.module_rules.specs.Rules.{Request, malformed, set, reset, wants, asking}
 use Rattle.servo_rules.specs.Carried.{isSet, needed, carriedIn, inRange}
-use Rattle.servo_rules.specs.Asks.{loadRequest, gainsIn, tuningIn, gainsFit, gainRequest, haltOf, oneHalt, stopCount, stopRequest}
+use Rattle.servo_rules.specs.Asks.{loadMeant, gainsIn, tuningIn, gainsFit, gainMeant, haltOf, oneHalt, stopCount, stopMeant}
 use Rattle.servo_rules.specs.Answers.{request}
 
--- A load is taken if its data bytes are as many as its control byte asks for and its values are in range; else it is malformed.
+-- A load is taken if its data bytes are as many as its control byte asks for and its values are in range; with another number of them the
+-- count is wrong, whatever they are; with that number, a value is out of range.
 pub record LoadReads (ds : List ℕ) : Type 0 where
-  pub read : length ds ≡ needed (getD ds 0 0) → inRange (carriedIn ds) ≡ true → loadRequest ds ≡ wants (LoadTrajectory (carriedIn ds))
-  pub count : (length ds ≡ needed (getD ds 0 0) → ⊥) → loadRequest ds ≡ malformed
-  pub value : inRange (carriedIn ds) ≡ false → loadRequest ds ≡ malformed
+  pub read : length ds ≡ needed (getD ds 0 0) → inRange (carriedIn ds) ≡ true → asking ds (loadMeant ds) ≡ wants (LoadTrajectory (carriedIn ds))
+  pub count : (length ds ≡ needed (getD ds 0 0) → ⊥) → asking ds (loadMeant ds) ≡ malformed Faults.Count
+  pub value : length ds ≡ needed (getD ds 0 0) → inRange (carriedIn ds) ≡ false → asking ds (loadMeant ds) ≡ malformed Faults.Value
 
 abbrev pub LoadRead : Type 0
 LoadRead = (ds : List ℕ) → LoadReads ds
@@ -33,17 +35,18 @@ LoadRanged c = (c .velocity ≤ 83886080) × (c .acceleration ≤ 83886080) × (
 abbrev pub LoadRange : Type 0
 LoadRange = (c : Carried) → (inRange c ≡ true → LoadRanged c) × (LoadRanged c → inRange c ≡ true)
 
--- Set Gain is taken if it has 15 data bytes, gains in range, SR 1 and DB 0; else it is malformed.
+-- Set Gain is taken if it has 15 data bytes, gains in range, SR 1 and DB 0; with another number of data bytes the count is wrong, whatever
+-- they are; with 15, a value is out of range.
 pub record GainReads (ds : List ℕ) : Type 0 where
   pub read : length ds ≡ 15
       → gainsFit (gainsIn ds) ≡ true
       → getD ds 12 0 ≡ 1
       → getD ds 13 0 ≡ 0
-      → gainRequest ds ≡ wants (SetGain (tuningIn ds))
-  pub count : (length ds ≡ 15 → ⊥) → gainRequest ds ≡ malformed
-  pub value : gainsFit (gainsIn ds) ≡ false → gainRequest ds ≡ malformed
-  pub rate : (getD ds 12 0 ≡ 1 → ⊥) → gainRequest ds ≡ malformed
-  pub band : (getD ds 13 0 ≡ 0 → ⊥) → gainRequest ds ≡ malformed
+      → asking ds (gainMeant ds) ≡ wants (SetGain (tuningIn ds))
+  pub count : (length ds ≡ 15 → ⊥) → asking ds (gainMeant ds) ≡ malformed Faults.Count
+  pub value : length ds ≡ 15 → gainsFit (gainsIn ds) ≡ false → asking ds (gainMeant ds) ≡ malformed Faults.Value
+  pub rate : length ds ≡ 15 → (getD ds 12 0 ≡ 1 → ⊥) → asking ds (gainMeant ds) ≡ malformed Faults.Value
+  pub band : length ds ≡ 15 → (getD ds 13 0 ≡ 0 → ⊥) → asking ds (gainMeant ds) ≡ malformed Faults.Value
 
 abbrev pub GainRead : Type 0
 GainRead = (ds : List ℕ) → GainReads ds
@@ -52,13 +55,14 @@ GainRead = (ds : List ℕ) → GainReads ds
 abbrev pub GainRange : Type 0
 GainRange = (g : Gains) → (gainsFit g ≡ true → Ranged g) × (Ranged g → gainsFit g ≡ true)
 
--- Stop is taken if its data bytes are as many as its control byte asks for, and that has one kind of stop at most; else it is malformed.
+-- Stop is taken if its data bytes are as many as its control byte asks for, and that has one kind of stop at most; with another number of
+-- data bytes the count is wrong, whatever they are; with that number, the control byte is out of range.
 pub record StopReads (ds : List ℕ) : Type 0 where
   pub read : length ds ≡ stopCount (getD ds 0 0)
       → oneHalt (getD ds 0 0) ≡ true
-      → stopRequest ds ≡ wants (Stop (isSet 0 (getD ds 0 0)) (haltOf (getD ds 0 0)) (ofLe (readAt 4 1 ds)))
-  pub count : (length ds ≡ stopCount (getD ds 0 0) → ⊥) → stopRequest ds ≡ malformed
-  pub value : oneHalt (getD ds 0 0) ≡ false → stopRequest ds ≡ malformed
+      → asking ds (stopMeant ds) ≡ wants (Stop (isSet 0 (getD ds 0 0)) (haltOf (getD ds 0 0)) (ofLe (readAt 4 1 ds)))
+  pub count : (length ds ≡ stopCount (getD ds 0 0) → ⊥) → asking ds (stopMeant ds) ≡ malformed Faults.Count
+  pub value : length ds ≡ stopCount (getD ds 0 0) → oneHalt (getD ds 0 0) ≡ false → asking ds (stopMeant ds) ≡ malformed Faults.Value
 
 abbrev pub StopRead : Type 0
 StopRead = (ds : List ℕ) → StopReads ds
@@ -71,10 +75,10 @@ pub record OneKind (control : ℕ) : Type 0 where
 abbrev pub OneHalt : Type 0
 OneHalt = (control : ℕ) → oneHalt control ≡ true → OneKind control
 
--- with so many data bytes a frame asks this, with any other number it is malformed
+-- with so many data bytes a frame asks this, with any other number the count is wrong
 abbrev pub Line : ℕ → Request Order → Frame → Bool → Type 0
 Line count asks f alone =
-    (length (f .content) ≡ count → request f alone ≡ asks) × ((length (f .content) ≡ count → ⊥) → request f alone ≡ malformed)
+    (length (f .content) ≡ count → request f alone ≡ asks) × ((length (f .content) ≡ count → ⊥) → request f alone ≡ malformed Faults.Count)
 
 -- Each code with its count, and what it asks (01 Commands of both types, Servo). Load Trajectory, Set Gain and Stop look at their data, too.
 pub record Code (f : Frame) (alone : Bool) : Type 0 where
@@ -82,12 +86,12 @@ pub record Code (f : Frame) (alone : Bool) : Type 0 where
   pub setAddress : f .code ≡ 1 → Line 2 (set (Assign (getD (f .content) 0 0) (getD (f .content) 1 0))) f alone
   pub defineStatus : f .code ≡ 2 → Line 1 (set (Define (getD (f .content) 0 0))) f alone
   pub readStatus : f .code ≡ 3 → Line 1 (set Nothing) f alone
-  pub load : f .code ≡ 4 → request f alone ≡ loadRequest (f .content)
+  pub load : f .code ≡ 4 → request f alone ≡ asking (f .content) (loadMeant (f .content))
   pub start : f .code ≡ 5 → Line 0 (wants Start) f alone
-  pub setGain : f .code ≡ 6 → request f alone ≡ gainRequest (f .content)
-  pub stop : f .code ≡ 7 → request f alone ≡ stopRequest (f .content)
+  pub setGain : f .code ≡ 6 → request f alone ≡ asking (f .content) (gainMeant (f .content))
+  pub stop : f .code ≡ 7 → request f alone ≡ asking (f .content) (stopMeant (f .content))
   pub setBaud : f .code ≡ 10 → alone ≡ false → Line 1 (set (Rate (getD (f .content) 0 0))) f alone
-  pub baudAlone : f .code ≡ 10 → alone ≡ true → request f alone ≡ malformed
+  pub baudAlone : f .code ≡ 10 → alone ≡ true → request f alone ≡ malformed Faults.Unknown
   pub clearBits : f .code ≡ 11 → Line 0 (wants ClearBits) f alone
   pub noOp : f .code ≡ 14 → Line 0 (set Nothing) f alone
   pub hardReset : f .code ≡ 15 → Line 0 reset f alone
@@ -95,7 +99,7 @@ pub record Code (f : Frame) (alone : Bool) : Type 0 where
 abbrev pub Codes : Type 0
 Codes = (f : Frame) (alone : Bool) → Code f alone
 
--- A frame with any other code than the twelve is malformed.
+-- 02 P1: any other code than the twelve is unknown, with any data.
 abbrev pub Unknown : Type 0
 Unknown =
     (f : Frame) (alone : Bool)
@@ -111,7 +115,7 @@ Unknown =
     → (f .code ≡ 11 → ⊥)
     → (f .code ≡ 14 → ⊥)
     → (f .code ≡ 15 → ⊥)
-    → request f alone ≡ malformed
+    → request f alone ≡ malformed Faults.Unknown
 
 -- What is read from bytes fits into the bytes that hold it.
 pub record Fits (ds : List ℕ) : Type 0 where

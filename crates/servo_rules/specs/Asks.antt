@@ -1,12 +1,12 @@
 -- What a frame asks of a servo (document 01, "Servo").
 use Prim.Native.Nat.{ℕ, _/_, _%_}
 use mathlib.Core.List.{List}
-use mathlib.Core.Bool.{Bool, cond, _&&_}
-use lib.ListN.{length, getD}
+use mathlib.Core.Bool.{Bool, true, cond, _&&_}
+use lib.ListN.{getD}
 use lib.Count.{ones}
 use lib.Dec.{eqb, leb}
 use Rattle.base_layout.specs.Bytes.{ofLe, readAt}
-use Rattle.module_rules.specs.Rules.{Request, malformed, set, reset, wants}
+use Rattle.module_rules.specs.Rules.{Request, malformed, set, reset, wants, Meaning, unknown, takes}
 use Rattle.servo_filter.specs.declared.Gains.{Gains}
 use Rattle.servo_rules.specs.declared.Tuning.{Tuning}
 use Rattle.servo_rules.specs.declared.Halt.{Halt}
@@ -19,22 +19,14 @@ use Rattle.servo_rules.specs.Carried.{isSet, needed, carriedIn, inRange}
 
 -- the case of the code's request in the request of any type
 abbrev pub asksOf : Code.Request → Request Order
-asksOf Codes.Malformed = malformed
+asksOf (Codes.Malformed x) = malformed x
 asksOf (Codes.Set s) = set s
 asksOf Codes.Reset = reset
 asksOf (Codes.Wants c) = wants c
 
--- what is asked, if the number of data bytes is n
-abbrev pub counted : ℕ → List ℕ → Request Order → Request Order
-counted n ds r = cond (eqb (length ds) n) r malformed
-
--- what is asked, if its values are in range
-abbrev pub ranged : Bool → Order → Request Order
-ranged ok c = cond ok (wants c) malformed
-
--- 4 Load Trajectory: first the count that the control byte asks for, which is never 0, then the values
-unfoldable pub loadRequest : List ℕ → Request Order
-loadRequest ds = counted (needed (getD ds 0 0)) ds (ranged (inRange (carriedIn ds)) (LoadTrajectory (carriedIn ds)))
+-- 4 Load Trajectory takes the count that its control byte asks for, which is never 0
+unfoldable pub loadMeant : List ℕ → Meaning Order
+loadMeant ds = takes (needed (getD ds 0 0)) (inRange (carriedIn ds)) (LoadTrajectory (carriedIn ds))
 
 -- 6 Set Gain: Kp, Kd, Ki, IL, OL, CL, EL, SR, DB, SM
 unfoldable pub gainsIn : List ℕ → Gains
@@ -60,10 +52,8 @@ gainsFit g =
     && leb (g .el) 16383
 
 -- SR must be 1 and DB 0
-unfoldable pub gainRequest : List ℕ → Request Order
-gainRequest ds =
-    counted 15 ds
-    (ranged (gainsFit (gainsIn ds) && eqb (getD ds 12 0) 1 && eqb (getD ds 13 0) 0) (SetGain (tuningIn ds)))
+unfoldable pub gainMeant : List ℕ → Meaning Order
+gainMeant ds = takes 15 (gainsFit (gainsIn ds) && eqb (getD ds 12 0) 1 && eqb (getD ds 13 0) 0) (SetGain (tuningIn ds))
 
 -- 7 Stop: what of bits 1 to 4 is set; at most one of them may be, and none of bits 5 to 7
 unfoldable pub haltOf : ℕ → Halt
@@ -81,18 +71,18 @@ oneHalt control = leb (ones (control / 2 % 16)) 1 && eqb (control / 32) 0
 abbrev pub stopCount : ℕ → ℕ
 stopCount control = cond (isSet 4 control) 5 1
 
-unfoldable pub stopRequest : List ℕ → Request Order
-stopRequest ds =
-    counted (stopCount (getD ds 0 0)) ds
-    (ranged (oneHalt (getD ds 0 0)) (Stop (isSet 0 (getD ds 0 0)) (haltOf (getD ds 0 0)) (ofLe (readAt 4 1 ds))))
+unfoldable pub stopMeant : List ℕ → Meaning Order
+stopMeant ds =
+    takes (stopCount (getD ds 0 0)) (oneHalt (getD ds 0 0))
+    (Stop (isSet 0 (getD ds 0 0)) (haltOf (getD ds 0 0)) (ofLe (readAt 4 1 ds)))
 
 -- the type's own codes: 0 Reset Position (0), 4 Load Trajectory, 5 Start (0), 6 Set Gain (15), 7 Stop, 11 Clear Bits (0); any other is unknown
-unfoldable pub own : ℕ → List ℕ → Request Order
+unfoldable pub own : ℕ → List ℕ → Meaning Order
 own code ds =
-    cond (eqb code 0) (counted 0 ds (wants ResetPosition))
-    (cond (eqb code 4) (loadRequest ds)
-    (cond (eqb code 5) (counted 0 ds (wants Start))
-    (cond (eqb code 6) (gainRequest ds)
-    (cond (eqb code 7) (stopRequest ds)
-    (cond (eqb code 11) (counted 0 ds (wants ClearBits))
-    malformed)))))
+    cond (eqb code 0) (takes 0 true ResetPosition)
+    (cond (eqb code 4) (loadMeant ds)
+    (cond (eqb code 5) (takes 0 true Start)
+    (cond (eqb code 6) (gainMeant ds)
+    (cond (eqb code 7) (stopMeant ds)
+    (cond (eqb code 11) (takes 0 true ClearBits)
+    unknown)))))

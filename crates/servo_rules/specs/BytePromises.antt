@@ -1,6 +1,7 @@
 -- What is promised of the data bytes of a servo's own commands: they are put together from parts that are free of each other, and what a
 -- servo then stores and does is said by those parts. Each is proved under its name, with small letters, in proofs/.
 use mathlib.Core.Path.{_≡_}
+use mathlib.Core.Logic.{_⊎_}
 use Prim.Native.Nat.{ℕ, _+_, _≤_}
 use mathlib.Core.List.{List, [], _∷_, _++_}
 use mathlib.Core.Bool.{Bool, true, false, cond, _||_}
@@ -8,16 +9,18 @@ use lib.ListN.{length, getD}
 use lib.IntN.{ℤ, pos, negℤ}
 use Rattle.base_layout.specs.Bytes.{ofLe}
 use Rattle.line_receiver.specs.Frames.{Frame}
-use Rattle.module_rules.specs.Rules.{malformed, wants}
+use Rattle.module_rules.specs.declared.Fault.the-variants as Faults
+use Rattle.module_rules.specs.Rules.{Request, malformed, wants, asking}
 use Rattle.servo_rules.specs.declared.Halt.{Halt}
 use Rattle.servo_rules.specs.declared.Halt.the-variants.{Keep, Release, Abrupt, Smooth, Here}
+use Rattle.servo_rules.specs.declared.Order.{Order}
 use Rattle.servo_rules.specs.declared.Order.the-variants.{Stop}
 use Rattle.servo_rules.specs.declared.Mode.the-variants.{Pwm, Velocity, Trapezoid}
 use Rattle.servo_rules.specs.declared.Way.the-variants.{Pulse, Speed, Move}
 use Rattle.servo_rules.specs.declared.Rates.{Rates}
 use Rattle.servo_rules.specs.declared.Servo.{Servo}
 use Rattle.servo_rules.specs.Carried.{isSet, needed}
-use Rattle.servo_rules.specs.Asks.{stopRequest}
+use Rattle.servo_rules.specs.Asks.{oneHalt, stopMeant}
 use Rattle.servo_rules.specs.Answers.{execute}
 
 -- what a bit of the control byte announces: these bytes, or none
@@ -139,14 +142,24 @@ behind Here = 4
 abbrev pub stopBytes : Bool → Halt → List ℕ → List ℕ
 stopBytes amplifier halt x = (stopBit halt + cond amplifier 1 0) ∷ x
 
--- Such bytes are a Stop of this kind, and no others are one (01 Stop).
+-- what the data bytes of a Stop ask
+abbrev pub stopAsks : List ℕ → Request Order
+stopAsks ds = asking ds (stopMeant ds)
+
+-- Such bytes are a Stop of this kind, and no others are one (01 Stop). Of the others the number is judged first, and by bit 4 alone: with it
+-- four bytes stand behind the control byte, without it none; then the control byte is out of range (02 P1).
 pub record StopBytes : Type 0 where
   pub taken : (amplifier : Bool) (halt : Halt) (x : List ℕ)
       → length x ≡ behind halt
-      → stopRequest (stopBytes amplifier halt x) ≡ wants (Stop amplifier halt (ofLe x))
+      → stopAsks (stopBytes amplifier halt x) ≡ wants (Stop amplifier halt (ofLe x))
   pub others : (ds : List ℕ)
       → ((amplifier : Bool) (halt : Halt) (x : List ℕ) → length x ≡ behind halt → ds ≡ stopBytes amplifier halt x → ⊥)
-      → stopRequest ds ≡ malformed
+      → (stopAsks ds ≡ malformed Faults.Count) ⊎ (stopAsks ds ≡ malformed Faults.Value)
+  pub none : stopAsks [] ≡ malformed Faults.Count
+  pub hereCount : (c : ℕ) (x : List ℕ) → isSet 4 c ≡ true → (length x ≡ 4 → ⊥) → stopAsks (c ∷ x) ≡ malformed Faults.Count
+  pub hereValue : (c : ℕ) (x : List ℕ) → isSet 4 c ≡ true → length x ≡ 4 → oneHalt c ≡ false → stopAsks (c ∷ x) ≡ malformed Faults.Value
+  pub otherCount : (c : ℕ) (x : List ℕ) → isSet 4 c ≡ false → (length x ≡ 0 → ⊥) → stopAsks (c ∷ x) ≡ malformed Faults.Count
+  pub otherValue : (c : ℕ) → isSet 4 c ≡ false → oneHalt c ≡ false → stopAsks (c ∷ []) ≡ malformed Faults.Value
 
 -- the data bytes of Set Gain: Kp, Kd, Ki, IL, OL, CL, EL, then SR 1, DB 0 and SM
 abbrev pub gainBytes : List ℕ → List ℕ → List ℕ → List ℕ → ℕ → ℕ → List ℕ → ℕ → List ℕ

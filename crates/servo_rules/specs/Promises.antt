@@ -152,9 +152,9 @@ pub record StoresGain (f : Frame) (alone : Bool) (m : Servo) : Type 0 where
       → getD (f .content) 13 0 ≡ 0
       → execute f alone m ≡ withCause 0 (withSettings (withTuning (tuningIn (f .content)) (m .settings)) m)
   pub count : f .damaged ≡ false → f .code ≡ 6 → (length (f .content) ≡ 15 → ⊥) → execute f alone m ≡ withCause 2 m
-  pub value : f .damaged ≡ false → f .code ≡ 6 → gainsFit (gainsIn (f .content)) ≡ false → execute f alone m ≡ withCause 2 m
-  pub rate : f .damaged ≡ false → f .code ≡ 6 → (getD (f .content) 12 0 ≡ 1 → ⊥) → execute f alone m ≡ withCause 2 m
-  pub band : f .damaged ≡ false → f .code ≡ 6 → (getD (f .content) 13 0 ≡ 0 → ⊥) → execute f alone m ≡ withCause 2 m
+  pub value : f .damaged ≡ false → f .code ≡ 6 → length (f .content) ≡ 15 → gainsFit (gainsIn (f .content)) ≡ false → execute f alone m ≡ withCause 5 m
+  pub rate : f .damaged ≡ false → f .code ≡ 6 → length (f .content) ≡ 15 → (getD (f .content) 12 0 ≡ 1 → ⊥) → execute f alone m ≡ withCause 5 m
+  pub band : f .damaged ≡ false → f .code ≡ 6 → length (f .content) ≡ 15 → (getD (f .content) 13 0 ≡ 0 → ⊥) → execute f alone m ≡ withCause 5 m
 
 abbrev pub Gains : Type 0
 Gains = (f : Frame) (alone : Bool) (m : Servo) → StoresGain f alone m

@@ -1,4 +1,5 @@
 // The servo, type 0 version 10: what it consists of, and what a frame asks of it. Types, definitions and promises; no function.
+use module_rules::Fault;
 use module_rules::Setting;
 use module_rules::Station;
 use servo_filter::Gains;
@@ -135,7 +136,7 @@ pub enum Order {
 
 // What a frame asks.
 pub enum Request {
-    Malformed,
+    Malformed(Fault),
     Set(Setting),
     Reset,
     Wants(Order),

@@ -113,7 +113,7 @@ fn is_front_ok(s: &[u8]) -> bool
     (s[0] == servo_rules::TYPE)
         & (s[module_rules::LEADER_AT] <= 1)
         & (s[module_rules::LOW_AT] <= 1)
-        & (s[module_rules::CAUSE_AT] <= 3)
+        & (s[module_rules::CAUSE_AT] <= module_rules::CAUSE_MOST)
         & (s[WAITING_POWER_AT] <= 2)
         & (s[LATCHED_POWER_AT] <= 2)
         & (s[KP_TOP_AT] <= 127)

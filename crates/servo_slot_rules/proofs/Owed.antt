@@ -1,12 +1,13 @@
 -- What the servo owes as a module type. Assumes nothing.
 use mathlib.Core.Path.{_≡_, refl, sym, ap, _∙_}
-use mathlib.Core.List.{List}
-use mathlib.Core.Bool.{true}
+use mathlib.Core.List.{List, [], _∷_}
+use mathlib.Core.Bool.{true, _&&_}
 use Prim.Native.Nat.{ℕ, zero, suc}
 use native.Mathlib.Omega.{arith}
 use borrow.Author.Tests.{eqb-true}
 use borrow.Author.Needs.{needs}
 use lib.ListN.{length, getD}
+use lib.Dec.{eqb}
 use lib.IntN.{pos}
 use lib.Signed.{ltZ}
 use Rattle.base_layout.specs.Bytes.{pasted, Bytes}
@@ -17,9 +18,10 @@ use Rattle.module_rules.specs.Slots.{Lawful}
 use Rattle.module_rules.specs.Owes.{Safe, Owes}
 use Rattle.module_rules.proofs.Slotting.{slotted-lawful}
 use Rattle.servo_rules.specs.declared.Servo.{Servo}
+use Rattle.servo_rules.specs.Asks.{loadMeant, gainsIn, gainsFit, gainMeant, stopMeant}
 use Rattle.servo_rules.specs.Answers.{typeNumber, enabled, outputsFrom, outputsOf, servo}
 use Rattle.servo_rules.proofs.Apart.{apart}
-use Rattle.servo_rules.proofs.Asks.{Each, own-asks}
+use Rattle.servo_rules.proofs.Asks.{Each, own-means}
 use Rattle.servo_rules.proofs.Bounds.{fit}
 use Rattle.servo_rules.proofs.Ranges.{bit-most}
 use Rattle.servo_rules.proofs.Reply.{status-bits, numbers-fit}
@@ -52,15 +54,20 @@ typed s v = eqb-true _ _ (every-hold (slot .codec .tests 0 s) v .0)
 
 -- ---- what the own codes ask keeps a servo such as a slot can hold
 
+-- the gains of a Set Gain whose values are good
+gains-in-range : (ds : List ℕ) → (gainsFit (gainsIn ds) && eqb (getD ds 12 0) 1 && eqb (getD ds 13 0) 0) ≡ true → gainsFit (gainsIn ds) ≡ true
+gains-in-range ds e = every-hold (gainsFit (gainsIn ds) ∷ eqb (getD ds 12 0) 1 ∷ eqb (getD ds 13 0) 0 ∷ []) e .0
+
 each : (code : ℕ) (ds : List ℕ) → Bytes ds → Each (Safe servo slots (sample .codec .fits)) code ds
+unfolding loadMeant gainMeant stopMeant
 each code ds b = record {
-  malformed = tt;
-  resetPosition = λ c m t k. fits _ (reset-good (good m t) k);
-  load = λ c n e m t k. fits _ (trajectory-good (good m t) ds b e k);
-  start = λ c n m t k. fits _ (start-good (good m t) k);
-  gain = λ c e m t k. fits _ (gain-good (good m t) ds b e);
-  stop = λ c n m t k. fits _ (stop-good (good m t) _ _ _ (fit ds b .halt) k);
-  clearBits = λ c m t k. fits _ (clear-good (good m t));
+  unknown = tt;
+  resetPosition = λ c g m t k. fits _ (reset-good (good m t) k);
+  load = λ c e m t k. fits _ (trajectory-good (good m t) ds b e k);
+  start = λ c g m t k. fits _ (start-good (good m t) k);
+  gain = λ c e m t k. fits _ (gain-good (good m t) ds b (gains-in-range ds e));
+  stop = λ c g m t k. fits _ (stop-good (good m t) _ _ _ (fit ds b .halt) k);
+  clearBits = λ c g m t k. fits _ (clear-good (good m t));
 }
 
 -- ---- what is driven
@@ -86,7 +93,7 @@ owes = record {
   held = λ m t. good m t .station;
   withStation = λ s m h t. fits _ (station-good (good m t) s h);
   renewed = λ m t. fits _ (fresh-good (m .samples) (good m t .samples));
-  own = λ code ds b. own-asks (Safe servo slots (sample .codec .fits)) code ds (each code ds b);
+  own = λ code ds b. own-means (Safe servo slots (sample .codec .fits)) code ds (each code ds b);
   sample = λ x m h t. fits _ (sampled-good (good m t) x h);
   tick = λ m t. fits _ (tick-good (good m t));
   eight = refl;

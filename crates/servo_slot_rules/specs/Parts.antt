@@ -6,7 +6,7 @@ use lib.ListN.{getD}
 use lib.Dec.{eqb, leb}
 use Rattle.base_integers.specs.Whole.{word}
 use Rattle.base_layout.specs.Bytes.{le, pasted}
-use Rattle.module_rules.specs.Slot.{station}
+use Rattle.module_rules.specs.Slot.{causeMost, station}
 use Rattle.module_rules.specs.Slots.{leaderAt, lowAt, causeAt}
 use Rattle.servo_motion.specs.Profile.{inRange}
 use Rattle.servo_rules.specs.declared.Sample.{Sample}
@@ -51,7 +51,7 @@ frontTests s =
     eqb (getD s 0 0) typeNumber
     ∷ leb (getD s leaderAt 0) 1
     ∷ leb (getD s lowAt 0) 1
-    ∷ leb (getD s causeAt 0) 3
+    ∷ leb (getD s causeAt 0) causeMost
     ∷ leb (getD s (powerIn waitingAt) 0) 2
     ∷ leb (getD s (powerIn latchedAt) 0) 2
     ∷ leb (getD s kpTopAt 0) 127

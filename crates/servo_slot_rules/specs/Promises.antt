@@ -40,7 +40,7 @@ pub record Lines (s : List ℕ) (m : Servo) : Type 0 where
   pub typeByte : getD s 0 0 ≡ typeNumber
   pub leader : getD s leaderAt 0 ≤ 1
   pub low : getD s lowAt 0 ≤ 1
-  pub cause : m .station .cause ≤ 3
+  pub cause : m .station .cause ≤ 5
   pub waitingPower : m .samples .waiting .power ≤ 2
   pub latchedPower : m .samples .latched .power ≤ 2
   pub gains : Ranged (m .settings .tuning .gains)

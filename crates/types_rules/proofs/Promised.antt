@@ -36,6 +36,7 @@ every-type t =
     let a = owes t .apart in
     record {
       cause = Settled.cause (rulesOf t) a;
+      tested = Settled.cause-tested (rulesOf t) a;
       causeIs = Settled.cause-is (rulesOf t) a;
       address = Settled.address-kept (rulesOf t) a;
       resets = Replies.resets (rulesOf t) a;

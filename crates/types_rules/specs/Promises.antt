@@ -8,7 +8,7 @@ use Rattle.line_receiver.specs.Frames.{Frame}
 use Rattle.module_rules.specs.Report.{Fit}
 use Rattle.module_rules.specs.Rules.{reply}
 use Rattle.module_rules.specs.Owes.{replySize}
-use Rattle.module_rules.specs.Promises.{Cause, CauseIs, AddressKept, Resets, StatusFirst, Replied, Short}
+use Rattle.module_rules.specs.Promises.{Cause, CauseTested, CauseIs, AddressKept, Resets, StatusFirst, Replied, Short}
 use Rattle.module_rules.specs.FramePromises.{AtPowerUp, Stored, Counts}
 use Rattle.types_rules.specs.Table.{ModuleType, Of, rulesOf, slotsOf}
 use Rattle.types_rules.specs.Types.{known}
@@ -23,6 +23,7 @@ Numbers = (n : ℕ) → (known n ≡ true) ↔ ThereIs n
 -- Every type of the table keeps what is promised of a module of any type (module_rules).
 pub record Keeps (t : ModuleType) : Type 0 where
   pub cause : Cause (rulesOf t)
+  pub tested : CauseTested (rulesOf t)
   pub causeIs : CauseIs (rulesOf t)
   pub address : AddressKept (rulesOf t)
   pub resets : Resets (rulesOf t)

@@ -23,32 +23,32 @@ put-requires : tie.Need-put-requires
 put-requires c κs = omega (arith, c .before .before .before .before .before .before .before .before .before .before .before .before .pre .0)
 
 returns-2 : tie.Need-returns-2
-returns-2 c = let p = c .before .before .before .before .before .before .before .before .before .before .before .before in
+returns-2 c = let p = c .before .before .before .before .before .before .before .before .before .before .before .before .before .before in
     let a = p .before in
     malformed-put inout slots (sample .codec .fits) owes (a .args .s .now) (a .pre .0) (λ i. omega (arith, p .slice-known .given i)) (a .pre .1)
     (frameOf (a .args .f) (a .args .ds .now)) (a .args .alone)
-    (c .before .before .before .before .before .before .before .before .if1 .left) (sym (c .before .before .before .before .before .before .before .request-of .ensures) ∙ ap asksOf (c .before .before .before .before .before .enum-told .given .1)) (c .before .before .before .before .before .before .before .before .before .station-in .ensures) (c .before .before .before .with-cause2 .ensures) (c .before .before .put-station2 .ensures)
+    (c .before .before .before .before .before .before .before .before .before .before .if1 .left) _ (sym (c .before .before .before .before .before .before .before .before .before .request-of .ensures) ∙ ap asksOf (c .before .before .before .before .before .before .before .asked .given .1)) (c .before .before .before .before .before .before .before .before .before .before .before .station-in .ensures) (c .before .before .before .before .before .fault-cause .ensures) (c .before .before .before .with-cause2 .ensures) (c .before .before .put-station2 .ensures)
 
 returns-3 : tie.Need-returns-3
 returns-3 c = let p = c .before .before .before .before .before .before .before .before .before .before .before .before .before .before in
     let a = p .before in
     set-put inout slots (sample .codec .fits) owes (a .args .s .now) (a .pre .0) (λ i. omega (arith, p .slice-known .given i)) (a .pre .1)
     (frameOf (a .args .f) (a .args .ds .now)) (a .args .alone)
-    (c .before .before .before .before .before .before .before .before .before .before .if1 .left) _ (sym (c .before .before .before .before .before .before .before .before .before .request-of .ensures) ∙ ap asksOf (c .before .before .before .before .before .before .before .asked .given .1)) (c .before .before .before .before .before .before .before .before .before .before .before .station-in .ensures) (c .before .before .before .before .before .with-setting .ensures) (c .before .before .before .with-cause3 .ensures) (c .before .before .put-station3 .ensures)
+    (c .before .before .before .before .before .before .before .before .before .before .if1 .left) _ (sym (c .before .before .before .before .before .before .before .before .before .request-of .ensures) ∙ ap asksOf (c .before .before .before .before .before .before .before .asked2 .given .1)) (c .before .before .before .before .before .before .before .before .before .before .before .station-in .ensures) (c .before .before .before .before .before .with-setting .ensures) (c .before .before .before .with-cause3 .ensures) (c .before .before .put-station3 .ensures)
 
 returns-4 : tie.Need-returns-4
 returns-4 c = let p = c .before .before .before .before .before .before .before .before .before .before .before .before .before .before in
     let a = p .before in
     asked-put inout slots (sample .codec .fits) owes (a .args .s .now) (a .pre .0) (λ i. omega (arith, p .slice-known .given i)) (a .pre .1)
     (frameOf (a .args .f) (a .args .ds .now)) (a .args .alone)
-    (c .before .before .before .before .before .before .before .before .before .before .if1 .left) (sym (c .before .before .before .before .before .before .before .before .before .request-of .ensures) ∙ ap asksOf (c .before .before .before .before .before .before .before .enum-told2 .given .1)) (c .before .before .before .fresh .ensures ∙ ap fresh (c .before .before .before .before .before .samples-in .ensures)) (c .before .before .put .ensures)
+    (c .before .before .before .before .before .before .before .before .before .before .if1 .left) (sym (c .before .before .before .before .before .before .before .before .before .request-of .ensures) ∙ ap asksOf (c .before .before .before .before .before .before .before .enum-told .given .1)) (c .before .before .before .fresh .ensures ∙ ap fresh (c .before .before .before .before .before .samples-in .ensures)) (c .before .before .put .ensures)
 
 returns-5 : tie.Need-returns-5
 returns-5 c = let p = c .before .before .before .before .before .before .before .before .before .before .before .before in
     let a = p .before in
     asked-put inout slots (sample .codec .fits) owes (a .args .s .now) (a .pre .0) (λ i. omega (arith, p .slice-known .given i)) (a .pre .1)
     (frameOf (a .args .f) (a .args .ds .now)) (a .args .alone)
-    (c .before .before .before .before .before .before .before .before .if1 .left) (sym (c .before .before .before .before .before .before .before .request-of .ensures) ∙ ap asksOf (c .before .before .before .before .before .asked2 .given .1)) refl (c .before .before .perform .ensures)
+    (c .before .before .before .before .before .before .before .before .if1 .left) (sym (c .before .before .before .before .before .before .before .request-of .ensures) ∙ ap asksOf (c .before .before .before .before .before .asked3 .given .1)) refl (c .before .before .perform .ensures)
 
 pub settle-spec : {M : Type 1} → statement M
 settle-spec =
@@ -61,6 +61,7 @@ settle-spec =
     returns
     (λ c κs. search needs)
     (λ c. search needs)
+    (λ c κs. search needs)
     (λ c κs. search needs)
     (λ c κs. search needs)
     (λ c. search needs)

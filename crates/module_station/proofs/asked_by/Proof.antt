@@ -1,4 +1,4 @@
--- `module_station::asked_by` meets its contract. Assumes nothing.
+-- `module_station::asked_by` meets its contract. Each code is one arm. Assumes nothing.
 use borrow.Author.Tests.{ne-eqb}
 use Rattle.module_rules.specs.Commands.{asked}
 use borrow.Author.Needs.{needs}
@@ -11,27 +11,27 @@ returns c = rw (c .before .match .keys4, c .if1 .taken)
 
 returns-2 : tie.Need-returns-2
 unfolding asked
-returns-2 c = rw (c .before .before .before .match .keys1, ← c .before .byte-at2 .ensures, ← c .before .before .byte-at .ensures) (c .counted .ensures)
+returns-2 c = rw (c .before .before .match .keys1, c .byte-at2 .ensures, c .before .byte-at .ensures)
 
 returns-3 : tie.Need-returns-3
 unfolding asked
-returns-3 c = rw (c .before .before .match .keys2, ← c .before .byte-at3 .ensures) (c .counted2 .ensures)
+returns-3 c = rw (c .before .match .keys2, c .byte-at3 .ensures)
 
 returns-4 : tie.Need-returns-4
 unfolding asked
-returns-4 c = rw (c .before .match .keys3) (c .counted3 .ensures)
+returns-4 c = rw (c .match .keys3)
 
 returns-5 : tie.Need-returns-5
 unfolding asked
-returns-5 c = rw (c .before .before .before .match .keys4, c .before .before .if1 .left, ← c .before .byte-at4 .ensures) (c .counted4 .ensures)
+returns-5 c = rw (c .before .before .match .keys4, c .before .if1 .left, c .byte-at4 .ensures)
 
 returns-6 : tie.Need-returns-6
 unfolding asked
-returns-6 c = rw (c .before .match .keys5) (c .counted5 .ensures)
+returns-6 c = rw (c .match .keys5)
 
 returns-7 : tie.Need-returns-7
 unfolding asked
-returns-7 c = rw (c .before .match .keys6) (c .counted6 .ensures)
+returns-7 c = rw (c .match .keys6)
 
 returns-8 : tie.Need-returns-8
 unfolding asked
@@ -44,13 +44,7 @@ asked-by-spec =
     (λ c κs. search needs)
     (λ c κs. search needs)
     (λ c κs. search needs)
-    (λ c κs. search needs)
-    (λ c κs. search needs)
-    (λ c κs. search needs)
     returns
-    (λ c κs. search needs)
-    (λ c κs. search needs)
-    (λ c κs. search needs)
     (λ c κs. search needs)
     returns-2
     returns-3
