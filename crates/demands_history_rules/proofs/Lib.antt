@@ -1,4 +1,5 @@
 pub mod Events
 pub mod Alone
+pub mod Along
 pub mod Singly
 pub mod Calls

@@ -9,7 +9,7 @@ use lib.Dec.{eqb}
 use Rattle.line_receiver.specs.Receive.{idle}
 use Rattle.line_receiver.specs.Frames.{Byte, Frame, waiting, ended, reads, header}
 use Rattle.module_rules.specs.declared.Address.{Address}
-use Rattle.module_rules.specs.Kind.{Kind, executed, replied}
+use Rattle.module_rules.specs.Kind.{Kind, executed, replied, Along}
 use Rattle.chain_rules.specs.Chain.{Net, Reply, once, addresses, touched, byteStep, changed}
 
 -- what happens to a network: the bytes of a frame come, a sample for a place, a tick
@@ -42,6 +42,17 @@ event K ticked n = record { net = record { receiver = n .receiver; modules = map
 abbrev pub run : {M S : Type 0} → Kind M S → List (Event S) → Net M → Outcome M
 run K [] n = record { net = n; replies = [] }
 run K (e ∷ h) n = after (event K e n .replies) (run K h (event K e n .net))
+
+-- the network with h of each module
+abbrev pub each : {M : Type 0} → (M → M) → Net M → Net M
+each h n = record { receiver = n .receiver; modules = map h (n .modules) }
+
+-- Where one kind of module is another's along h, their networks go so through any history, with the same replies.
+abbrev pub RunsAlong : {M S : Type 0} → Kind M S → Kind M S → (M → M) → Type 0
+RunsAlong {M} {S} K L h =
+    Along K L h
+    → (es : List (Event S)) (n : Net M)
+    → run L es (each h n) ≡ record { net = each h (run K es n .net); replies = run K es n .replies }
 
 -- these bytes, from an idle receiver, are the frame f: it ends with the last of them and not sooner, and leaves the receiver idle
 abbrev pub Reads : List Byte → Frame → Type 0

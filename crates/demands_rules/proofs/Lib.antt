@@ -25,3 +25,4 @@ mod Computing
 pub mod TimeExample
 pub mod QuickestExamples
 pub mod MoveExample
+pub mod Numbering

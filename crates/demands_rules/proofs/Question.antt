@@ -7,14 +7,13 @@ use Rattle.line_receiver.specs.Frames.{Frame}
 use Rattle.module_rules.specs.declared.Fault.the-variants.{Count}
 use Rattle.servo_rules.specs.declared.Halt.the-variants.{Here}
 use Rattle.servo_rules.specs.declared.Order.the-variants.{LoadTrajectory, Start, Stop}
-use Rattle.servo_rules.specs.declared.Way.{Way}
-use Rattle.servo_rules.specs.declared.Way.the-variants.{Pulse, Speed, Move}
 use Rattle.servo_rules.specs.declared.Servo.{Servo}
 use Rattle.servo_rules.specs.State.{ready}
-use Rattle.servo_rules.specs.Loads.{movable, completeBy, complete, startable, loaded}
+use Rattle.servo_rules.specs.Loads.{complete, startable, loaded}
 use Rattle.servo_rules.specs.Perform.{can, perform}
 use Rattle.servo_rules.specs.Answers.{withCause, execute}
-use Rattle.servo_rules.proofs.Starting.{starts, complete-is, start-now, twice as twice-from}
+use Rattle.servo_rules.proofs.Apart.{unseen}
+use Rattle.servo_rules.proofs.Starting.{starts, start-now, twice as twice-from}
 use Rattle.servo_rules.proofs.Stopping.{stops, stops-now}
 use Rattle.types_rules.specs.Table.{servo}
 use Rattle.types_rules.proofs.Promised.{every-type}
@@ -22,19 +21,15 @@ use Rattle.demands_rules.specs.Motion.{byStart, byLoad, ofLoad, byStopHe
 use Rattle.demands_rules.specs.Question.{Missed, elsewhere, damaged, short, MissedTells, NoneReady, IsStart, Question, Twice}
 use Rattle.demands_rules.proofs.Known.{start-asks, short-asks, not-keep}
 
--- a cause makes no load complete
-caused-complete : (c : ℕ) (w : Way) (m : Servo) → completeBy w (withCause c m) ≡ completeBy w m
-unfolding movable
-caused-complete c Pulse m = refl
-caused-complete c Speed m = refl
-caused-complete c Move m = refl
-
+-- without a complete load no Start can be carried out, whatever the cause is
 unready : (c : ℕ) (m : Servo) → NoneReady m → can Start (withCause c m) ≡ false
 unfolding startable
-unready c m (inl e) = ap (λ (t : Bool). t && complete (withCause c m) && ready m) e
-unready c m (inr e) =
-    let n : complete (withCause c m) ≡ false = complete-is (withCause c m) ∙ caused-complete c (m .settings .load .way) m ∙ sym (complete-is m) ∙ e in
-    ap (λ (t : Bool). m .settings .load .waits && t && ready m) n ∙ ap (λ (t : Bool). t && ready m) (and-false (m .settings .load .waits))
+unready c m n = unseen .can Start _ m ∙ by n
+  where
+    by : NoneReady m → startable m ≡ false
+    by (inl e) = ap (λ (t : Bool). t && complete m && ready m) e
+    by (inr e) =
+        ap (λ (t : Bool). m .settings .load .waits && t && ready m) e ∙ ap (λ (t : Bool). t && ready m) (and-false (m .settings .load .waits))
 
 -- an undamaged Start with no complete load waiting
 pub start-refused : (c : ℕ) (m : Servo) (f : Frame) (apart : Bool) → NoneReady m → IsStart f → execute f apart (withCause c m) ≡ withCause 3 m

@@ -5,3 +5,4 @@ pub mod Sent
 pub mod Meaning
 pub mod Order
 pub mod Quickest
+pub mod Numbering

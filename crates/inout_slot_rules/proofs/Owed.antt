@@ -16,7 +16,7 @@ use Rattle.module_rules.specs.Owes.{Owes}
 use Rattle.module_rules.proofs.Slotting.{slotted-lawful}
 use Rattle.inout_rules.specs.declared.Io.{Io}
 use Rattle.inout_rules.specs.Answers.{typeNumber, inout}
-use Rattle.inout_rules.proofs.Apart.{apart}
+use Rattle.inout_rules.proofs.Apart.{apart, unseen}
 use Rattle.inout_slot_rules.specs.Slot.{sample, slot, encodeOf, decodeOf, okOf, slots}
 use Rattle.inout_slot_rules.proofs.Over.{station-over}
 use Rattle.inout_slot_rules.proofs.Replaced.{station-fits, samples-fit, fresh-fits, none-fits, own-safe, status-fits, numbers-fit, outputs-fit}
@@ -44,6 +44,7 @@ stationed s = refl
 pub owes : Owes inout slots (sample .codec .fits)
 owes = record {
   apart = apart;
+  unseen = unseen;
   lawful = lawful;
   sized = sized;
   begins = begins;

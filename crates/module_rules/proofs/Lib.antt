@@ -8,5 +8,6 @@ pub mod Settled
 pub mod Replies
 pub mod Kept
 pub mod Touching
+pub mod Numbering
 pub mod Reporting
 pub mod Frames

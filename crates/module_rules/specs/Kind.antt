@@ -1,4 +1,5 @@
 -- A module as its chain knows it, whatever its type (document 01, "Who is touched").
+use mathlib.Core.Path.{_≡_}
 use Prim.Native.Nat.{ℕ}
 use mathlib.Core.List.{List, []}
 use mathlib.Core.Bool.{Bool, cond}
@@ -24,3 +25,12 @@ executed K f m = K .execute f (individually (f .address) (K .address m)) m
 
 abbrev pub replied : {M S : Type 0} → Kind M S → Frame → M → List ℕ
 replied K f m = cond (speaks (f .address) (K .address m)) (K .reply f (executed K f m)) []
+
+-- one kind of module is another's along h: h of a module is who it is on the line, replies as it does, and goes through frames, samples and ticks
+-- as h of it
+pub record Along {M S : Type 0} (K L : Kind M S) (h : M → M) : Type 0 where
+  pub address : (m : M) → L .address (h m) ≡ K .address m
+  pub execute : (f : Frame) (alone : Bool) (m : M) → L .execute f alone (h m) ≡ h (K .execute f alone m)
+  pub reply : (f : Frame) (m : M) → L .reply f (h m) ≡ K .reply f m
+  pub sample : (x : S) (m : M) → L .sample x (h m) ≡ h (K .sample x m)
+  pub tick : (m : M) → L .tick (h m) ≡ h (K .tick m)

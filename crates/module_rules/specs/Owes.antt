@@ -11,7 +11,7 @@ use Rattle.module_rules.specs.Report.{Fit}
 use Rattle.module_rules.specs.Slot.{station}
 use Rattle.module_rules.specs.Slots.{Slots, Lawful, slotSize, stationAt}
 use Rattle.module_rules.specs.Rules.{Meaning, unknown, takes, Rules}
-use Rattle.module_rules.specs.Promises.{Apart}
+use Rattle.module_rules.specs.Promises.{Apart, Unseen}
 
 -- the greatest length of a reply
 abbrev pub replySize : ℕ
@@ -29,8 +29,9 @@ module _ {M S C : Type 0} (T : Rules M S C) (L : Slots M) (Good : S → Type 0) 
   Safe (takes count good c) = good ≡ true → (m : M) → L .fits m → T .can c m ≡ true → L .fits (T .perform c m)
 
   pub record Owes : Type 0 where
-    -- the station stands apart
+    -- the station stands apart, and nothing else looks at it
     pub apart : Apart T
+    pub unseen : Unseen T
     -- slots are lawful; they begin with the type's number, and the station comes next
     pub lawful : Lawful L
     -- all modules of the type have as many bytes

@@ -35,6 +35,17 @@ module _ {M S C : Type 0} (T : Rules M S C) where
     pub sample : (x : S) (m : M) → T .station (T .sample x m) ≡ T .station m
     pub tick : (m : M) → T .station (T .tick m) ≡ T .station m
 
+  -- Nothing that is the type's own looks at the station, but for the status byte, which tells whether the cause is 0.
+  pub record Unseen : Type 0 where
+    pub renewed : (s : Station) (m : M) → T .renewed (T .withStation s m) ≡ T .renewed m
+    pub can : (c : C) (s : Station) (m : M) → T .can c (T .withStation s m) ≡ T .can c m
+    pub perform : (c : C) (s : Station) (m : M) → T .perform c (T .withStation s m) ≡ T .withStation s (T .perform c m)
+    pub sample : (x : S) (s : Station) (m : M) → T .sample x (T .withStation s m) ≡ T .withStation s (T .sample x m)
+    pub tick : (s : Station) (m : M) → T .tick (T .withStation s m) ≡ T .withStation s (T .tick m)
+    pub numbers : (s : Station) (m : M) → T .numbers (T .withStation s m) ≡ T .numbers m
+    pub outputs : (s : Station) (m : M) → T .outputs (T .withStation s m) ≡ T .outputs m
+    pub status : (s : Station) (m : M) → eqb (s .cause) 0 ≡ eqb (T .station m .cause) 0 → T .status (T .withStation s m) ≡ T .status m
+
   -- A frame is tested for damaged, cause 1, then for a fault, with that fault's cause, then not now, cause 3; any other is performed, cause 0.
   -- Where the cause after it is not 0, all else in the record is as it was (01 Who is touched).
   pub record Causes (f : Frame) (alone : Bool) (m : M) : Type 0 where

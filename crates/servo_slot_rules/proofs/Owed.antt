@@ -20,7 +20,7 @@ use Rattle.module_rules.proofs.Slotting.{slotted-lawful}
 use Rattle.servo_rules.specs.declared.Servo.{Servo}
 use Rattle.servo_rules.specs.Asks.{loadMeant, gainsIn, gainsFit, gainMeant, stopMeant}
 use Rattle.servo_rules.specs.Answers.{typeNumber, enabled, outputsFrom, outputsOf, servo}
-use Rattle.servo_rules.proofs.Apart.{apart}
+use Rattle.servo_rules.proofs.Apart.{apart, unseen}
 use Rattle.servo_rules.proofs.Asks.{Each, own-means}
 use Rattle.servo_rules.proofs.Bounds.{fit}
 use Rattle.servo_rules.proofs.Ranges.{bit-most}
@@ -83,6 +83,7 @@ pub owes : Owes servo slots (sample .codec .fits)
 unfolding decodeOf outputsFrom
 owes = record {
   apart = apart;
+  unseen = unseen;
   lawful = lawful;
   sized = sized;
   begins = begins;

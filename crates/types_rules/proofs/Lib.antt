@@ -2,4 +2,5 @@ pub mod Owed
 pub mod Laws
 pub mod Kept
 pub mod Promised
+pub mod Numbering
 pub mod Dispatch

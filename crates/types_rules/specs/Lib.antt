@@ -1,3 +1,4 @@
 pub mod Table
 pub mod Types
 pub mod Promises
+pub mod Numbering
