@@ -1,6 +1,6 @@
 -- Networks whose modules are of one kind and, along h, of another go through any history alike. Assumes nothing.
 use mathlib.Core.Path.{_≡_, refl, sym, ap, ap₂, _∙_}
-use mathlib.Core.List.{List, [], _∷_, _++_, map}
+use mathlib.Core.List.{List, [], _∷_, map}
 use mathlib.Core.Bool.{Bool, true, false, cond, _&&_}
 use Prim.Native.Nat.{ℕ, zero, suc}
 use Rattle.line_receiver.specs.declared.Receiver.{Receiver}
@@ -11,7 +11,7 @@ use Rattle.line_receiver.specs.Frames.{Byte, Frame, frameIn}
 use Rattle.module_rules.specs.declared.Address.{Address}
 use Rattle.module_rules.specs.Touch.{individually, named, speaks}
 use Rattle.module_rules.specs.Kind.{Kind, executed, replied, Along}
-use Rattle.chain_rules.specs.Chain.{Net, Reply, Step, handed, said, repliesFrom, byteStep, changed}
+use Rattle.chain_rules.specs.Chain.{Net, Step, handed, said, repliesFrom, byteStep, changed}
 use Rattle.chain_rules.proofs.Bytes.{step-on, step-end}
 use Rattle.demands_history_rules.specs.Events.{Event, sent, sampled, ticked, Outcome, after, taking, event, run, each, RunsAlong}
 

@@ -26,3 +26,4 @@ pub mod TimeExample
 pub mod QuickestExamples
 pub mod MoveExample
 pub mod Numbering
+pub mod CauseRows

@@ -6,3 +6,4 @@ pub mod Meaning
 pub mod Order
 pub mod Quickest
 pub mod Numbering
+pub mod Causes

@@ -1,15 +1,11 @@
 -- Which frames are taken, and what is wrong with the others. Assumes nothing.
-use mathlib.Core.Path.{_≡_, refl}
-use mathlib.Core.List.{List}
-use mathlib.Core.Bool.{Bool, true, false, cond, _&&_, and-false}
-use Prim.Native.Nat.{ℕ}
+use mathlib.Core.Path.{refl}
+use mathlib.Core.Bool.{_&&_, and-false}
 use borrow.Author.Tests.{eq-eqb, ne-eqb}
-use lib.ListN.{length, getD}
+use lib.ListN.{getD}
 use lib.Dec.{eqb}
 use Rattle.module_rules.specs.Commands.{asked}
 use Rattle.module_rules.specs.Rules.{request}
-use Rattle.servo_rules.specs.declared.Order.{Order}
-use Rattle.servo_rules.specs.Carried.{needed}
 use Rattle.servo_rules.specs.Asks.{loadMeant, gainsIn, gainsFit, gainMeant, stopMeant, own}
 use Rattle.servo_rules.specs.AskPromises.{LoadRead, GainRead, StopRead, Unknown}
 

@@ -3,7 +3,6 @@ use mathlib.Core.Path.{_≡_, refl, ap}
 use Rattle.module_rules.specs.Numbering as Any
 use Rattle.module_rules.proofs.Numbering as Every
 use Rattle.types_rules.specs.Table.{ModuleType, servo, inout, Of, SampleOf, rulesOf, given}
-use Rattle.types_rules.specs.Types.{Module}
 use Rattle.types_rules.specs.Numbering.{asOlder, Renumbered}
 use Rattle.types_rules.proofs.Owed.{owes}
 
