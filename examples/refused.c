@@ -15,7 +15,7 @@ enum { COUNT_AT = 19, SLOTS_AT = 20, SLOT_LEN = (NMC_NET_LEN - SLOTS_AT) / NMC_M
 static uint8_t net[NMC_NET_LEN], net_before[NMC_NET_LEN];
 static uint8_t room[NMC_ROOM_LEN], room_before[NMC_ROOM_LEN];
 static uint8_t outputs[NMC_OUTPUTS_LEN], outputs_before[NMC_OUTPUTS_LEN];
-static uint8_t reading[NMC_READING_LEN];
+static uint8_t reading[NMC_READING_LEN], cause;
 static uint8_t types[TOO_MANY];
 static size_t written;
 static int surprises;
@@ -38,6 +38,7 @@ static void remember(void)
     memcpy(room_before, room, sizeof room);
     memcpy(outputs_before, outputs, sizeof outputs);
     memset(reading, 0x99, sizeof reading);
+    cause = 77;
     written = 99;
 }
 
@@ -60,6 +61,8 @@ static void refused(const char *words, uint32_t number, uint32_t given)
         verdict = "  surprise: the room changed";
     else if (memcmp(outputs, outputs_before, sizeof outputs) != 0)
         verdict = "  surprise: the outputs changed";
+    else if (cause != 77)
+        verdict = "  surprise: the cause changed";
     surprises += verdict[0] != 0;
     printf("%2lu  %s%s\n", (unsigned long)given, words, verdict);
 }
@@ -123,6 +126,8 @@ static void line_and_pins(void)
             nmc_io_sample(net, sizeof net, 1, 0, 0, 0, 0, 0));
     REFUSED("outputs of place 3 of three modules", NMC_BAD_PLACE,
             nmc_outputs(net, sizeof net, 3, outputs));
+    REFUSED("cause of place 3 of three modules", NMC_BAD_PLACE,
+            nmc_cause(net, sizeof net, 3, &cause));
     REFUSED("inputs 4096", NMC_BAD_FIELD, nmc_io_sample(net, sizeof net, 0, 4096, 0, 0, 0, 0));
     REFUSED("power 3", NMC_BAD_FIELD, nmc_servo_sample(net, sizeof net, 1, 0, 3, 0));
     REFUSED("mark 2", NMC_BAD_FIELD,

@@ -57,6 +57,20 @@ enum nmc_number {
 };
 
 /*
+ * The last cause of a module: what became of the last frame that touched it,
+ * 0 if none did. A frame is tested in the order damaged, unknown, count,
+ * value, not now.
+ */
+enum nmc_cause_number {
+    NMC_CAUSE_EXECUTED = 0, /* the frame was executed */
+    NMC_CAUSE_DAMAGED = 1,  /* damaged: wrong checksum, or a marked byte */
+    NMC_CAUSE_COUNT = 2,    /* wrong number of data bytes */
+    NMC_CAUSE_NOT_NOW = 3,  /* cannot be carried out now */
+    NMC_CAUSE_UNKNOWN = 4,  /* unknown code, or Set Baud sent individually */
+    NMC_CAUSE_VALUE = 5     /* value out of range */
+};
+
+/*
  * Puts a chain of so many modules, all at power-up, into the record, whatever
  * it held. types has one module type a place, place 0 first: the one that is
  * enabled without a predecessor.
@@ -101,6 +115,13 @@ uint32_t nmc_tick(uint8_t *net, size_t net_len);
  * register of the same, PWM 1, PWM 2, 0, 0.
  */
 uint32_t nmc_outputs(const uint8_t *net, size_t net_len, uint32_t place, uint8_t *outputs);
+
+/*
+ * The last cause of a module, one of enum nmc_cause_number: why the last frame
+ * that touched it was not executed, or that it was. It stays until the next
+ * such frame; the network is not changed.
+ */
+uint32_t nmc_cause(const uint8_t *net, size_t net_len, uint32_t place, uint8_t *cause);
 
 /*
  * Writes a frame for the line: address 0 to 255, code 0 to 15, at most 15 data

@@ -207,6 +207,21 @@ static void call_outputs(struct lent *net)
     give_back(&outputs);
 }
 
+static void call_cause(struct lent *net)
+{
+    struct lent cause = lend(1);
+    remember(net);
+    remember(&cause);
+    uint32_t place = PICK(0, 1, below(34), 0xFFFFFFFFu);
+    uint32_t number = nmc_cause(net->bytes, net->len, place, cause.bytes);
+    documented("cause", number, BIT(NMC_DONE) | BIT(NMC_BAD_PLACE) | BIT(NMC_BAD_RECORD));
+    if (!unchanged_from(net, 0))
+        surprise("cause", "the record changed", number);
+    if (refused(number) && !unchanged_from(&cause, 0))
+        surprise("cause", "refused, and the cause changed", number);
+    give_back(&cause);
+}
+
 static void call_setup(struct lent *net)
 {
     struct lent types = lend(PICK(0, 1, 2, 5, 32, 33, 200));
@@ -246,6 +261,7 @@ static void every_call(struct lent *net)
     call_frame(net);
     call_tick(net);
     call_outputs(net);
+    call_cause(net);
     if (below(4) == 0)
         call_setup(net);
 }

@@ -16,11 +16,22 @@
 
 /* ---------------------------------------------------------------- a stack for each call */
 
-enum call { SETUP, BYTE, SERVO_SAMPLE, IO_SAMPLE, TICK, OUTPUTS, WRITE_FRAME, READ_STATUS, CALLS };
+enum call {
+    SETUP,
+    BYTE,
+    SERVO_SAMPLE,
+    IO_SAMPLE,
+    TICK,
+    OUTPUTS,
+    CAUSE,
+    WRITE_FRAME,
+    READ_STATUS,
+    CALLS
+};
 
 static const char *const names[CALLS] = {
-    "nmc_setup", "nmc_byte",    "nmc_servo_sample", "nmc_io_sample",
-    "nmc_tick",  "nmc_outputs", "nmc_write_frame",  "nmc_read_status",
+    "nmc_setup",   "nmc_byte",  "nmc_servo_sample", "nmc_io_sample",   "nmc_tick",
+    "nmc_outputs", "nmc_cause", "nmc_write_frame",  "nmc_read_status",
 };
 
 /* The numbers that a call may give, as bits. */
@@ -34,6 +45,7 @@ static const uint32_t documented[CALLS] = {
     [IO_SAMPLE] = BIT(NMC_DONE) | BIT(NMC_BAD_PLACE) | BIT(NMC_BAD_FIELD) | BIT(NMC_BAD_RECORD),
     [TICK] = BIT(NMC_DONE) | BIT(NMC_BAD_RECORD),
     [OUTPUTS] = BIT(NMC_DONE) | BIT(NMC_BAD_PLACE) | BIT(NMC_BAD_RECORD),
+    [CAUSE] = BIT(NMC_DONE) | BIT(NMC_BAD_PLACE) | BIT(NMC_BAD_RECORD),
     [WRITE_FRAME] = BIT(NMC_DONE) | BIT(NMC_BAD_FRAME) | BIT(NMC_SHORT_ROOM),
     [READ_STATUS] = BIT(NMC_DONE) | BIT(NMC_BAD_TYPE) | BIT(NMC_BAD_LENGTH) | BIT(NMC_BAD_SUM),
 };
@@ -47,7 +59,7 @@ static uint32_t given[CALLS]; /* the numbers that came, as bits */
 /* What the next call is lent and told. */
 static uint8_t net[NMC_NET_LEN + 1], room[NMC_ROOM_LEN], types[NMC_MOST_MODULES + 1], data[16];
 static uint8_t outputs[NMC_OUTPUTS_LEN], frame[NMC_FRAME_LEN], reply[NMC_REPLY_LEN + 1];
-static uint8_t reading[NMC_READING_LEN], line_byte, items;
+static uint8_t reading[NMC_READING_LEN], cause, line_byte, items;
 static size_t net_len, room_len, chain, data_len, frame_room, reply_len, written;
 static uint32_t mark, place, power, inputs, count, address, code, type, number;
 
@@ -80,6 +92,9 @@ static void inside(void)
         break;
     case OUTPUTS:
         number = nmc_outputs(net, net_len, place, outputs);
+        break;
+    case CAUSE:
+        number = nmc_cause(net, net_len, place, &cause);
         break;
     case WRITE_FRAME:
         number = nmc_write_frame(address, code, data, data_len, frame, frame_room, &written);
@@ -162,10 +177,12 @@ enum { NO_MARK = NMC_FRAME_LEN, GROUP = 0xFF };
         send(to, with_code, sizeof bytes_, NO_MARK);              \
     } while (0)
 
-static void outputs_of_all(void)
+static void outputs_and_causes(void)
 {
-    for (place = 0; place < chain; place++)
+    for (place = 0; place < chain; place++) {
         run(OUTPUTS);
+        run(CAUSE);
+    }
 }
 
 /* ---------------------------------------------------------------- captures */
@@ -203,7 +220,7 @@ static void take_record(int kind, const uint8_t *b)
         break;
     default:
         run(TICK);
-        outputs_of_all();
+        outputs_and_causes();
     }
 }
 
@@ -266,7 +283,7 @@ static void ticks(int how_many)
     while (how_many-- > 0) {
         sample_all(1);
         run(TICK);
-        outputs_of_all();
+        outputs_and_causes();
     }
 }
 
@@ -338,12 +355,13 @@ static void refused_calls(void)
         run(SERVO_SAMPLE);
         run(IO_SAMPLE);
         run(OUTPUTS);
+        run(CAUSE);
     }
     for (int spoiled = 0; spoiled < 4; spoiled++) {
         static const size_t lengths[] = {0, NMC_NET_LEN - 1, NMC_NET_LEN + 1, NMC_NET_LEN};
         net_len = lengths[spoiled];
         net[19] = 33; /* no such chain */
-        for (enum call call = BYTE; call <= OUTPUTS; call++)
+        for (enum call call = BYTE; call <= CAUSE; call++)
             run(call);
         run(SETUP);
     }

@@ -28,6 +28,7 @@ pub trait Calls {
     fn servo_sample(&self, net: &mut [u8], place: u32, raw: u32, power: u32, ad: u8) -> u32;
     fn tick(&self, net: &mut [u8]) -> u32;
     fn outputs(&self, net: &[u8], place: u32, outputs: &mut [u8; 8]) -> u32;
+    fn cause(&self, net: &[u8], place: u32, cause: &mut u8) -> u32;
     fn write_frame(&self, address: u32, code: u32, data: &[u8], room: &mut [u8], written: &mut usize) -> u32;
     fn read_status(&self, module_type: u32, items: u8, reply: &[u8], reading: &mut [u8; 33]) -> u32;
 }

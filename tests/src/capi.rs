@@ -27,6 +27,7 @@ extern "C" {
     fn nmc_servo_sample(net: *mut u8, net_len: usize, place: u32, raw: u32, power: u32, ad: u8) -> u32;
     fn nmc_tick(net: *mut u8, net_len: usize) -> u32;
     fn nmc_outputs(net: *const u8, net_len: usize, place: u32, outputs: *mut u8) -> u32;
+    fn nmc_cause(net: *const u8, net_len: usize, place: u32, cause: *mut u8) -> u32;
     fn nmc_write_frame(
         address: u32,
         code: u32,
@@ -65,6 +66,10 @@ impl Calls for Library {
 
     fn outputs(&self, net: &[u8], place: u32, outputs: &mut [u8; 8]) -> u32 {
         unsafe { nmc_outputs(net.as_ptr(), net.len(), place, outputs.as_mut_ptr()) }
+    }
+
+    fn cause(&self, net: &[u8], place: u32, cause: &mut u8) -> u32 {
+        unsafe { nmc_cause(net.as_ptr(), net.len(), place, cause) }
     }
 
     fn write_frame(&self, address: u32, code: u32, data: &[u8], room: &mut [u8], written: &mut usize) -> u32 {

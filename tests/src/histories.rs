@@ -96,7 +96,8 @@ impl Pair<'_> {
     }
 
     /// What holds after every call: a record that was taken still passes the list, the library takes it too, and the
-    /// board drives the same. Of all places, and the one beyond the chain, or else of one in turn.
+    /// board drives the same. Of all places, and the one beyond the chain, or else of one in turn; the last cause is
+    /// asked for at one in turn.
     fn after(&mut self, taken: bool, everywhere: bool) -> Result<Option<Network>, String> {
         self.turn += 1;
         let network = decode(&self.net, self.model.slip);
@@ -108,7 +109,8 @@ impl Pair<'_> {
         for place in 0..if everywhere { places } else { 1 } {
             self.same_outputs(network.as_ref(), (self.turn as u32 + place) % places)?;
         }
-        self.same_bytes("record after outputs", &self.net, &before)?;
+        self.same_cause(network.as_ref(), self.turn as u32 % places)?;
+        self.same_bytes("record after outputs and cause", &self.net, &before)?;
         Ok(network)
     }
 
@@ -190,12 +192,22 @@ impl Pair<'_> {
         Ok(number)
     }
 
-    fn outputs(&mut self, place: u32) -> Result<u32, String> {
+    /// The calls that only tell of a place: what it drives, and its last cause.
+    fn told(&mut self, place: u32) -> Result<u32, String> {
         let network = decode(&self.net, self.model.slip);
         let before = self.net.clone();
+        self.same_cause(network.as_ref(), place)?;
         let number = self.same_outputs(network.as_ref(), place)?;
-        self.same_bytes("record after outputs", &self.net, &before)?;
+        self.same_bytes("record after outputs and cause", &self.net, &before)?;
         Ok(number)
+    }
+
+    fn same_cause(&mut self, network: Option<&Network>, place: u32) -> Result<(), String> {
+        let (mut cause, mut model_cause) = (0xC3, 0xC3);
+        let library = self.library.cause(&self.net, place, &mut cause);
+        let model = self.model.cause_of(network, place, &mut model_cause);
+        self.same_number(library, model)?;
+        self.same_bytes("cause", &[cause], &[model_cause]).map_err(|told| format!("place {place}: {told}"))
     }
 
     fn same_outputs(&mut self, network: Option<&Network>, place: u32) -> Result<u32, String> {
@@ -427,7 +439,7 @@ impl Session<'_> {
             0 => self.pair.byte(mark, byte, room_len)?,
             1 => self.pair.sample(place, inputs, [byte; 3], mark)?,
             2 => self.pair.servo_sample(place, mark, power, byte)?,
-            _ => self.pair.outputs(place)?,
+            _ => self.pair.told(place)?,
         };
         Ok(())
     }
@@ -455,7 +467,7 @@ impl Session<'_> {
             }
             2 => {
                 let place = self.dice.below(34) as u32;
-                self.pair.outputs(place)?
+                self.pair.told(place)?
             }
             _ => self.pair.byte(mark, byte, room_len)?,
         };

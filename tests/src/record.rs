@@ -14,6 +14,9 @@ pub const MARK: usize = 18;
 pub const COUNT: usize = 19;
 pub const SLOTS: usize = 20;
 pub const SLOT_LEN: usize = 128;
+/// Where in a slot of any type the last cause stands, and the items.
+pub const CAUSE: usize = 5;
+pub const ITEMS: usize = 6;
 /// Bytes of its slot that an I/O module uses, and a servo.
 pub const IO_LEN: usize = 43;
 pub const SERVO_LEN: usize = 106;
@@ -453,6 +456,21 @@ impl Model {
         *outputs = module.outputs(self.slip);
         DONE
     }
+
+    /// The last cause at a place of such a network.
+    pub fn cause_of(&self, network: Option<&Network>, place: u32, cause: &mut u8) -> u32 {
+        let network = match network {
+            Some(network) => network,
+            None => return refuse(Branch::CauseRecord, BAD_RECORD),
+        };
+        let module = match network.modules.get(place as usize) {
+            Some(module) => module,
+            None => return refuse(Branch::CausePlace, BAD_PLACE),
+        };
+        reach(Branch::CauseDone);
+        *cause = module.station().cause;
+        DONE
+    }
 }
 
 impl Calls for Model {
@@ -549,6 +567,10 @@ impl Calls for Model {
 
     fn outputs(&self, net: &[u8], place: u32, outputs: &mut [u8; 8]) -> u32 {
         self.outputs_of(decode(net, self.slip).as_ref(), place, outputs)
+    }
+
+    fn cause(&self, net: &[u8], place: u32, cause: &mut u8) -> u32 {
+        self.cause_of(decode(net, self.slip).as_ref(), place, cause)
     }
 
     fn write_frame(&self, address: u32, code: u32, data: &[u8], room: &mut [u8], written: &mut usize) -> u32 {

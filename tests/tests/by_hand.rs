@@ -30,6 +30,12 @@ fn outputs(net: &[u8], place: u32) -> [u8; 8] {
     outputs
 }
 
+fn cause(net: &[u8], place: u32) -> u8 {
+    let mut cause = 0xEE;
+    assert_eq!(Library.cause(net, place, &mut cause), DONE);
+    cause
+}
+
 fn written(address: u32, code: u32, data: &[u8]) -> Vec<u8> {
     let mut room = [0; COUNT];
     let mut written = 0;
@@ -210,6 +216,24 @@ fn board_drives_what_the_commands_set() {
     send(&mut net, &written(0, 15, &[]));
     assert_eq!(outputs(&net, 0), [0xFF, 0x0F, 0, 0, 0, 0, 0, 0]);
     assert_eq!(outputs(&net, 1), [0xFF, 0x0F, 0, 0, 0, 0, 0, 0], "place 1 never heard of it");
+}
+
+#[test]
+fn last_cause_is_told_at_its_place() {
+    let mut net = vec![0x99; NET_LEN];
+    assert_eq!(Library.setup(&mut net, &[0, 2]), DONE);
+    let mut told = |bytes: &[u8]| {
+        send(&mut net, bytes);
+        [cause(&net, 0), cause(&net, 1)]
+    };
+    let mut damaged = written(1, 14, &[]);
+    damaged[3] ^= 1;
+    assert_eq!(told(&written(0, 1, &[1, 0xFF])), [0, 0]);
+    assert_eq!(told(&written(0, 1, &[2, 0xFF])), [0, 0]);
+    assert_eq!(told(&written(1, 5, &[])), [3, 0], "a Start with no load waiting");
+    assert_eq!(told(&written(2, 14, &[7])), [3, 2], "a No Op with a data byte");
+    assert_eq!(told(&damaged), [1, 2]);
+    assert_eq!(told(&written(0xFF, 14, &[])), [0, 0]);
 }
 
 #[test]

@@ -3,7 +3,7 @@
 use doljurven_tests::calls::*;
 use doljurven_tests::capi::Library;
 use doljurven_tests::histories;
-use doljurven_tests::record::{slot, COUNT, FILL, SLOTS, SLOT_LEN};
+use doljurven_tests::record::{slot, CAUSE, COUNT, FILL, ITEMS, SLOTS, SLOT_LEN};
 use doljurven_tests::slips::{Slip, ALL};
 
 const SEED: u64 = 0x0511_0000;
@@ -51,11 +51,14 @@ enum Spoil {
     OutputsInsideFrame,
     OutputsRefuse,
     OutputsWhenRefused,
+    CauseOfPlaceZero,
+    CauseIsTheItems,
+    CauseWhenRefused,
     ReadingWhenRefused,
     WriterBehindFrame,
 }
 
-const SPOILS: [Spoil; 20] = [
+const SPOILS: [Spoil; 23] = [
     Spoil::RoomBehindReplies,
     Spoil::OneByteMoreReported,
     Spoil::LastReplyByte,
@@ -74,6 +77,9 @@ const SPOILS: [Spoil; 20] = [
     Spoil::OutputsInsideFrame,
     Spoil::OutputsRefuse,
     Spoil::OutputsWhenRefused,
+    Spoil::CauseOfPlaceZero,
+    Spoil::CauseIsTheItems,
+    Spoil::CauseWhenRefused,
     Spoil::ReadingWhenRefused,
     Spoil::WriterBehindFrame,
 ];
@@ -156,6 +162,17 @@ impl Calls for Spoiled {
             }
             _ => number,
         }
+    }
+
+    fn cause(&self, net: &[u8], place: u32, cause: &mut u8) -> u32 {
+        let number = Library.cause(net, place, cause);
+        match self.0 {
+            Spoil::CauseOfPlaceZero if number == DONE => *cause = net[slot(0) + CAUSE],
+            Spoil::CauseIsTheItems if number == DONE => *cause = net[slot(place as usize) + ITEMS],
+            Spoil::CauseWhenRefused if number != DONE => *cause = 0,
+            _ => {}
+        }
+        number
     }
 
     fn write_frame(&self, address: u32, code: u32, data: &[u8], room: &mut [u8], written: &mut usize) -> u32 {

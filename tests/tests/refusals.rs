@@ -4,7 +4,7 @@
 use doljurven_tests::calls::*;
 use doljurven_tests::capi::Library;
 use doljurven_tests::model::frame_bytes;
-use doljurven_tests::record::{at, slot, COUNT, FILL, MARK, SLOT_LEN, TWELVE_BITS};
+use doljurven_tests::record::{at, slot, CAUSE, COUNT, FILL, MARK, SLOT_LEN, TWELVE_BITS};
 
 const JUNK: u8 = 0xE7;
 
@@ -74,6 +74,15 @@ fn outputs_call(net: &[u8], place: u32) -> u32 {
     number
 }
 
+/// A refusal leaves the byte alone; else it is the record's own.
+fn cause_call(net: &[u8], place: u32) -> u32 {
+    let mut cause = JUNK;
+    let number = Library.cause(net, place, &mut cause);
+    let left = if number == DONE { net[slot(place as usize) + CAUSE] } else { JUNK };
+    assert_eq!(cause, left, "number {number}");
+    number
+}
+
 fn setup_call(net: &mut [u8], types: &[u8]) -> u32 {
     let before = net.to_vec();
     let number = Library.setup(net, types);
@@ -118,6 +127,7 @@ fn every_call_says(net: &[u8], number: u32) {
     }
     assert_eq!(tick_call(&mut net.to_vec()), number);
     assert_eq!(outputs_call(net, 0), number);
+    assert_eq!(cause_call(net, 0), number);
 }
 
 // ---------------------------------------------------------------- 16
@@ -521,9 +531,11 @@ fn place_beyond_the_chain() {
         let last = modules as u32 - 1;
         assert_eq!(sample_call(&mut net, last, 0), DONE);
         assert_eq!(outputs_call(&net, last), DONE);
+        assert_eq!(cause_call(&net, last), DONE);
         for place in [last + 1, last + 2, 33, 255, 256, 1 << 16, u32::MAX - 1, u32::MAX] {
             assert_eq!(sample_call(&mut net, place, 0), BAD_PLACE, "place {place}");
             assert_eq!(outputs_call(&net, place), BAD_PLACE, "place {place}");
+            assert_eq!(cause_call(&net, place), BAD_PLACE, "place {place}");
         }
     }
 }
@@ -540,6 +552,7 @@ fn sample_for_the_other_type() {
     for place in [3, 4, 33, 256, u32::MAX] {
         assert_eq!(servo_sample_call(&mut net, place, 1), BAD_PLACE, "place {place}");
         assert_eq!(outputs_call(&net, place), BAD_PLACE, "place {place}");
+        assert_eq!(cause_call(&net, place), BAD_PLACE, "place {place}");
     }
 }
 
@@ -675,7 +688,7 @@ fn byte_refusals_in_order() {
 }
 
 #[test]
-fn sample_and_outputs_refusals_in_order() {
+fn sample_outputs_and_cause_refusals_in_order() {
     let mut good = network(2);
     let mut bad = good.clone();
     bad[slot(0) + 5] = 4;
@@ -683,6 +696,7 @@ fn sample_and_outputs_refusals_in_order() {
     assert_eq!(sample_call(&mut bad, 2, 0), BAD_RECORD);
     assert_eq!(sample_call(&mut bad, 0, 4096), BAD_RECORD);
     assert_eq!(outputs_call(&bad, 2), BAD_RECORD);
+    assert_eq!(cause_call(&bad, 2), BAD_RECORD);
     assert_eq!(sample_call(&mut good, 2, 4096), BAD_PLACE);
     assert_eq!(sample_call(&mut good, 0, 4096), BAD_FIELD);
 }

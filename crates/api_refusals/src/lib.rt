@@ -1,7 +1,7 @@
 // Which refusal a call meets, by its table.
 ghost use mathlib.Core.Path.{_≡_};
 ghost use Rattle.base_layout.specs.First.{first};
-ghost use Rattle.api_rules.specs.Table.{setupTable, byteTable, sampleTable, outputsTable};
+ghost use Rattle.api_rules.specs.Table.{setupTable, byteTable, sampleTable, placeTable};
 
 pub fn setup_refusal(net: &[u8], types: &[u8]) -> u32
     ensures { λ r. ⌜ r ≡ first (setupTable (now (net .entry)) (now (types .entry))) ⌝ }
@@ -49,8 +49,9 @@ pub fn sample_refusal(net: &[u8], place: u32, t: u8, far: bool) -> u32
     0
 }
 
-pub fn outputs_refusal(net: &[u8], place: u32) -> u32
-    ensures { λ r. ⌜ r ≡ first (outputsTable (now (net .entry)) place) ⌝ }
+// A call that reads the module at a place.
+pub fn place_refusal(net: &[u8], place: u32) -> u32
+    ensures { λ r. ⌜ r ≡ first (placeTable (now (net .entry)) place) ⌝ }
 {
     if !net_record::is_valid(net) {
         return 16;

@@ -14,7 +14,7 @@ use Rattle.net_rules.specs.Record.{valid}
 use Rattle.net_rules.specs.Calls.{allKnown, isOf}
 use Rattle.net_rules.proofs.Calls.{type-beyond}
 use Rattle.base_layout.specs.First.{Line, first, Given, here, later}
-use Rattle.api_rules.specs.Table.{setupTable, byteTable, servoSampleTable, ioSampleTable, tickTable, outputsTable}
+use Rattle.api_rules.specs.Table.{setupTable, byteTable, servoSampleTable, ioSampleTable, tickTable, placeTable}
 use Rattle.api_rules.specs.TablePromises.{BadRecord, SetupBounds, ByteBounds, ServoBounds, IoBounds, OtherBounds, chainLength}
 use Rattle.base_layout.proofs.First.{given-first, none-first}
 
@@ -33,7 +33,7 @@ bad-record net = record {
   servoSample = λ place power v. gives (servoSampleTable net place power) (here refl (ap not v));
   ioSample = λ place inputs v. gives (ioSampleTable net place inputs) (here refl (ap not v));
   tick = λ v. gives (tickTable net) (here refl (ap not v));
-  outputs = λ place v. gives (outputsTable net place) (here refl (ap not v));
+  place = λ place v. gives (placeTable net place) (here refl (ap not v));
 }
 
 -- types of which each is known, and of which one is not
@@ -95,6 +95,6 @@ io-bounds net place inputs v = record {
 pub other-bounds : OtherBounds
 other-bounds net place v = record {
   tick = none-first (tickTable net) (ap not v, tt);
-  beyond = λ l. gives (outputsTable net place) (later (ap not v) (here refl (ap not (le-ltb place (chainLength net) l))));
-  outputs = λ l. none-first (outputsTable net place) (ap not v, (ap not (lt-ltb place (chainLength net) l), tt));
+  beyond = λ l. gives (placeTable net place) (later (ap not v) (here refl (ap not (le-ltb place (chainLength net) l))));
+  below = λ l. none-first (placeTable net place) (ap not v, (ap not (lt-ltb place (chainLength net) l), tt));
 }

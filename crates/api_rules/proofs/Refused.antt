@@ -15,7 +15,7 @@ use Rattle.net_rules.specs.Record.{chainMost, recordSize, roomSize, netIn, stor
 use Rattle.net_rules.specs.Calls.{byteOf, calledBy, sampleStep}
 use Rattle.net_rules.proofs.Calls.{of-type-below}
 use Rattle.base_layout.specs.First.{Line, first}
-use Rattle.api_rules.specs.Table.{setupTable, byteTable, sampleTable, tickTable, outputsTable}
+use Rattle.api_rules.specs.Table.{setupTable, byteTable, sampleTable, tickTable, placeTable}
 use Rattle.api_rules.specs.Promises.{Passes}
 use Rattle.api_rules.specs.Calls.{unless, stepOf, sampleRecord, byteNumber, byteRecord, byteRoom, byteWritten}
 use Rattle.base_layout.proofs.First.{none-applies}
@@ -80,9 +80,9 @@ module _ (ls : List Line) (net : List ℕ) (place : ℕ) (x : AnySample) {n : �
 pub tick-passes : (net : List ℕ) → Passes (tickTable net) → valid slots net ≡ true
 tick-passes net e = let n = none-applies (tickTable net) (omega arith, tt) e in not-false _ (n .0)
 
-pub outputs-passes : (net : List ℕ) (place : ℕ) → first (outputsTable net place) ≡ 0 → (valid slots net ≡ true) × (place < length (netIn slots net .modules))
-outputs-passes net place e =
-    let n = none-applies (outputsTable net place) (omega arith, (omega arith, tt)) e in
+pub place-passes : (net : List ℕ) (place : ℕ) → first (placeTable net place) ≡ 0 → (valid slots net ≡ true) × (place < length (netIn slots net .modules))
+place-passes net place e =
+    let n = none-applies (placeTable net place) (omega arith, (omega arith, tt)) e in
     (not-false _ (n .0), ltb-true _ _ (not-false _ (n .1 .0)))
 
 -- the byte call, refused and done

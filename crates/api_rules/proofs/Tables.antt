@@ -10,5 +10,5 @@ tables = record {
   servoSample = λ net place power. (refl, (omega arith, (omega arith, (omega arith, tt))));
   ioSample = λ net place inputs. (refl, (omega arith, (omega arith, (omega arith, tt))));
   tick = λ net. (refl, (omega arith, tt));
-  outputs = λ net place. (refl, (omega arith, (omega arith, tt)));
+  place = λ net place. (refl, (omega arith, (omega arith, tt)));
 }

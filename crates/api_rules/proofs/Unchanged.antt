@@ -17,11 +17,11 @@ use Rattle.chain_rules.specs.Chain.{Net, byteStep}
 use Rattle.chain_rules.proofs.Bytes.{step-on, step-end, number-told}
 use Rattle.types_rules.specs.Types.{Module, kind, slots}
 use Rattle.net_rules.specs.Record.{roomSize, netIn, stored, valid}
-use Rattle.net_rules.specs.Calls.{byteOf, fresh, tickStep, sampleStep, outputsIn, outputsAt}
+use Rattle.net_rules.specs.Calls.{byteOf, fresh, tickStep, sampleStep, outputsIn, outputsAt, causeIn, causeAt}
 use Rattle.base_layout.specs.First.{Line, first}
-use Rattle.api_rules.specs.Table.{setupTable, byteTable, servoSampleTable, ioSampleTable, tickTable, outputsTable}
-use Rattle.api_rules.specs.Calls.{unless, stepOf, servoSampleOf, ioSampleOf, sampleRecord, setupRecord, byteNumber, tickRecord, outputsBytes, readingBytes}
-use Rattle.api_rules.specs.Promises.{Refuses, Passes, Unchanged, Answers, OutputsTold, ReadingSpelled, OneOutcome}
+use Rattle.api_rules.specs.Table.{setupTable, byteTable, servoSampleTable, ioSampleTable, tickTable, placeTable}
+use Rattle.api_rules.specs.Calls.{unless, stepOf, servoSampleOf, ioSampleOf, sampleRecord, setupRecord, byteNumber, tickRecord, outputsBytes, causeByte, readingBytes}
+use Rattle.api_rules.specs.Promises.{Refuses, Passes, Unchanged, Answers, OutputsTold, CauseTold, ReadingSpelled, OneOutcome}
 use Rattle.api_rules.specs.TablePromises.{ByteNumbers}
 use Rattle.api_rules.proofs.Refused.{refused, done, byte-refused}
 
@@ -30,7 +30,7 @@ same : {A : Type 0} (ls : List Line) (x y : A) → Refuses ls → unless ls x y 
 same ls x y h = sym (refused ls x y refl h)
 
 pub unchanged : Unchanged
-unfolding setupRecord sampleRecord tickRecord outputsBytes
+unfolding setupRecord sampleRecord tickRecord outputsBytes causeByte
 unchanged = record {
   setup = λ net types h. same (setupTable net types) net (fresh types) h;
   byte = λ net mark byte room h.
@@ -41,7 +41,8 @@ unchanged = record {
   ioSample = λ net place inputs ad1 ad2 ad3 counter h.
       same (ioSampleTable net place inputs) net (stored slots (sampleStep place (ioSampleOf inputs ad1 ad2 ad3 counter) (netIn slots net)) net) h;
   tick = λ net h. same (tickTable net) net (stored slots (tickStep (netIn slots net)) net) h;
-  outputs = λ net place bytes h. same (outputsTable net place) bytes (outputsAt (netIn slots net) place) h;
+  outputs = λ net place bytes h. same (placeTable net place) bytes (outputsAt (netIn slots net) place) h;
+  cause = λ net place byte h. same (placeTable net place) byte (causeAt (netIn slots net) place) h;
 }
 
 -- a byte's own number
@@ -94,7 +95,12 @@ answers net mark byte room =
 pub outputs-told : OutputsTold
 unfolding outputsBytes
 outputs-told net place bytes t m p e =
-    sym (done (outputsTable net place) bytes (outputsAt (netIn slots net) place) refl p) ∙ ap outputsIn e
+    sym (done (placeTable net place) bytes (outputsAt (netIn slots net) place) refl p) ∙ ap outputsIn e
+
+pub cause-told : CauseTold
+unfolding causeByte
+cause-told net place byte t m p e =
+    sym (done (placeTable net place) byte (causeAt (netIn slots net) place) refl p) ∙ ap causeIn e
 
 pub reading-spelled : ReadingSpelled
 unfolding readingBytes

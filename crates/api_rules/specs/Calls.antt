@@ -10,10 +10,10 @@ use Rattle.chain_rules.specs.Chain.{Step, flat, byteStep}
 use Rattle.types_rules.specs.Table.{servo, inout}
 use Rattle.types_rules.specs.Types.{Module, AnySample, kind, slots}
 use Rattle.net_rules.specs.Record.{netIn, stored}
-use Rattle.net_rules.specs.Calls.{byteOf, fresh, tickStep, sampleStep, outputsAt}
+use Rattle.net_rules.specs.Calls.{byteOf, fresh, tickStep, sampleStep, outputsAt, causeAt}
 use Rattle.host_rules.specs.declared.Reading.{Reading}
 use Rattle.base_layout.specs.First.{Line, first}
-use Rattle.api_rules.specs.Table.{setupTable, byteTable, tickTable, outputsTable}
+use Rattle.api_rules.specs.Table.{setupTable, byteTable, tickTable, placeTable}
 
 -- what holds where no line of a table applies, and what where one does
 abbrev pub unless : {A : Type 0} → List Line → A → A → A
@@ -55,7 +55,11 @@ tickRecord net = unless (tickTable net) net (stored slots (tickStep (netIn slots
 
 -- the outputs
 unfoldable pub outputsBytes : List ℕ → ℕ → List ℕ → List ℕ
-outputsBytes net place bytes = unless (outputsTable net place) bytes (outputsAt (netIn slots net) place)
+outputsBytes net place bytes = unless (placeTable net place) bytes (outputsAt (netIn slots net) place)
+
+-- the last cause (02 P1)
+unfoldable pub causeByte : List ℕ → ℕ → ℕ → ℕ
+causeByte net place byte = unless (placeTable net place) byte (causeAt (netIn slots net) place)
 
 -- what the status reader hands to C: the status byte, and k numbers of four bytes from number i on
 abbrev pub numbersBytes : ℕ → ℕ → List ℕ → List ℕ

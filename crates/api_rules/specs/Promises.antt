@@ -24,8 +24,8 @@ use Rattle.net_rules.specs.Promises.{There, Back}
 use Rattle.host_rules.specs.declared.Answered.{Answered}
 use Rattle.host_rules.specs.Reading.{statusOf}
 use Rattle.host_rules.specs.Promises.{shown}
-use Rattle.api_rules.specs.Table.{setupTable, byteTable, servoSampleTable, ioSampleTable, tickTable, outputsTable}
-use Rattle.api_rules.specs.Calls.{setupRecord, stepOf, byteNumber, byteRecord, byteRoom, byteWritten, servoSampleOf, ioSampleOf, sampleRecord, tickRecord, outputsBytes, readingBytes}
+use Rattle.api_rules.specs.Table.{setupTable, byteTable, servoSampleTable, ioSampleTable, tickTable, placeTable}
+use Rattle.api_rules.specs.Calls.{setupRecord, stepOf, byteNumber, byteRecord, byteRoom, byteWritten, servoSampleOf, ioSampleOf, sampleRecord, tickRecord, outputsBytes, causeByte, readingBytes}
 
 -- The tables have the order of document 01, "Numbers given back": 16, 11, 12, 13, 14, 15.
 pub record Tables : Type 0 where
@@ -34,7 +34,7 @@ pub record Tables : Type 0 where
   pub servoSample : (net : List ℕ) (place power : ℕ) → Ordered (servoSampleTable net place power) (16 ∷ 13 ∷ 14 ∷ [])
   pub ioSample : (net : List ℕ) (place inputs : ℕ) → Ordered (ioSampleTable net place inputs) (16 ∷ 13 ∷ 14 ∷ [])
   pub tick : (net : List ℕ) → Ordered (tickTable net) (16 ∷ [])
-  pub outputs : (net : List ℕ) (place : ℕ) → Ordered (outputsTable net place) (16 ∷ 13 ∷ [])
+  pub place : (net : List ℕ) (place : ℕ) → Ordered (placeTable net place) (16 ∷ 13 ∷ [])
 
 -- a table refuses, or lets the call be done
 abbrev pub Refuses : List Line → Type 0
@@ -62,7 +62,8 @@ pub record Unchanged : Type 0 where
       → Refuses (ioSampleTable net place inputs)
       → sampleRecord (ioSampleTable net place inputs) net place (ioSampleOf inputs ad1 ad2 ad3 counter) ≡ net
   pub tick : (net : List ℕ) → Refuses (tickTable net) → tickRecord net ≡ net
-  pub outputs : (net : List ℕ) (place : ℕ) (bytes : List ℕ) → Refuses (outputsTable net place) → outputsBytes net place bytes ≡ bytes
+  pub outputs : (net : List ℕ) (place : ℕ) (bytes : List ℕ) → Refuses (placeTable net place) → outputsBytes net place bytes ≡ bytes
+  pub cause : (net : List ℕ) (place byte : ℕ) → Refuses (placeTable net place) → causeByte net place byte ≡ byte
 
 -- The byte call gives 0, 1 or 2 where its table does not refuse it, and 11 or more exactly where it does.
 pub record Answer (net : List ℕ) (mark byte : ℕ) (room : List ℕ) : Type 0 where
@@ -193,9 +194,17 @@ NoFrame =
 abbrev pub OutputsTold : Type 0
 OutputsTold =
     (net : List ℕ) (place : ℕ) (bytes : List ℕ) (t : ModuleType) (m : Of t)
-    → Passes (outputsTable net place)
+    → Passes (placeTable net place)
     → getElem? (netIn slots net .modules) place ≡ some (t, m)
     → outputsBytes net place bytes ≡ rulesOf t .outputs m
+
+-- The cause call, unless it is refused, gives the last cause of the module at the place (02 P1).
+abbrev pub CauseTold : Type 0
+CauseTold =
+    (net : List ℕ) (place byte : ℕ) (t : ModuleType) (m : Of t)
+    → Passes (placeTable net place)
+    → getElem? (netIn slots net .modules) place ≡ some (t, m)
+    → causeByte net place byte ≡ rulesOf t .station m .cause
 
 -- The status reader hands over the status byte, and then its eight numbers in four bytes each, least significant first (01 Numbers given back,
 -- last paragraph).

@@ -57,6 +57,6 @@ ioSampleTable net place inputs = sampleTable Inout.typeNumber net place (ltb 409
 abbrev pub tickTable : List ℕ → List Line
 tickTable net = broken net ∷ []
 
--- the outputs: 16, 13
-abbrev pub outputsTable : List ℕ → ℕ → List Line
-outputsTable net place = broken net ∷ beyond net place ∷ []
+-- a call that reads the module at a place: 16, 13
+abbrev pub placeTable : List ℕ → ℕ → List Line
+placeTable net place = broken net ∷ beyond net place ∷ []

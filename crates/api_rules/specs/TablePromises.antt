@@ -14,7 +14,7 @@ use Rattle.types_rules.specs.Types.{Module, slots}
 use Rattle.types_rules.specs.Promises.{ThereIs}
 use Rattle.net_rules.specs.Record.{netIn, valid}
 use Rattle.base_layout.specs.First.{first}
-use Rattle.api_rules.specs.Table.{setupTable, byteTable, servoSampleTable, ioSampleTable, tickTable, outputsTable}
+use Rattle.api_rules.specs.Table.{setupTable, byteTable, servoSampleTable, ioSampleTable, tickTable, placeTable}
 use Rattle.api_rules.specs.Calls.{byteNumber}
 use Rattle.api_rules.specs.Promises.{Passes}
 
@@ -33,7 +33,7 @@ pub record Sixteen (net : List ℕ) : Type 0 where
   pub servoSample : (place power : ℕ) → valid slots net ≡ false → first (servoSampleTable net place power) ≡ 16
   pub ioSample : (place inputs : ℕ) → valid slots net ≡ false → first (ioSampleTable net place inputs) ≡ 16
   pub tick : valid slots net ≡ false → first (tickTable net) ≡ 16
-  pub outputs : (place : ℕ) → valid slots net ≡ false → first (outputsTable net place) ≡ 16
+  pub place : (place : ℕ) → valid slots net ≡ false → first (placeTable net place) ≡ 16
 
 abbrev pub BadRecord : Type 0
 BadRecord = (net : List ℕ) → Sixteen net
@@ -89,11 +89,11 @@ pub record IoSampled (net : List ℕ) (place inputs : ℕ) : Type 0 where
 abbrev pub IoBounds : Type 0
 IoBounds = (net : List ℕ) (place inputs : ℕ) → valid slots net ≡ true → IoSampled net place inputs
 
--- 01 Numbers given back, tick and outputs: any valid record; for the outputs a place below the chain length, else 13.
+-- 01 Numbers given back, tick, outputs and cause: any valid record; for outputs and cause a place below the chain length, else 13.
 pub record Others (net : List ℕ) (place : ℕ) : Type 0 where
   pub tick : first (tickTable net) ≡ 0
-  pub beyond : chainLength net ≤ place → first (outputsTable net place) ≡ 13
-  pub outputs : place < chainLength net → first (outputsTable net place) ≡ 0
+  pub beyond : chainLength net ≤ place → first (placeTable net place) ≡ 13
+  pub below : place < chainLength net → first (placeTable net place) ≡ 0
 
 abbrev pub OtherBounds : Type 0
 OtherBounds = (net : List ℕ) (place : ℕ) → valid slots net ≡ true → Others net place

@@ -5,8 +5,8 @@ ghost use Rattle.base_layout.specs.Bytes.{pasted};
 ghost use Rattle.host_rules.specs.Writing.{writtenOf, roomAfter};
 ghost use Rattle.host_rules.specs.Reading.{statusOf};
 ghost use Rattle.base_layout.specs.First.{first};
-ghost use Rattle.api_rules.specs.Table.{setupTable, servoSampleTable, ioSampleTable, tickTable, outputsTable};
-ghost use Rattle.api_rules.specs.Calls.{setupRecord, byteNumber, byteRecord, byteRoom, byteWritten, servoSampleOf, ioSampleOf, sampleRecord, tickRecord, outputsBytes, numbersBytes, readingBytes};
+ghost use Rattle.api_rules.specs.Table.{setupTable, servoSampleTable, ioSampleTable, tickTable, placeTable};
+ghost use Rattle.api_rules.specs.Calls.{setupRecord, byteNumber, byteRecord, byteRoom, byteWritten, servoSampleOf, ioSampleOf, sampleRecord, tickRecord, outputsBytes, causeByte, numbersBytes, readingBytes};
 use host_rules::Reading;
 use types_rules::Measured;
 
@@ -112,15 +112,28 @@ pub extern "C" fn nmc_tick(net: &mut [u8]) -> u32
 // What the board drives for the module at a place: 0, or 16, 13.
 #[no_mangle]
 pub extern "C" fn nmc_outputs(net: &[u8], place: u32, outputs: &mut [u8; 8]) -> u32
-    ensures { λ r. ⌜ r ≡ first (outputsTable (now (net .entry)) place) ⌝ }
+    ensures { λ r. ⌜ r ≡ first (placeTable (now (net .entry)) place) ⌝ }
     ensures { λ _. ⌜ now (outputs .exit) ≡ outputsBytes (now (net .entry)) place (now (outputs .entry)) ⌝ }
 {
-    let number = api_refusals::outputs_refusal(net, place);
+    let number = api_refusals::place_refusal(net, place);
     if number != 0 {
         return number;
     }
     *outputs = net_record::outputs(net, place as usize);
     0
+}
+
+// The last cause of the module at a place: 0, or 16, 13.
+#[no_mangle]
+pub extern "C" fn nmc_cause(net: &[u8], place: u32, cause: &mut u8) -> u32
+    ensures { λ r. ⌜ r ≡ first (placeTable (now (net .entry)) place) ⌝ }
+    ensures { λ _. ⌜ now (cause .exit) ≡ causeByte (now (net .entry)) place (now (cause .entry)) ⌝ }
+{
+    let number = api_refusals::place_refusal(net, place);
+    if number == 0 {
+        *cause = net_record::cause(net, place as usize);
+    }
+    number
 }
 
 // Writes a frame at the room's start: 0, or 17, 15.

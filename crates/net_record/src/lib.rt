@@ -1,4 +1,4 @@
-// The lent record: whether it is valid, setup, samples and outputs.
+// The lent record: whether it is valid, setup, samples, outputs and causes.
 ghost use mathlib.Core.Path.{_≡_};
 ghost use mathlib.Core.Bool.{true};
 ghost use mathlib.Core.List.{map};
@@ -8,7 +8,7 @@ ghost use Rattle.module_rules.specs.Slots.{slotSize};
 ghost use Rattle.types_rules.specs.Table.{measured};
 ghost use Rattle.types_rules.specs.Types.{slots, powered, outputs};
 ghost use Rattle.net_rules.specs.Record.{recordSize, slotsAt, okSlots, netIn, putModules, stored, valid, chainMost};
-ghost use Rattle.net_rules.specs.Calls.{allKnown, fresh, sampleStep, ofType, outputsAt};
+ghost use Rattle.net_rules.specs.Calls.{allKnown, fresh, sampleStep, ofType, outputsAt, causeAt};
 use types_rules::Measured;
 
 // Whether the first n slots are valid.
@@ -73,6 +73,16 @@ pub fn outputs(net: &[u8], place: usize) -> [u8; 8]
     let at = net_rules::SLOTS_AT + module_rules::SLOT_LEN * place;
     let end = at + module_rules::SLOT_LEN;
     types_dispatch::outputs(&net[at..end])
+}
+
+// The last cause of the module at a place.
+pub fn cause(net: &[u8], place: usize) -> u8
+    requires { ⌜ (valid slots (now net) ≡ true) × (place < length (netIn slots (now net) .modules)) ⌝ }
+    ensures { λ r. ⌜ r ≡ causeAt (netIn slots (now (net .entry))) place ⌝ }
+{
+    let at = net_rules::SLOTS_AT + module_rules::SLOT_LEN * place;
+    let end = at + module_rules::SLOT_LEN;
+    module_station::station_in(&net[at..end]).cause
 }
 
 // Whether all types are known.

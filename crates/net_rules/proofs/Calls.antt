@@ -2,7 +2,7 @@
 use mathlib.Core.Path.{_≡_, refl, sym, ap, ap₂, _∙_}
 use mathlib.Core.List.{List, [], _∷_, _++_, map}
 use mathlib.Core.Bool.{Bool, true, false, false≢true}
-use mathlib.Core.Option.{none}
+use mathlib.Core.Option.{some, none}
 use Prim.Native.Nat.{ℕ, zero, suc, _+_, _*_, _-_, _<_, _≤_}
 use native.Mathlib.Nat.{add-zero}
 use native.Mathlib.Omega.{arith}
@@ -18,16 +18,17 @@ use Rattle.line_receiver.specs.declared.Answer.the-variants.{Ended, Nothing}
 use Rattle.line_receiver.specs.Receive.{idle, taken, numberOf}
 use Rattle.line_receiver.specs.Frames.{Byte, Frame, frameIn}
 use Rattle.chain_rules.specs.Chain.{Net, Step, join, flat, said, repliesFrom, byteStep}
-use Rattle.module_rules.specs.Slots.{slotSize}
+use Rattle.module_rules.specs.Slot.{station}
+use Rattle.module_rules.specs.Slots.{slotSize, stationAt}
 use Rattle.chain_rules.proofs.Bytes.{step-on, step-end}
 use Rattle.chain_rules.proofs.Replies.{flat-join}
 use Rattle.types_rules.specs.Types.{kind, slots, powered, outputs, Module, AnySample}
-use Rattle.types_rules.proofs.Laws.{lawful, type-is}
+use Rattle.types_rules.proofs.Laws.{lawful, type-is, cause-is}
 use Rattle.net_rules.specs.declared.Called.{Called}
 use Rattle.net_rules.specs.declared.Walked.{Walked}
 use Rattle.net_rules.specs.Record.{countAt, slotsAt, recordSize, receiverIn, receiverBytes, okSlots, netIn, stored, putModules, valid, chainMost}
 use Rattle.net_rules.specs.Walk.{moduleAt, walked, speech, walkOf, endedOf}
-use Rattle.net_rules.specs.Calls.{noted, fresh, sampleStep, spokenTo, calledBy, isOf, ofType, outputsIn, outputsAt}
+use Rattle.net_rules.specs.Calls.{noted, fresh, sampleStep, spokenTo, calledBy, isOf, ofType, outputsIn, outputsAt, causeIn, causeAt}
 use Rattle.net_rules.proofs.Valid.{valid-is}
 use Rattle.net_rules.proofs.Head.{length-receiver}
 use Rattle.net_rules.proofs.Exact.{waits, walked-is, speech-is, changed-is, module-at, length-modules}
@@ -88,6 +89,10 @@ of-type-below n place t e = at (n .modules) place e
     at (m ∷ ms) (suc i) e = let h = at ms i e in omega arith
 
 module _ (s : List ℕ) (b : Bytes s) (v : valid slots s ≡ true) where
+  -- the slot of a place, as the code reads it
+  abbrev partAt : ℕ → List ℕ
+  partAt place = take (slotsAt + slotSize * place + slotSize - (slotsAt + slotSize * place)) (drop (slotsAt + slotSize * place) s)
+
   -- the first byte of a slot is its module's type
   pub type-at : (place t : ℕ) → place < length (netIn slots s .modules) → eqb (getD s (slotsAt + slotSize * place) 0) t ≡ ofType t (netIn slots s) place
   unfolding moduleAt
@@ -98,16 +103,20 @@ module _ (s : List ℕ) (b : Bytes s) (v : valid slots s ≡ true) where
       ap (λ (n : ℕ). eqb n t) (sym first ∙ type-is (take slotSize (drop at s)) (p .good))
       ∙ sym (ap (isOf t) (module-at kind lawful s b v place (p .below)))
 
-  -- what the board drives
-  pub outputs-is : (place : ℕ) {r : List ℕ} → place < getD s countAt 0
-      → r ≡ outputs (slots .dec (take (slotsAt + slotSize * place + slotSize - (slotsAt + slotSize * place)) (drop (slotsAt + slotSize * place) s)))
-      → r ≡ outputsAt (netIn slots s) place
+  -- the slot of a place, as a part of the record, holds the module there
+  held-at : (place : ℕ) → place < getD s countAt 0 → some (slots .dec (partAt place)) ≡ getElem? (netIn slots s .modules) place
   unfolding moduleAt
-  outputs-is place h e =
+  held-at place h =
       let n : slotsAt + slotSize * place + slotSize - (slotsAt + slotSize * place) ≡ slotSize = omega arith in
-      e
-      ∙ ap (λ (k : ℕ). outputs (slots .dec (take k (drop (slotsAt + slotSize * place) s)))) n
-      ∙ sym (ap outputsIn (module-at kind lawful s b v place h))
+      ap (λ (k : ℕ). some (slots .dec (take k (drop (slotsAt + slotSize * place) s)))) n ∙ sym (module-at kind lawful s b v place h)
+
+  -- what the board drives
+  pub outputs-is : (place : ℕ) {r : List ℕ} → place < getD s countAt 0 → r ≡ outputs (slots .dec (partAt place)) → r ≡ outputsAt (netIn slots s) place
+  outputs-is place h e = e ∙ ap outputsIn (held-at place h)
+
+  -- the last cause
+  pub cause-at : (place : ℕ) {r : ℕ} → place < getD s countAt 0 → r ≡ station .codec .dec stationAt (partAt place) .cause → r ≡ causeAt (netIn slots s) place
+  cause-at place h e = e ∙ sym (cause-is (partAt place)) ∙ ap causeIn (held-at place h)
 
   -- a sample
   pub sample-is : (place : ℕ) (x : AnySample) {y : List ℕ} → place < getD s countAt 0 → slotsAt + slotSize * place + slotSize ≤ length s

@@ -11,7 +11,7 @@ use Rattle.line_receiver.specs.Receive.{idle, taken}
 use Rattle.line_receiver.specs.Frames.{Byte, frameIn}
 use Rattle.module_rules.specs.Kind.{Kind}
 use Rattle.chain_rules.specs.Chain.{Net, flat, said, byteStep, changed}
-use Rattle.types_rules.specs.Types.{Module, AnySample, kind, slots, known, typeOf, powered, outputs}
+use Rattle.types_rules.specs.Types.{Module, AnySample, kind, slots, known, typeOf, powered, outputs, causeOf}
 use Rattle.net_rules.specs.declared.Called.{Called}
 use Rattle.net_rules.specs.Record.{recordSize, stored, chainMost}
 
@@ -54,6 +54,14 @@ outputsIn (some m) = outputs m
 
 abbrev pub outputsAt : Net Module → ℕ → List ℕ
 outputsAt n place = outputsIn (getElem? (n .modules) place)
+
+-- the last cause of the module at a place (02 P1), 0 beyond the chain
+abbrev pub causeIn : Option Module → ℕ
+causeIn none = 0
+causeIn (some m) = causeOf m
+
+abbrev pub causeAt : Net Module → ℕ → ℕ
+causeAt n place = causeIn (getElem? (n .modules) place)
 
 -- what each place says to a byte: nothing, unless it ends a frame
 unfoldable pub spokenTo : {M S : Type 0} → Kind M S → Net M → Byte → List (List ℕ)

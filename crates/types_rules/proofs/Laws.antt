@@ -7,14 +7,14 @@ use lib.ListN.{length, getD}
 use Rattle.base_layout.specs.Bytes.{pasted}
 use Rattle.line_receiver.specs.Frames.{Frame}
 use Rattle.module_rules.specs.declared.Station.{Station}
-use Rattle.module_rules.specs.Slot.{address}
+use Rattle.module_rules.specs.Slot.{address, station}
 use Rattle.module_rules.specs.Slots.{Lawful, stationAt}
 use Rattle.module_rules.specs.Kind.{replied}
 use Rattle.module_rules.specs.Owes.{replySize}
 use Rattle.module_rules.proofs.Kept.{reply-most}
 use Rattle.chain_rules.proofs.Along.{replied-short}
 use Rattle.types_rules.specs.Table.{ModuleType, servo, inout, Of, rulesOf, slotsOf, GoodOf}
-use Rattle.types_rules.specs.Types.{Module, kind, typeIn, typeOfSlot, slots, typeOf}
+use Rattle.types_rules.specs.Types.{Module, kind, typeIn, typeOfSlot, slots, typeOf, causeOf}
 use Rattle.types_rules.proofs.Owed.{owes}
 
 -- a type's number leads back to it
@@ -44,6 +44,10 @@ lawful = record {
 -- who the module in a slot is can be told without decoding it
 pub address-is : (s : List ℕ) → kind .address (slots .dec s) ≡ address .codec .dec stationAt s
 address-is s = ap (λ (x : Station). x .address) (owes (typeOfSlot s) .stationed s)
+
+-- so can its last cause
+pub cause-is : (s : List ℕ) → causeOf (slots .dec s) ≡ station .codec .dec stationAt s .cause
+cause-is s = ap (λ (x : Station). x .cause) (owes (typeOfSlot s) .stationed s)
 
 -- its type too, in a valid slot
 pub type-is : (s : List ℕ) → slots .ok s ≡ true → getD s 0 0 ≡ typeOf (slots .dec s)

@@ -67,6 +67,10 @@ sizesOf n = rulesOf (typeIn n) .sizes
 abbrev pub outputs : Module → List ℕ
 outputs m = rulesOf (m .0) .outputs (m .1)
 
+-- the last cause of a module of any type (02 P1)
+abbrev pub causeOf : Module → ℕ
+causeOf m = rulesOf (m .0) .station (m .1) .cause
+
 -- the samples that can be given
 abbrev pub Good : AnySample → Type 0
 Good x = GoodOf (x .0) (x .1)
