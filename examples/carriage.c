@@ -12,13 +12,13 @@
 
 enum code { LOAD_TRAJECTORY = 4, START = 5, SET_GAIN = 6, STOP = 7, CLEAR_BITS = 11, NO_OP = 14 };
 
-/* Status bits and causes as replies show them. */
+/* Status bits as replies show them; which cause it was, the module tells. */
 enum { MOVE_DONE = 0x01, NOT_EXECUTED = 0x02, POWER_GOOD = 0x08, POSITION_ERROR = 0x10 };
 
 enum { PLACE = 0, ADDRESS = 0, GOOD_POWER = 1 };
 
 static uint8_t net[NMC_NET_LEN];
-static uint8_t status;
+static uint8_t status, cause;
 
 static void check(int holds, const char *what)
 {
@@ -28,7 +28,21 @@ static void check(int holds, const char *what)
     }
 }
 
-/* Sends a frame; the servo's status byte is in status afterwards. */
+/* What night shift calls a cause. */
+static const char *name_of(uint8_t number)
+{
+    switch ((enum nmc_cause_number)number) {
+    case NMC_CAUSE_EXECUTED: return "executed";
+    case NMC_CAUSE_DAMAGED: return "damaged";
+    case NMC_CAUSE_COUNT: return "wrong number of data bytes";
+    case NMC_CAUSE_NOT_NOW: return "not now";
+    case NMC_CAUSE_UNKNOWN: return "unknown code";
+    case NMC_CAUSE_VALUE: return "value out of range";
+    }
+    return "no cause";
+}
+
+/* Sends a frame; the servo's status byte and its last cause are in status and cause afterwards. */
 static void tell(const char *words, enum code code, const uint8_t *data, size_t data_len)
 {
     uint8_t frame[NMC_FRAME_LEN], room[NMC_ROOM_LEN], reading[NMC_READING_LEN];
@@ -41,7 +55,10 @@ static void tell(const char *words, enum code code, const uint8_t *data, size_t 
     check(nmc_read_status(NMC_TYPE_SERVO, 0, room, written, reading) == NMC_DONE,
           "the status reader refused the reply");
     status = reading[0];
-    printf("%-42s status %02X\n", words, status);
+    check(nmc_cause(net, sizeof net, PLACE, &cause) == NMC_DONE, "cause");
+    check((cause != NMC_CAUSE_EXECUTED) == ((status & NOT_EXECUTED) != 0),
+          "the status bit does not tell of the cause");
+    printf("%-42s status %02X, %s\n", words, status, name_of(cause));
 }
 
 /* One tick with the motor at raw; prints and gives back what the motor gets. */
@@ -74,9 +91,9 @@ int main(void)
     check(status == (MOVE_DONE | POWER_GOOD), "the servo is not ready");
 
     tell("load, cut short by four bytes", LOAD_TRAJECTORY, load, sizeof load - 4);
-    check((status & NOT_EXECUTED) != 0, "a cut load was taken");
+    check(cause == NMC_CAUSE_COUNT, "a cut load is not told by its count");
     tell("start", START, none, 0);
-    check((status & NOT_EXECUTED) != 0, "a start without a load was executed");
+    check(cause == NMC_CAUSE_NOT_NOW, "a start without a load was executed");
     for (int i = 0; i < 3; i++)
         check(tick(0) == 0, "the carriage moved on an incomplete load");
     printf("three ticks, and the carriage stands\n");

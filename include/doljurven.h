@@ -24,9 +24,9 @@ extern "C" {
 #endif
 
 /* Each landing raises it and says in CHANGELOG.md what is new. */
-#define NMC_VERSION "1.4.0"
+#define NMC_VERSION "1.5.0"
 #define NMC_VERSION_MAJOR 1
-#define NMC_VERSION_MINOR 4
+#define NMC_VERSION_MINOR 5
 #define NMC_VERSION_PATCH 0
 
 #define NMC_MOST_MODULES 32u  /* in one chain */
