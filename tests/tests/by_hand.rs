@@ -232,6 +232,8 @@ fn last_cause_is_told_at_its_place() {
     assert_eq!(told(&written(0, 1, &[2, 0xFF])), [0, 0]);
     assert_eq!(told(&written(1, 5, &[])), [3, 0], "a Start with no load waiting");
     assert_eq!(told(&written(2, 14, &[7])), [3, 2], "a No Op with a data byte");
+    assert_eq!(told(&written(1, 8, &[7])), [4, 2], "Set Timer Mode, which a servo has not");
+    assert_eq!(told(&written(1, 7, &[0x20])), [5, 2], "a Stop with bit 5");
     assert_eq!(told(&damaged), [1, 2]);
     assert_eq!(told(&written(0xFF, 14, &[])), [0, 0]);
 }
@@ -245,8 +247,8 @@ fn stored_where_no_reply_shows_it() {
     let before = net[slot(0)..slot(0) + IO_LEN].to_vec();
     assert_eq!(send(&mut net, &written(0, 10, &[0x3F])).1, [2, 2]);
     let mut expected = before;
-    expected[5] = 2;
-    assert_eq!(net[slot(0)..slot(0) + IO_LEN], expected, "a malformed frame leaves its cause and nothing else");
+    expected[5] = 4;
+    assert_eq!(net[slot(0)..slot(0) + IO_LEN], expected, "Set Baud sent individually leaves its cause and nothing else");
 }
 
 #[test]

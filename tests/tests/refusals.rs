@@ -241,7 +241,7 @@ fn record_with_an_addr_out_that_is_no_flag() {
 
 #[test]
 fn record_with_an_unknown_cause() {
-    in_every_slot(5, &[0, 1, 2, 3], &[4, 128, 255]);
+    in_every_slot(5, &[0, 1, 2, 3, 4, 5], &[6, 128, 255]);
 }
 
 #[test]
