@@ -46,6 +46,15 @@ abbrev pub judged : {C : Type 0} → List ℕ → Meaning (Request C) → Reques
 judged ds unknown = malformed Unknown
 judged ds (takes count good q) = counted count ds (ranged good q)
 
+-- one of a type's own commands as a request
+abbrev pub owned : {C : Type 0} → Meaning C → Meaning (Request C)
+owned unknown = unknown
+owned (takes count good c) = takes count good (wants c)
+
+-- what one of the own codes asks
+abbrev pub asking : {C : Type 0} → List ℕ → Meaning C → Request C
+asking ds u = judged ds (owned u)
+
 -- A module type: its records M, its samples S, its own commands C.
 pub record Rules (M S C : Type 0) : Type 0 where
   -- the type's number
@@ -70,15 +79,6 @@ pub record Rules (M S C : Type 0) : Type 0 where
   pub numbers : M → List ℕ
   -- what the board drives, in eight bytes
   pub outputs : M → List ℕ
-
--- one of the own commands as a request
-abbrev pub owned : {C : Type 0} → Meaning C → Meaning (Request C)
-owned unknown = unknown
-owned (takes count good c) = takes count good (wants c)
-
--- what one of the own codes asks
-abbrev pub asking : {C : Type 0} → List ℕ → Meaning C → Request C
-asking ds u = judged ds (owned u)
 
 -- the codes of every type come first; of their commands every value is good
 abbrev pub joined : {C : Type 0} → Asked → Meaning C → Meaning (Request C)

@@ -30,7 +30,7 @@ gain-read ds = record {
 pub stop-read : StopRead
 unfolding stopMeant
 stop-read ds = record {
-  read = λ n v. rw (eq-eqb _ _ n, v);
+  read = λ n v. rw (v, eq-eqb _ _ n);
   count = λ n. rw (ne-eqb _ _ n);
   value = λ n v. rw (eq-eqb _ _ n, v);
 }
