@@ -1,6 +1,6 @@
 /*
- * Document 01 in plain C11. It shares nothing with the library, so that the
- * two can be held against each other.
+ * Document 01 with P1 of 02 in plain C11. It shares nothing with the library,
+ * so that the two can be held against each other.
  */
 #include "plain.h"
 
@@ -23,7 +23,8 @@ enum { HEADER = 0xAA, ITEMS = 8, READING_LEN = 33, OUTPUTS_LEN = 8, TWELVE_BITS 
 enum { POWER_LOW, POWER_GOOD, POWER_HIGH };
 enum { FASTEST = 83886080, MOST_GAIN = 32767, MOST_ERROR = 16383, MOST_OUTPUT = 255 };
 
-enum cause { EXECUTED, DAMAGED, MALFORMED, NOT_NOW };
+/* Those that refuse are tested in the order DAMAGED, UNKNOWN, WRONG_COUNT, OUT_OF_RANGE, NOT_NOW. */
+enum cause { EXECUTED, DAMAGED, WRONG_COUNT, NOT_NOW, UNKNOWN, OUT_OF_RANGE };
 
 enum code {
     SET_ADDRESS = 1,
@@ -330,8 +331,10 @@ static enum cause load_trajectory(struct plain_servo *s, const struct frame *f)
 {
     struct plain_load load;
     struct plain_rates rates = s->rates;
-    if (!has_load_count(f) || !parse_load(f->data, &load, &rates))
-        return MALFORMED;
+    if (!has_load_count(f))
+        return WRONG_COUNT;
+    if (!parse_load(f->data, &load, &rates))
+        return OUT_OF_RANGE;
     bool now = (f->data[0] & LOAD_START_NOW) != 0;
     if (now && !can_start(s, &load, &rates))
         return NOT_NOW;
@@ -375,7 +378,7 @@ static enum cause set_gain(struct plain_servo *s, const uint8_t *data)
                             .sm = data[14]};
     if (g.kp > MOST_GAIN || g.kd > MOST_GAIN || g.ki > MOST_GAIN || g.il > MOST_GAIN ||
         g.el > MOST_ERROR || data[12] != 1 || data[13] != 0)
-        return MALFORMED;
+        return OUT_OF_RANGE;
     s->gains = g;
     return EXECUTED;
 }
@@ -404,10 +407,12 @@ static void stop_smoothly(struct plain_servo *s)
 static enum cause stop(struct plain_servo *s, const struct frame *f)
 {
     if (f->count == 0)
-        return MALFORMED;
+        return WRONG_COUNT;
     uint8_t control = f->data[0], kind = control & STOP_KINDS;
-    if (control & 0xE0 || kind & (kind - 1) || f->count != (control & STOP_HERE ? 5 : 1))
-        return MALFORMED;
+    if (f->count != (control & STOP_HERE ? 5 : 1))
+        return WRONG_COUNT;
+    if (control & 0xE0 || kind & (kind - 1))
+        return OUT_OF_RANGE;
     if (kind & (STOP_ABRUPT | STOP_HERE) && !is_ready(s))
         return NOT_NOW;
     s->amplifier = control & STOP_AMPLIFIER;
@@ -428,22 +433,22 @@ static enum cause servo_command(struct plain_servo *s, const struct frame *f)
 {
     switch (f->code) {
     case RESET_POSITION:
-        return f->count == 0 ? reset_position(s) : MALFORMED;
+        return f->count == 0 ? reset_position(s) : WRONG_COUNT;
     case LOAD_TRAJECTORY:
         return load_trajectory(s, f);
     case START:
-        return f->count == 0 ? start_command(s) : MALFORMED;
+        return f->count == 0 ? start_command(s) : WRONG_COUNT;
     case SET_GAIN:
-        return f->count == 15 ? set_gain(s, f->data) : MALFORMED;
+        return f->count == 15 ? set_gain(s, f->data) : WRONG_COUNT;
     case STOP:
         return stop(s, f);
     case CLEAR_BITS:
         if (f->count != 0)
-            return MALFORMED;
+            return WRONG_COUNT;
         s->error = 0;
         return EXECUTED;
     default:
-        return MALFORMED;
+        return UNKNOWN;
     }
 }
 
@@ -495,7 +500,9 @@ static void put_output(struct plain_io *io, uint16_t bits)
     io->output = (uint16_t)((io->output & io->direction) | (bits & ~io->direction));
 }
 
-/* How many data bytes a command of the I/O module has; no number is a wrong one. */
+enum { NO_COUNT = UINT8_MAX };
+
+/* How many data bytes a command of the I/O module has; no value of theirs is out of range. */
 static uint8_t io_count(uint8_t code)
 {
     switch (code) {
@@ -511,14 +518,17 @@ static uint8_t io_count(uint8_t code)
     case SET_SYNCH_OUTPUT:
         return 4;
     default:
-        return UINT8_MAX;
+        return NO_COUNT;
     }
 }
 
 static enum cause io_command(struct plain_io *io, const struct frame *f)
 {
-    if (f->count != io_count(f->code))
-        return MALFORMED;
+    uint8_t count = io_count(f->code);
+    if (count == NO_COUNT)
+        return UNKNOWN;
+    if (f->count != count)
+        return WRONG_COUNT;
     const uint8_t *data = f->data;
     switch (f->code) {
     case SET_DIRECTION:
@@ -586,26 +596,28 @@ static enum cause execute(struct plain_module *m, const struct frame *f, bool in
     switch (f->code) {
     case SET_ADDRESS:
         if (f->count != 2)
-            return MALFORMED;
+            return WRONG_COUNT;
         set_address(&m->station, f->data);
         return EXECUTED;
     case DEFINE_STATUS:
         if (f->count != 1)
-            return MALFORMED;
+            return WRONG_COUNT;
         m->station.items = f->data[0];
         return EXECUTED;
     case READ_STATUS:
-        return f->count == 1 ? EXECUTED : MALFORMED;
+        return f->count == 1 ? EXECUTED : WRONG_COUNT;
     case SET_BAUD:
-        if (individually || f->count != 1)
-            return MALFORMED;
+        if (individually)
+            return UNKNOWN;
+        if (f->count != 1)
+            return WRONG_COUNT;
         m->station.baud = f->data[0];
         return EXECUTED;
     case NO_OP:
-        return f->count == 0 ? EXECUTED : MALFORMED;
+        return f->count == 0 ? EXECUTED : WRONG_COUNT;
     case HARD_RESET:
         if (f->count != 0)
-            return MALFORMED;
+            return WRONG_COUNT;
         power_up(m);
         return EXECUTED;
     default:
@@ -714,7 +726,7 @@ static bool receiver_holds(const struct plain_receiver *r)
 
 static bool station_holds(const struct plain_station *s)
 {
-    return s->leader <= 1 && s->low <= 1 && s->cause <= NOT_NOW;
+    return s->leader <= 1 && s->low <= 1 && s->cause <= OUT_OF_RANGE;
 }
 
 static bool io_holds(const struct plain_io *io)

@@ -1,8 +1,9 @@
 /*
- * Document 01 in plain C, to measure the library against: the same calls and
- * the same answers on a network of typed structs. plain.c is compiled twice:
- * as it stands (plain_...) it believes the network that it is lent, with
- * PLAIN_CHECKS (checked_...) it tests the list for refusal 16 at each call.
+ * Document 01 with P1 of 02 in plain C, to measure the library against: the
+ * same calls and the same answers on a network of typed structs. plain.c is
+ * compiled twice: as it stands (plain_...) it believes the network that it is
+ * lent, with PLAIN_CHECKS (checked_...) it tests the list for refusal 16 at
+ * each call.
  */
 #ifndef PLAIN_H
 #define PLAIN_H

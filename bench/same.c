@@ -1,9 +1,9 @@
 /*
  * Holds plain C to the library, so that what is measured against it is the
  * same document: over long histories, led to where modules hear and execute,
- * both builds and the library must give the same numbers, replies and outputs;
- * and over spoiled records the library and the build that checks must refuse
- * the same ones.
+ * both builds and the library must give the same numbers, replies, causes and
+ * outputs; and over spoiled records the library and the build that checks must
+ * refuse the same ones.
  */
 #include "plain.h"
 #include "three.h"
@@ -14,10 +14,11 @@
 #include <string.h>
 
 enum { HISTORIES = 1500, STEPS = 500, FASTEST = 83886080, SLOTS_AT = 20, SLOT_LEN = (NMC_NET_LEN - SLOTS_AT) / NMC_MOST_MODULES };
+enum { CAUSE_AT = 5, CAUSES = 6, LEAST_TIMES = 1000 };
 
 static uint64_t dice;
 static uint32_t history, step;
-static unsigned long calls, frames, executed, moving_ticks, spoiled, refused;
+static unsigned long calls, frames, frames_with[CAUSES], moving_ticks, spoiled, refused;
 
 /* The library's record and the structs, as three.c keeps them. */
 static uint8_t *record;
@@ -59,6 +60,16 @@ static void need(bool holds, const char *what, unsigned which)
 
 /* ---- each call at all three */
 
+/* Which cause a module keeps shows in its record alone: replies tell only that there is one. */
+static void causes_of_all(void)
+{
+    for (int place = 0; place < plain->chain; place++) {
+        uint8_t cause = record[SLOTS_AT + SLOT_LEN * place + CAUSE_AT];
+        need(plain->modules[place].station.cause == cause, "cause", PLAIN_C);
+        need(checked->modules[place].station.cause == cause, "cause", CHECKED_C);
+    }
+}
+
 static uint32_t byte_at_all(uint32_t mark, uint8_t byte, size_t room_len)
 {
     static uint8_t rooms[IMPLEMENTATIONS][NMC_ROOM_LEN];
@@ -75,6 +86,8 @@ static uint32_t byte_at_all(uint32_t mark, uint8_t byte, size_t room_len)
         need(written[i] == written[LIBRARY], "length of the replies", i);
         need(memcmp(rooms[i], rooms[LIBRARY], sizeof rooms[i]) == 0, "replies", i);
     }
+    if (numbers[LIBRARY] == NMC_FRAME || numbers[LIBRARY] == NMC_DAMAGED)
+        causes_of_all();
     return numbers[LIBRARY];
 }
 
@@ -278,7 +291,7 @@ static void send_some_frame(void)
         data[1] = percent(50) ? 0x7F : 0xFF;
     }
     send_command(address, code, data, len);
-    executed += m->station.cause == 0;
+    frames_with[m->station.cause]++;
 }
 
 /* ---- a history */
@@ -505,7 +518,7 @@ static void spoil_record(void)
         uint8_t byte = some_byte();
         record[below(SLOTS_AT)] = byte;
     } else if (kind < 6) {
-        uint8_t byte = percent(50) ? (uint8_t)below(6) : some_byte();
+        uint8_t byte = percent(50) ? (uint8_t)below(7) : some_byte();
         slot[below(106)] = byte;
     } else {
         int at = words[below(sizeof words)];
@@ -584,8 +597,14 @@ int main(void)
         dice = history;
         run_history();
     }
-    printf("%lu calls, %lu frames ended, %lu executed, %lu ticks of a moving servo; "
+    for (unsigned cause = 0; cause < CAUSES; cause++)
+        if (frames_with[cause] < LEAST_TIMES) {
+            printf("cause %u came up %lu times only\n", cause, frames_with[cause]);
+            return 1;
+        }
+    printf("%lu calls, %lu frames ended, by cause %lu %lu %lu %lu %lu %lu, %lu ticks of a moving servo; "
            "%lu spoiled records, %lu refused: all the same\n",
-           calls, frames, executed, moving_ticks, spoiled, refused);
+           calls, frames, frames_with[0], frames_with[1], frames_with[2], frames_with[3], frames_with[4],
+           frames_with[5], moving_ticks, spoiled, refused);
     return 0;
 }

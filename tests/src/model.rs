@@ -20,4 +20,4 @@ pub use replay::replay;
 pub use servo::{
     distance, greatest_speed, is_half_turn, stopping_sum, Gains, Load, Mode, Servo, ServoSample, Way, SPEED_MOST,
 };
-pub use station::{Device, Station, Touch, DAMAGED, EXECUTED, MALFORMED, NOT_NOW};
+pub use station::{Device, Station, Touch, CAUSES, DAMAGED, EXECUTED, NOT_NOW, OUT_OF_RANGE, UNKNOWN, WRONG_COUNT};

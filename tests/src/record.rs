@@ -131,7 +131,7 @@ fn station(slot: &[u8]) -> Station {
         group: slot[2],
         leader: slot[3] == 1,
         low: slot[4] == 1,
-        cause: slot[5],
+        cause: slot[CAUSE],
         items: slot[6],
         baud: slot[7],
     }
@@ -140,6 +140,16 @@ fn station(slot: &[u8]) -> Station {
 fn put_station(slot: &mut [u8], station: &Station) {
     let (leader, low) = (u8::from(station.leader), u8::from(station.low));
     put(slot, 1, &[station.individual, station.group, leader, low, station.cause, station.items, station.baud]);
+}
+
+fn cause_holds(slot: &[u8], slip: Slip) -> bool {
+    let most = match slip {
+        Slip::RecordCauseUntested => u8::MAX,
+        Slip::RecordCauseTo3 => 3,
+        Slip::RecordCauseTo6 => 6,
+        _ => 5,
+    };
+    slot[CAUSE] <= most
 }
 
 fn receiver(net: &[u8], slip: Slip) -> Option<Receiver> {
@@ -162,7 +172,7 @@ fn io(slot: &[u8], slip: Slip) -> Option<Box<Io>> {
     let holds = all_hold(&[
         (slot[3] <= 1, Branch::ListIoLeader),
         (slot[4] <= 1, Branch::ListIoLow),
-        (slot[5] <= 3 || slip == Slip::RecordCauseUntested, Branch::ListIoCause),
+        (cause_holds(slot, slip), Branch::ListIoCause),
         (TWELVE_BITS.iter().all(|at| two(slot, *at) < 4096), Branch::ListIoBits),
     ]);
     if !holds {
@@ -206,7 +216,7 @@ fn servo_in_range(slot: &[u8], slip: Slip) -> bool {
     let rate = |at: usize| four(slot, at) <= SPEED_MOST;
     let most = i64::from(SPEED_MOST);
     let numbers = [
-        (slot[5] <= 3 || slip == Slip::RecordCauseUntested, Branch::ListCause),
+        (cause_holds(slot, slip), Branch::ListCause),
         (slot[at::WAITING + 4] <= 2, Branch::ListWaitingPower),
         (slot[at::LATCHED + 4] <= 2, Branch::ListLatchedPower),
         (gains && two(slot, at::EL) <= 16_383, Branch::ListGains),

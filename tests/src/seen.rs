@@ -2,7 +2,9 @@
 //! dice still fall everywhere.
 
 use crate::calls::{MOST_MODULES, ROOM_LEN};
-use crate::model::{Mode, Module, Network, Servo, Touch, SPEED_MOST};
+use crate::model::{
+    Mode, Module, Network, Servo, Touch, CAUSES, EXECUTED, NOT_NOW, OUT_OF_RANGE, SPEED_MOST, UNKNOWN, WRONG_COUNT,
+};
 
 /// What may change a servo's mode.
 #[derive(Clone, Copy, Debug, PartialEq, Eq)]
@@ -46,7 +48,9 @@ pub struct Seen {
     /// Modules touched, by place.
     pub places: [usize; MOST_MODULES],
     /// Modules touched, by code and cause: servos, then I/O modules.
-    pub met: [[[usize; 4]; 16]; 2],
+    pub met: [[[usize; CAUSES]; 16]; 2],
+    /// Frames that mean one thing to a servo and another to an I/O module.
+    pub two_causes: Tally,
     /// Servos touched or ticked, by what came upon them, mode before and mode after.
     pub modes: [[[usize; 5]; 5]; CHANGES.len()],
     /// What ticks have done to servos that ran.
@@ -109,6 +113,7 @@ impl Seen {
         let receiver = &before.receiver;
         let (code, count) = (receiver.command & 15, usize::from(receiver.command >> 4));
         let mut repliers = 0;
+        let mut told = [[false; CAUSES]; 2];
         for (place, module) in before.modules.iter().enumerate() {
             let touch = match before.touch(place, receiver.address) {
                 Some(touch) => touch,
@@ -116,14 +121,28 @@ impl Seen {
             };
             self.places[place] += 1;
             let cause = after.modules[place].station().cause;
-            let is_io = matches!(module, Module::Io(_));
-            self.met[usize::from(is_io)][usize::from(code)][usize::from(cause)] += 1;
+            let module_type = usize::from(matches!(module, Module::Io(_)));
+            self.met[module_type][usize::from(code)][usize::from(cause)] += 1;
+            told[module_type][usize::from(cause)] = true;
             if let (Module::Servo(before), Module::Servo(after)) = (module, &after.modules[place]) {
                 self.mode(change_by_frame(code, &receiver.data[..count], cause), before, after);
             }
             let speaks = touch == Touch::Individually || module.station().leader;
             repliers += usize::from(speaks && !(code == 15 && cause == 0));
         }
+        let both = |servo: u8, io: u8| told[0][usize::from(servo)] && told[1][usize::from(io)];
+        add(
+            &mut self.two_causes,
+            &[
+                ("executed by a servo, unknown to an I/O module", both(EXECUTED, UNKNOWN)),
+                ("executed by a servo, of a wrong count for an I/O module", both(EXECUTED, WRONG_COUNT)),
+                ("unknown to a servo, executed by an I/O module", both(UNKNOWN, EXECUTED)),
+                ("unknown to a servo, of a wrong count for an I/O module", both(UNKNOWN, WRONG_COUNT)),
+                ("of a wrong count for a servo, executed by an I/O module", both(WRONG_COUNT, EXECUTED)),
+                ("out of range for a servo, of a wrong count for an I/O module", both(OUT_OF_RANGE, WRONG_COUNT)),
+                ("not now for a servo, executed by an I/O module", both(NOT_NOW, EXECUTED)),
+            ],
+        );
         self.chains[before.modules.len() - 1] += 1;
         self.repliers[repliers.min(2)] += 1;
         self.full_rooms += usize::from(written == ROOM_LEN);

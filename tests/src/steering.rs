@@ -4,10 +4,10 @@
 use crate::calls::*;
 use crate::dice::Dice;
 use crate::model::{
-    distance, stopping_sum, Device, Gains, Load, Mode, Module, Network, Servo, ServoSample, Station, Way, HEADER,
-    SPEED_MOST,
+    distance, stopping_sum, Device, Gains, Load, Mode, Module, Network, Servo, ServoSample, Station, Way, CAUSES,
+    HEADER, SPEED_MOST,
 };
-use crate::record::{at, put_module, slot, COUNT, FILL, IO_LEN, MARK, SERVO_LEN, SLOTS, TWELVE_BITS};
+use crate::record::{at, put_module, slot, CAUSE, COUNT, FILL, IO_LEN, MARK, SERVO_LEN, SLOTS, TWELVE_BITS};
 use crate::slips::Slip;
 
 /// Individual and group bytes that meet each other often, and the header among them.
@@ -61,6 +61,16 @@ pub fn types(dice: &mut Dice) -> Vec<u8> {
     (0..length).map(|_| if dice.percent(servos) { 0 } else { 2 }).collect()
 }
 
+/// Mostly another count of data than a command has, often by one: then the rest of it is still what it was.
+fn miscount(dice: &mut Dice, data: &mut Vec<u8>) {
+    let count = match dice.below(4) {
+        0 => data.len().saturating_sub(1),
+        1 => (data.len() + 1).min(15),
+        _ => dice.below(16),
+    };
+    data.resize_with(count, || data_byte(dice));
+}
+
 /// A frame that somebody in the network is likely to hear.
 pub fn frame(dice: &mut Dice, network: &Network) -> (u8, u8, Vec<u8>) {
     let module = &network.modules[dice.below(network.modules.len())];
@@ -81,8 +91,7 @@ pub fn frame(dice: &mut Dice, network: &Network) -> (u8, u8, Vec<u8>) {
         }
     };
     if dice.percent(15) {
-        let count = dice.below(16);
-        data.resize_with(count, || data_byte(dice));
+        miscount(dice, &mut data);
     }
     if code == 1 && data.len() >= 2 {
         data[0] = individual(dice);
@@ -118,6 +127,10 @@ fn rate_or_bad(dice: &mut Dice) -> u32 {
         1 => dice.throw() as u32,
         _ => rate(dice),
     }
+}
+
+fn bad_rate(dice: &mut Dice) -> u32 {
+    dice.pick(&[SPEED_MOST + 1, u32::MAX])
 }
 
 /// Counts that are near, and counts at the far end of the circle.
@@ -168,17 +181,28 @@ fn control(dice: &mut Dice, servo: &Servo) -> u8 {
 /// A load by its control byte; reversed or not, to be started now or not. Often one of a steep move, whose numbers
 /// belong together.
 pub fn load(dice: &mut Dice, servo: &Servo, control: u8) -> Vec<u8> {
+    if dice.percent(15) {
+        load_with(dice, servo, control, steep_counts, steep_rate)
+    } else {
+        load_with(dice, servo, control, counts, rate_or_bad)
+    }
+}
+
+fn load_with(
+    dice: &mut Dice,
+    servo: &Servo,
+    control: u8,
+    counts: fn(&mut Dice) -> u32,
+    rate: fn(&mut Dice) -> u32,
+) -> Vec<u8> {
     let control = control ^ dice.pick(&[0, 0x40, 0x80, 0xC0]);
-    let steep = dice.percent(15);
     let mut data = vec![control];
     if control & 1 != 0 {
-        let counts = if steep { steep_counts(dice) } else { counts(dice) };
-        data.extend(where_it_is(servo).wrapping_add(counts).to_le_bytes());
+        data.extend(where_it_is(servo).wrapping_add(counts(dice)).to_le_bytes());
     }
     for bit in [1, 2] {
         if control >> bit & 1 == 1 {
-            let rate = if steep { steep_rate(dice) } else { rate_or_bad(dice) };
-            data.extend(rate.to_le_bytes());
+            data.extend(rate(dice).to_le_bytes());
         }
     }
     if control & 8 != 0 {
@@ -195,6 +219,9 @@ fn gain(dice: &mut Dice) -> u16 {
         _ => dice.below(800) as u16,
     }
 }
+
+/// Bytes of Set Gain by which a value is out of range: the upper one of a number, SR, DB.
+const GAIN_TOPS: &[usize] = &[1, 3, 5, 7, 11, 12, 13];
 
 /// Good gains, mostly with room for an error.
 pub fn gains(dice: &mut Dice) -> Vec<u8> {
@@ -214,8 +241,46 @@ pub fn gains(dice: &mut Dice) -> Vec<u8> {
     data
 }
 
+/// Stop's data with their control byte.
+fn stop(dice: &mut Dice, servo: &Servo, control: u8) -> Vec<u8> {
+    let mut data = vec![control];
+    if control & 0x10 != 0 {
+        data.extend(servo.position().wrapping_add(counts(dice)).to_le_bytes());
+    }
+    data
+}
+
+/// A command with a bad value, with another count than its own or with both, whatever the servo can do now: one fault
+/// hides the other.
+fn faulty_command(dice: &mut Dice, servo: &Servo) -> (u8, Vec<u8>) {
+    let code = dice.pick(&[0, 0, 4, 4, 5, 6, 7, 7]);
+    let mut data = match code {
+        4 => {
+            let control = dice.pick(&[TRAPEZOID, 0x36, 0x12, 0x14, 0x0E]);
+            load_with(dice, servo, control, counts, bad_rate)
+        }
+        6 => {
+            let mut gains = gains(dice);
+            gains[dice.pick(GAIN_TOPS)] = 0xFF;
+            gains
+        }
+        7 => {
+            let control = dice.pick(&[0x06, 0x0C, 0x0A, 0x12, 0x14, 0x18, 0x20, 0x44, 0x90]);
+            stop(dice, servo, control)
+        }
+        _ => Vec::new(),
+    };
+    if data.is_empty() || dice.percent(60) {
+        miscount(dice, &mut data);
+    }
+    (code, data)
+}
+
 /// A command of the servo's, mostly one that it can execute as it stands.
 pub fn servo_command(dice: &mut Dice, servo: &Servo) -> (u8, Vec<u8>) {
+    if dice.percent(4) {
+        return faulty_command(dice, servo);
+    }
     let code = dice.pick(SERVO_CODES);
     let data = match code {
         4 => {
@@ -225,8 +290,7 @@ pub fn servo_command(dice: &mut Dice, servo: &Servo) -> (u8, Vec<u8>) {
         6 => {
             let mut gains = gains(dice);
             if dice.percent(25) {
-                let at = dice.pick(&[1, 3, 5, 7, 11, 12, 13]);
-                gains[at] = dice.pick(&[0, 1, 2, 0x3F, 0x40, 0x7F, 0x80, 0xFF]);
+                gains[dice.pick(GAIN_TOPS)] = dice.pick(&[0, 1, 2, 0x3F, 0x40, 0x7F, 0x80, 0xFF]);
             }
             gains
         }
@@ -236,11 +300,7 @@ pub fn servo_command(dice: &mut Dice, servo: &Servo) -> (u8, Vec<u8>) {
             } else {
                 dice.byte()
             };
-            let mut data = vec![control];
-            if control & 0x10 != 0 {
-                data.extend(servo.position().wrapping_add(counts(dice)).to_le_bytes());
-            }
-            data
+            stop(dice, servo, control)
         }
         _ => (0..Servo::count(code, &[])).map(|_| data_byte(dice)).collect(),
     };
@@ -453,7 +513,7 @@ pub fn any_record(dice: &mut Dice) -> Vec<u8> {
             group: group(dice) | if dice.percent(90) { 0x80 } else { 0 },
             leader: flag(dice),
             low: dice.percent(70),
-            cause: dice.below(4) as u8,
+            cause: dice.below(CAUSES) as u8,
             items: dice.byte(),
             baud: dice.byte(),
         };
@@ -501,13 +561,13 @@ const STOPPING: &[usize] = &[at::SETPOINT, at::SPEED, at::GOAL, at::RUNNING_ACCE
 /// A goal half the range from the setpoint, or a count beside it.
 fn far_goal(dice: &mut Dice, slot: &mut [u8]) {
     let whole = u32::from_le_bytes(slot[at::SETPOINT + 2..at::SETPOINT + 6].try_into().expect("four bytes"));
-    let goal = whole.wrapping_add(dice.pick(&[(1 << 31) - 1, 1 << 31, (1 << 31) + 1]));
+    let goal = whole.wrapping_add(dice.pick(&[(1 << 31) - 1, 1 << 31, 1 << 31, (1 << 31) + 1]));
     slot[at::GOAL..at::GOAL + 4].copy_from_slice(&goal.to_le_bytes());
 }
 
 fn damage_number(dice: &mut Dice, slot: &mut [u8]) {
     let trapezoid = slot[at::MODE] == Mode::Trapezoid as u8 && dice.percent(60);
-    if trapezoid && dice.percent(20) {
+    if trapezoid && dice.percent(30) {
         return far_goal(dice, slot);
     }
     let at = dice.pick(if trapezoid { STOPPING } else { NUMBERS });
@@ -552,6 +612,10 @@ pub fn damaged_record(dice: &mut Dice, net: &[u8]) -> Vec<u8> {
             4 if is_servo => {
                 let at = dice.pick(&[at::ERROR, at::MODE, at::LATCHED + 4, at::WAY, at::LOAD_WAITS]);
                 damaged[slot(place) + at] = dice.below(6) as u8;
+                continue;
+            }
+            5 if dice.percent(30) => {
+                damaged[slot(place) + CAUSE] = (CAUSES - dice.below(2)) as u8;
                 continue;
             }
             _ => {}

@@ -3,7 +3,7 @@
 
 use doljurven_tests::calls::*;
 use doljurven_tests::capi::Library;
-use doljurven_tests::record::{slot, COUNT, IO_LEN, MARK, SLOTS, SLOT_LEN};
+use doljurven_tests::record::{slot, CAUSE, COUNT, IO_LEN, MARK, SLOTS, SLOT_LEN};
 
 fn network(modules: usize) -> Vec<u8> {
     let mut net = vec![0x99; NET_LEN];
@@ -220,16 +220,14 @@ fn board_drives_what_the_commands_set() {
 
 #[test]
 fn last_cause_is_told_at_its_place() {
-    let mut net = vec![0x99; NET_LEN];
-    assert_eq!(Library.setup(&mut net, &[0, 2]), DONE);
+    let mut net = servo_and_io();
     let mut told = |bytes: &[u8]| {
         send(&mut net, bytes);
         [cause(&net, 0), cause(&net, 1)]
     };
     let mut damaged = written(1, 14, &[]);
     damaged[3] ^= 1;
-    assert_eq!(told(&written(0, 1, &[1, 0xFF])), [0, 0]);
-    assert_eq!(told(&written(0, 1, &[2, 0xFF])), [0, 0]);
+    assert_eq!(told(&[]), [0, 0], "both Set Address were executed");
     assert_eq!(told(&written(1, 5, &[])), [3, 0], "a Start with no load waiting");
     assert_eq!(told(&written(2, 14, &[7])), [3, 2], "a No Op with a data byte");
     assert_eq!(told(&written(1, 8, &[7])), [4, 2], "Set Timer Mode, which a servo has not");
@@ -247,8 +245,117 @@ fn stored_where_no_reply_shows_it() {
     let before = net[slot(0)..slot(0) + IO_LEN].to_vec();
     assert_eq!(send(&mut net, &written(0, 10, &[0x3F])).1, [2, 2]);
     let mut expected = before;
-    expected[5] = 4;
-    assert_eq!(net[slot(0)..slot(0) + IO_LEN], expected, "Set Baud sent individually leaves its cause and nothing else");
+    expected[CAUSE] = 4;
+    assert_eq!(net[slot(0)..slot(0) + IO_LEN], expected, "Set Baud individually leaves its cause and nothing else");
+}
+
+/// A servo at 1 and an I/O module at 2, both of group 255. The servo has no power: what would move it is not now.
+fn servo_and_io() -> Vec<u8> {
+    let mut net = vec![0x99; NET_LEN];
+    assert_eq!(Library.setup(&mut net, &[0, 2]), DONE);
+    send(&mut net, &written(0, 1, &[1, 0xFF]));
+    send(&mut net, &written(0, 1, &[2, 0xFF]));
+    net
+}
+
+/// The cause that a frame leaves at each of the two; one that is not 0 leaves nothing else.
+fn causes_after(net: &mut [u8], frame: &[u8]) -> [u8; 2] {
+    let before = net.to_vec();
+    send(net, frame);
+    [0, 1].map(|place| {
+        let mut kept = before[slot(place)..slot(place + 1)].to_vec();
+        let cause = net[slot(place) + CAUSE];
+        kept[CAUSE] = cause;
+        assert!(cause == 0 || net[slot(place)..slot(place + 1)] == kept, "{frame:02X?} changed more at {place}");
+        cause
+    })
+}
+
+/// Code and data, then the causes at the servo and at the I/O module.
+type FrameAndCauses = (u8, &'static [u8], [u8; 2]);
+
+const FRAMES_AND_CAUSES: &[FrameAndCauses] = &[
+    (14, &[], [0, 0]),
+    // a code that neither knows has no right count; one that the other knows is unknown here all the same
+    (9, &[], [4, 4]),
+    (13, &[1, 2, 3], [4, 4]),
+    (8, &[0x33], [4, 0]),
+    (8, &[], [4, 2]),
+    (12, &[], [4, 0]),
+    (12, &[1], [4, 2]),
+    (11, &[1], [2, 4]),
+    // counts, each by the type's own command
+    (1, &[5], [2, 2]),
+    (2, &[], [2, 2]),
+    (3, &[1, 2], [2, 2]),
+    (14, &[0], [2, 2]),
+    (15, &[1], [2, 2]),
+    (0, &[], [0, 2]),
+    (0, &[0, 0], [2, 0]),
+    (6, &[0, 0], [2, 0]),
+    (7, &[0, 0, 0, 0], [2, 0]),
+    // loads: count, then values, then whether it can start
+    (4, &[], [2, 2]),
+    (4, &[0x97, 0, 0, 0, 0, 0, 0, 0, 0], [2, 2]),
+    (4, &[0x06, 0x01, 0x00, 0x00, 0x05, 1, 0, 0], [2, 2]),
+    (4, &[0x02, 0x01, 0x00, 0x00, 0x05, 0], [2, 2]),
+    (4, &[0x02, 0x01, 0x00, 0x00, 0x05], [5, 2]),
+    (4, &[0x92, 0x01, 0x00, 0x00, 0x05], [5, 2]),
+    (4, &[0x92, 0x00, 0x00, 0x00, 0x05], [3, 2]),
+    (4, &[0x04, 0, 0, 0, 0], [5, 2]),
+    (4, &[0x94, 0, 0, 0, 0], [5, 2]),
+    (4, &[0x94, 1, 0, 0, 0], [3, 2]),
+    (4, &[0x04, 0x01, 0x00, 0x00, 0x05], [5, 2]),
+    (4, &[0x88, 7], [3, 0]),
+    (5, &[], [3, 0]),
+    (5, &[0], [2, 2]),
+    // Kp, Kd, Ki, IL and EL too large, SR not 1, DB not 0; and a short one with Kp too large
+    (6, &[0, 0x7F, 0, 0, 0, 0, 0, 0, 0, 0, 0xFF, 0x3F, 1, 0, 0], [0, 2]),
+    (6, &[0, 0x80, 0, 0, 0, 0, 0, 0, 0, 0, 0, 0, 1, 0, 0], [5, 2]),
+    (6, &[0, 0, 0, 0x80, 0, 0, 0, 0, 0, 0, 0, 0, 1, 0, 0], [5, 2]),
+    (6, &[0, 0, 0, 0, 0, 0x80, 0, 0, 0, 0, 0, 0, 1, 0, 0], [5, 2]),
+    (6, &[0, 0, 0, 0, 0, 0, 0, 0x80, 0, 0, 0, 0, 1, 0, 0], [5, 2]),
+    (6, &[0, 0, 0, 0, 0, 0, 0, 0, 0, 0, 0, 0x40, 1, 0, 0], [5, 2]),
+    (6, &[0, 0, 0, 0, 0, 0, 0, 0, 0, 0, 0, 0, 0, 0, 0], [5, 2]),
+    (6, &[0, 0, 0, 0, 0, 0, 0, 0, 0, 0, 0, 0, 1, 1, 0], [5, 2]),
+    (6, &[0, 0x80, 0, 0, 0, 0, 0, 0, 0, 0, 0, 0, 1, 0], [2, 2]),
+    // Stop: its count by bit 4 alone, then its bits, then whether it can hold
+    (7, &[], [2, 2]),
+    (7, &[0x12], [2, 2]),
+    (7, &[0x12, 0, 0, 0, 0], [5, 2]),
+    (7, &[0x0A, 0, 0, 0, 0], [2, 2]),
+    (7, &[0x06], [5, 2]),
+    (7, &[0x20], [5, 2]),
+    (7, &[0x44], [5, 2]),
+    (7, &[0x80, 0], [2, 2]),
+    (7, &[0x04], [3, 2]),
+    (7, &[0x04, 0], [2, 2]),
+    (7, &[0x10, 0, 0, 0, 0], [3, 2]),
+    (7, &[0x08], [0, 2]),
+    (11, &[], [0, 4]),
+];
+
+#[test]
+fn each_fault_has_its_cause() {
+    let mut net = servo_and_io();
+    for (code, data, causes) in FRAMES_AND_CAUSES {
+        let frame = written(0xFF, u32::from(*code), data);
+        let mut damaged = frame.clone();
+        *damaged.last_mut().unwrap() ^= 1;
+        assert_eq!(causes_after(&mut net, &damaged), [1, 1], "code {code}, data {data:02X?}, damaged");
+        assert_eq!(causes_after(&mut net, &frame), *causes, "code {code}, data {data:02X?}");
+    }
+}
+
+#[test]
+fn set_baud_sent_individually_is_unknown_whatever_its_count() {
+    let mut net = servo_and_io();
+    let counts: [(&[u8], u8); 3] = [(&[], 2), (&[0x3F], 0), (&[0x3F, 0x3F], 2)];
+    for (data, by_group) in counts {
+        assert_eq!(causes_after(&mut net, &written(0xFF, 10, data)), [by_group; 2], "{data:02X?} to the group");
+        send(&mut net, &written(1, 10, data));
+        assert_eq!(causes_after(&mut net, &written(2, 10, data)), [4, 4], "{data:02X?} to each alone");
+    }
 }
 
 #[test]

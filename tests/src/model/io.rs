@@ -1,6 +1,6 @@
 //! The I/O module, type 2 version 1.
 
-use super::station::{Device, Station, MALFORMED};
+use super::station::{unknown_code, Device, Station, WRONG_COUNT};
 use crate::branches::{reach, Branch};
 use crate::slips::Slip;
 
@@ -39,9 +39,9 @@ fn blend(mask: u16, new: u16, old: u16) -> u16 {
     (new & mask) | (old & !mask)
 }
 
-/// A command of the I/O module that was executed, or that was malformed.
+/// A command of the I/O module that was executed, or that had another count than its own: no value is out of range.
 fn command_as(code: u8, executed: bool) -> Branch {
-    let (done, malformed) = match code {
+    let (done, wrong_count) = match code {
         0 => (Branch::SetDirection, Branch::SetDirectionCount),
         4 => (Branch::SetPwm, Branch::SetPwmCount),
         5 => (Branch::SynchOutput, Branch::SynchOutputCount),
@@ -54,7 +54,7 @@ fn command_as(code: u8, executed: bool) -> Branch {
     if executed {
         done
     } else {
-        malformed
+        wrong_count
     }
 }
 
@@ -95,7 +95,8 @@ impl Io {
             (8, [mode]) => self.timer_mode = *mode,
             (12, []) => self.synch_input(slip),
             (9 | 11 | 13, _) if slip == Slip::UnknownCodeExecuted => {}
-            _ => return Err(MALFORMED),
+            (9 | 11 | 13, _) => return Err(unknown_code(slip)),
+            _ => return Err(WRONG_COUNT),
         }
         Ok(())
     }

@@ -1,7 +1,7 @@
 //! The servo, type 0 version 10. Speeds and the setpoint are in 65,536ths of a count.
 
-use super::station::{Device, Station, MALFORMED, NOT_NOW};
-use crate::branches::{all_hold, either, reach, Branch};
+use super::station::{unknown_code, Device, Station, NOT_NOW, OUT_OF_RANGE, WRONG_COUNT};
+use crate::branches::{all_hold, either, reach, uncounted, Branch};
 use crate::slips::Slip;
 
 /// Most that a velocity or an acceleration may be.
@@ -55,6 +55,43 @@ pub struct Load {
     pub reverse: bool,
 }
 
+/// What a load's data carry: a number is there where its bit is set and the data go that far.
+struct Carried {
+    control: u8,
+    position: Option<u32>,
+    velocity: Option<u32>,
+    acceleration: Option<u32>,
+    pwm: Option<u8>,
+}
+
+impl Carried {
+    fn by(control: u8, rest: &[u8]) -> Carried {
+        let bit = |bit: u8| control >> bit & 1 == 1;
+        let mut numbers = rest.chunks_exact(4).map(|four| u32::from_le_bytes(four.try_into().expect("four bytes")));
+        let mut number = |carried: bool| if carried { numbers.next() } else { None };
+        Carried {
+            control,
+            position: number(bit(0)),
+            velocity: number(bit(1)),
+            acceleration: number(bit(2)),
+            pwm: if bit(3) { rest.get(Servo::load_count(control) - 2).copied() } else { None },
+        }
+    }
+
+    fn bit(&self, bit: u8) -> bool {
+        self.control >> bit & 1 == 1
+    }
+
+    fn ranges(&self, slip: Slip) -> [(bool, Branch); 3] {
+        let (velocity, acceleration) = (self.velocity.unwrap_or(0), self.acceleration.unwrap_or(1));
+        [
+            (velocity <= SPEED_MOST || slip == Slip::VelocityOfAnySize, Branch::LoadVelocityLarge),
+            (acceleration != 0 || slip == Slip::AccelerationNone, Branch::LoadAccelerationNone),
+            (acceleration <= SPEED_MOST, Branch::LoadAccelerationLarge),
+        ]
+    }
+}
+
 #[derive(Clone, Copy, Debug, PartialEq, Eq)]
 pub enum Mode {
     Off,
@@ -104,6 +141,24 @@ fn signed(size: i64, negative: bool) -> i64 {
         -size
     } else {
         size
+    }
+}
+
+fn one_fails(conditions: &[(bool, Branch)]) -> bool {
+    conditions.iter().any(|(holds, _)| !holds)
+}
+
+/// The cause of a Stop whose bits are out of range; it may be not now besides.
+fn stop_out_of_range(control: u8, not_now: bool, slip: Slip) -> u8 {
+    if not_now {
+        reach(Branch::RangeBeforeNotNowStop);
+    }
+    let upper_bits = control >> 5 != 0;
+    match slip {
+        Slip::StopKindsAsCount if !upper_bits => WRONG_COUNT,
+        Slip::StopUpperBitsAsCount if upper_bits => WRONG_COUNT,
+        Slip::StopNotNowBeforeRange if not_now => NOT_NOW,
+        _ => OUT_OF_RANGE,
     }
 }
 
@@ -173,6 +228,11 @@ impl Servo {
         distance(self.goal, self.setpoint)
     }
 
+    /// What every start and every hold needs.
+    fn ready(&self) -> bool {
+        self.latched.power == GOOD && !self.error
+    }
+
     fn go_off(&mut self, slip: Slip) {
         self.mode = Mode::Off;
         self.speed = 0;
@@ -239,41 +299,63 @@ impl Servo {
     fn load_trajectory(&mut self, data: &[u8], slip: Slip) -> Result<(), u8> {
         let (control, rest) = data.split_first().ok_or_else(|| {
             reach(Branch::LoadEmpty);
-            MALFORMED
+            WRONG_COUNT
         })?;
-        let bit = |bit: u8| control >> bit & 1 == 1;
-        let count = Servo::load_count(*control);
-        let long = data.len() > count && slip == Slip::LoadCountIsLeast;
-        let mut numbers = rest.chunks_exact(4).map(|four| u32::from_le_bytes(four.try_into().expect("four bytes")));
-        let mut number = |carried: bool| if carried { numbers.next() } else { None };
-        let (position, velocity, acceleration) = (number(bit(0)), number(bit(1)), number(bit(2)));
-        if data.len() != count && !long {
-            either(data.len() < count, Branch::LoadShort, Branch::LoadLong);
-            if slip == Slip::ShortLoadKeepsVelocity {
-                self.velocity = velocity.filter(|velocity| *velocity <= SPEED_MOST).unwrap_or(self.velocity);
+        let carried = Carried::by(*control, rest);
+        let ranges = carried.ranges(slip);
+        let bad = one_fails(&ranges);
+        let (asked, sent) = (Servo::load_count(*control), data.len());
+        let long_taken = sent > asked && slip == Slip::LoadCountIsLeast;
+        if sent != asked && !long_taken && !(bad && slip == Slip::LoadRangeBeforeCount) {
+            let short = either(sent < asked, Branch::LoadShort, Branch::LoadLong);
+            if bad {
+                either(short, Branch::CountBeforeRangeShortLoad, Branch::CountBeforeRangeLongLoad);
             }
-            return Err(MALFORMED);
+            if carried.bit(7) && !self.ready() {
+                reach(Branch::CountBeforeNotNowLoad);
+            }
+            if slip == Slip::ShortLoadKeepsVelocity {
+                self.velocity = carried.velocity.filter(|velocity| *velocity <= SPEED_MOST).unwrap_or(self.velocity);
+            }
+            return Err(WRONG_COUNT);
         }
-        let in_range = all_hold(&[
-            (velocity.unwrap_or(0) <= SPEED_MOST || slip == Slip::VelocityOfAnySize, Branch::LoadVelocityLarge),
-            (acceleration != Some(0) || slip == Slip::AccelerationNone, Branch::LoadAccelerationNone),
-            (acceleration.unwrap_or(0) <= SPEED_MOST, Branch::LoadAccelerationLarge),
-        ]);
-        if !in_range {
-            return Err(MALFORMED);
+        if !all_hold(&ranges) {
+            return Err(self.load_out_of_range(&carried, slip));
         }
-        let pwm = if bit(3) { Some(data[count - 1]) } else { None };
-        self.take_load(*control, position, pwm, slip);
-        self.take_rates(velocity, acceleration);
-        if either(bit(7), Branch::LoadStartsNow, Branch::LoadWaits) {
+        self.take(&carried, slip);
+        if either(carried.bit(7), Branch::LoadStartsNow, Branch::LoadWaits) {
             return self.start(true, slip);
         }
         Ok(())
     }
 
+    /// The cause of a load with a number out of range; its start may be not now besides.
+    fn load_out_of_range(&self, carried: &Carried, slip: Slip) -> u8 {
+        let mut loaded = self.clone();
+        let start = uncounted(|| {
+            loaded.take(carried, slip);
+            loaded.start(true, slip)
+        });
+        let not_now = carried.bit(7) && start.is_err();
+        if not_now {
+            reach(Branch::RangeBeforeNotNowLoad);
+        }
+        match slip {
+            Slip::LoadRangeAsCount => WRONG_COUNT,
+            Slip::LoadNotNowBeforeRange if not_now => NOT_NOW,
+            _ => OUT_OF_RANGE,
+        }
+    }
+
+    fn take(&mut self, carried: &Carried, slip: Slip) {
+        self.take_load(carried, slip);
+        self.take_rates(carried);
+    }
+
     /// An executed load replaces the waiting one.
-    fn take_load(&mut self, control: u8, position: Option<u32>, pwm: Option<u8>, slip: Slip) {
-        let bit = |bit: u8| control >> bit & 1 == 1;
+    fn take_load(&mut self, carried: &Carried, slip: Slip) {
+        let Carried { position, pwm, .. } = carried;
+        let bit = |bit: u8| carried.bit(bit);
         let (way, branch) = match (bit(4), bit(5)) {
             (false, _) => (Way::Pwm, Branch::LoadOfPwm),
             (true, true) => (Way::Velocity, Branch::LoadOfVelocity),
@@ -304,14 +386,14 @@ impl Servo {
     }
 
     /// Velocity and acceleration stay for later loads, each where it was carried.
-    fn take_rates(&mut self, velocity: Option<u32>, acceleration: Option<u32>) {
-        either(velocity.is_some(), Branch::LoadHasVelocity, Branch::LoadLacksVelocity);
-        if let Some(velocity) = velocity {
+    fn take_rates(&mut self, carried: &Carried) {
+        either(carried.velocity.is_some(), Branch::LoadHasVelocity, Branch::LoadLacksVelocity);
+        if let Some(velocity) = carried.velocity {
             self.velocity = velocity;
             self.velocity_loaded = true;
         }
-        either(acceleration.is_some(), Branch::LoadHasAcceleration, Branch::LoadLacksAcceleration);
-        if let Some(acceleration) = acceleration {
+        either(carried.acceleration.is_some(), Branch::LoadHasAcceleration, Branch::LoadLacksAcceleration);
+        if let Some(acceleration) = carried.acceleration {
             self.acceleration = acceleration;
             self.acceleration_loaded = true;
         }
@@ -432,21 +514,21 @@ impl Servo {
     }
 
     fn set_gain(&mut self, data: &[u8], slip: Slip) -> Result<(), u8> {
-        let [.., ol, cl, _, _, sr, db, sm]: [u8; 15] = data.try_into().expect("fifteen bytes");
+        // bytes that are missing are none that are bad: SR 1, all else 0
+        let mut bytes = [0, 0, 0, 0, 0, 0, 0, 0, 0, 0, 0, 0, 1, 0, 0];
+        bytes[..data.len()].copy_from_slice(data);
+        let [.., ol, cl, _, _, sr, db, sm] = bytes;
         let gains = Gains {
-            kp: two(data),
-            kd: two(&data[2..]),
-            ki: two(&data[4..]),
-            il: two(&data[6..]),
+            kp: two(&bytes),
+            kd: two(&bytes[2..]),
+            ki: two(&bytes[4..]),
+            il: two(&bytes[6..]),
             ol,
             cl,
-            el: two(&data[10..]),
+            el: two(&bytes[10..]),
             sm,
         };
-        if slip == Slip::GainStoredWhileTested && gains.kp <= 32_767 {
-            self.gains.kp = gains.kp;
-        }
-        let in_range = all_hold(&[
+        let ranges = [
             (gains.kp <= 32_767, Branch::GainKp),
             (gains.kd <= 32_767, Branch::GainKd),
             (gains.ki <= 32_767, Branch::GainKi),
@@ -454,9 +536,20 @@ impl Servo {
             (gains.el <= if slip == Slip::ErrorLimitTo32767 { 32_767 } else { 16_383 }, Branch::GainEl),
             (sr == 1 || slip == Slip::ServoRateOfAnySize, Branch::GainSr),
             (db == 0, Branch::GainDb),
-        ]);
-        if !in_range {
-            return Err(MALFORMED);
+        ];
+        let bad = one_fails(&ranges);
+        if data.len() != bytes.len() && !(bad && slip == Slip::GainRangeBeforeCount) {
+            reach(Branch::SetGainCount);
+            if bad {
+                reach(Branch::CountBeforeRangeGain);
+            }
+            return Err(WRONG_COUNT);
+        }
+        if slip == Slip::GainStoredWhileTested && gains.kp <= 32_767 {
+            self.gains.kp = gains.kp;
+        }
+        if !all_hold(&ranges) {
+            return Err(if slip == Slip::GainRangeAsCount { WRONG_COUNT } else { OUT_OF_RANGE });
         }
         reach(Branch::GainsStored);
         self.gains = gains;
@@ -466,18 +559,30 @@ impl Servo {
     fn stop(&mut self, data: &[u8], slip: Slip) -> Result<(), u8> {
         let (control, rest) = data.split_first().ok_or_else(|| {
             reach(Branch::StopEmpty);
-            MALFORMED
+            WRONG_COUNT
         })?;
         let kinds = control >> 1 & 15;
-        let here = control >> 4 & 1 == 1;
-        let well_formed = all_hold(&[
+        let bit = |bit: u8| control >> bit & 1 == 1;
+        let ranges = [
             (kinds.count_ones() <= 1 || slip == Slip::StopOfTwoKinds, Branch::StopSeveral),
             (control >> 5 == 0, Branch::StopUpperBits),
-            (!here || rest.len() == 4, Branch::StopHereCount),
-            (here || rest.is_empty(), Branch::StopCount),
-        ]);
-        if !well_formed {
-            return Err(MALFORMED);
+        ];
+        let bad = one_fails(&ranges);
+        let not_now = (bit(2) || bit(4)) && !self.ready();
+        // bit 4 alone asks for a position, be the other bits good or bad
+        let wrong_count = rest.len() != if bit(4) { 4 } else { 0 };
+        if wrong_count && !(bad && slip == Slip::StopRangeBeforeCount) {
+            either(bit(4), Branch::StopHereCount, Branch::StopCount);
+            if bad {
+                either(bit(4), Branch::CountBeforeRangeStopHere, Branch::CountBeforeRangeStop);
+            }
+            if not_now {
+                reach(Branch::CountBeforeNotNowStop);
+            }
+            return Err(WRONG_COUNT);
+        }
+        if !all_hold(&ranges) {
+            return Err(stop_out_of_range(*control, not_now, slip));
         }
         self.stop_motion(kinds, rest, slip)?;
         if (kinds != 0 && slip != Slip::StopKeepsLoad) || slip == Slip::AmplifierDropsLoad {
@@ -531,6 +636,19 @@ impl Servo {
                     self.running_acceleration = self.acceleration;
                 }
             }
+        }
+    }
+
+    /// The cause of a command that has no data, but came with some; without them it may be not now.
+    fn with_data(&self, alone: impl Fn(&mut Servo) -> Result<(), u8>, hidden: Branch, slip: Slip) -> u8 {
+        let not_now = uncounted(|| alone(&mut self.clone())).is_err();
+        if not_now {
+            reach(hidden);
+        }
+        if not_now && slip == Slip::NotNowBeforeCount {
+            NOT_NOW
+        } else {
+            WRONG_COUNT
         }
     }
 
@@ -653,17 +771,6 @@ impl Servo {
     }
 }
 
-/// How a command of the servo's is malformed.
-fn malformed_as(code: u8) -> Branch {
-    match code {
-        0 => Branch::ResetPositionCount,
-        5 => Branch::StartCount,
-        6 => Branch::SetGainCount,
-        11 => Branch::ClearBitsCount,
-        _ => Branch::ServoUnknown,
-    }
-}
-
 impl Device for Servo {
     const TYPE: u8 = 0;
     const VERSION: u8 = 10;
@@ -723,7 +830,7 @@ impl Device for Servo {
             (0, 0) => self.reset_position(slip),
             (4, _) => self.load_trajectory(data, slip),
             (5, 0) => self.start(false, slip),
-            (6, 15) => self.set_gain(data, slip),
+            (6, _) => self.set_gain(data, slip),
             (7, _) => self.stop(data, slip),
             (11, 0) => {
                 reach(Branch::ClearBits);
@@ -732,10 +839,22 @@ impl Device for Servo {
                 }
                 Ok(())
             }
-            (8 | 9 | 12 | 13, _) if slip == Slip::UnknownCodeExecuted => Ok(()),
+            (0, _) => {
+                reach(Branch::ResetPositionCount);
+                Err(self.with_data(|alone| alone.reset_position(slip), Branch::CountBeforeNotNowReset, slip))
+            }
+            (5, _) => {
+                reach(Branch::StartCount);
+                Err(self.with_data(|alone| alone.start(false, slip), Branch::CountBeforeNotNowStart, slip))
+            }
+            (11, _) => {
+                reach(Branch::ClearBitsCount);
+                Err(WRONG_COUNT)
+            }
+            _ if slip == Slip::UnknownCodeExecuted => Ok(()),
             _ => {
-                reach(malformed_as(code));
-                Err(MALFORMED)
+                reach(Branch::ServoUnknown);
+                Err(unknown_code(slip))
             }
         }
     }

@@ -4,10 +4,15 @@ use super::line::{sum, Frame};
 use crate::branches::{either, reach, uncounted, Branch};
 use crate::slips::Slip;
 
+// Causes. Those that refuse are tested in the order 1, 4, 2, 5, 3: the first that applies is told.
 pub const EXECUTED: u8 = 0;
 pub const DAMAGED: u8 = 1;
-pub const MALFORMED: u8 = 2;
+pub const WRONG_COUNT: u8 = 2;
 pub const NOT_NOW: u8 = 3;
+/// An unknown code, or Set Baud sent individually.
+pub const UNKNOWN: u8 = 4;
+pub const OUT_OF_RANGE: u8 = 5;
+pub const CAUSES: usize = 6;
 
 #[derive(Clone, Debug, PartialEq, Eq)]
 pub struct Station {
@@ -59,35 +64,57 @@ pub enum Touch {
 /// A frame that is not executed leaves its cause and nothing else, but for these slips.
 fn keeps_a_part(code: u8, cause: u8, slip: Slip) -> bool {
     match slip {
-        Slip::ShortLoadKeepsVelocity => code == 4 && cause == MALFORMED,
+        Slip::ShortLoadKeepsVelocity => code == 4 && cause == WRONG_COUNT,
         Slip::RefusedStartKeepsLoad => code == 4 && cause == NOT_NOW,
-        Slip::GainStoredWhileTested => code == 6 && cause == MALFORMED,
+        Slip::GainStoredWhileTested => code == 6 && cause == OUT_OF_RANGE,
         _ => false,
     }
 }
 
-/// How a command of every type is malformed.
-fn malformed_as(code: u8, touch: Touch) -> Branch {
-    match (code, touch) {
-        (1, _) => Branch::SetAddressCount,
-        (2, _) => Branch::DefineStatusCount,
-        (3, _) => Branch::ReadStatusCount,
-        (10, Touch::ByGroup) => Branch::SetBaudCount,
-        (10, Touch::Individually) => Branch::SetBaudAlone,
-        (14, _) => Branch::NoOpCount,
+/// The cause of a code that a type does not know.
+pub fn unknown_code(slip: Slip) -> u8 {
+    if slip == Slip::UnknownCodeAsCount {
+        WRONG_COUNT
+    } else {
+        UNKNOWN
+    }
+}
+
+/// The cause of Set Baud sent individually: whatever its count, since the count is tested later.
+fn baud_alone(count: usize, slip: Slip) -> u8 {
+    either(count == 1, Branch::SetBaudAlone, Branch::UnknownBeforeBaudCount);
+    match slip {
+        Slip::BaudAloneAsCount => WRONG_COUNT,
+        Slip::BaudCountBeforeUnknown if count != 1 => WRONG_COUNT,
+        _ => UNKNOWN,
+    }
+}
+
+/// A command of every type with another count than its own.
+fn wrong_count_as(code: u8) -> Branch {
+    match code {
+        1 => Branch::SetAddressCount,
+        2 => Branch::DefineStatusCount,
+        3 => Branch::ReadStatusCount,
+        10 => Branch::SetBaudCount,
+        14 => Branch::NoOpCount,
         _ => Branch::HardResetCount,
     }
 }
 
 /// How a frame ends up with its cause, given the one that it would have undamaged.
 fn cause_as(damaged: bool, cause: u8) -> Branch {
-    match (damaged, cause) {
-        (false, EXECUTED) => Branch::Executed,
-        (false, MALFORMED) => Branch::Malformed,
-        (false, _) => Branch::NotNow,
-        (true, EXECUTED) => Branch::DamagedThoughFit,
-        (true, MALFORMED) => Branch::DamagedAndMalformed,
-        (true, _) => Branch::DamagedAndNotNow,
+    let (undamaged, hidden) = match cause {
+        EXECUTED => (Branch::Executed, Branch::DamagedThoughFit),
+        UNKNOWN => (Branch::Unknown, Branch::DamagedBeforeUnknown),
+        WRONG_COUNT => (Branch::WrongCount, Branch::DamagedBeforeCount),
+        OUT_OF_RANGE => (Branch::OutOfRange, Branch::DamagedBeforeRange),
+        _ => (Branch::NotNow, Branch::DamagedBeforeNotNow),
+    };
+    if damaged {
+        hidden
+    } else {
+        undamaged
     }
 }
 
@@ -130,7 +157,10 @@ pub trait Device: Clone {
                     self.station_mut().items = *items;
                 }
             }
-            (10, [rate]) if touch == Touch::ByGroup || slip == Slip::BaudIndividually => {
+            (10, data) if touch == Touch::Individually && slip != Slip::BaudIndividually => {
+                return Err(baud_alone(data.len(), slip));
+            }
+            (10, [rate]) => {
                 reach(Branch::SetBaud);
                 if slip != Slip::BaudNotStored {
                     self.station_mut().baud = *rate;
@@ -142,8 +172,8 @@ pub trait Device: Clone {
                 self.hard_reset(slip);
             }
             (code @ (1 | 2 | 3 | 10 | 14 | 15), _) => {
-                reach(malformed_as(code, touch));
-                return Err(MALFORMED);
+                reach(wrong_count_as(code));
+                return Err(WRONG_COUNT);
             }
             (code, data) => return self.command(code, data, slip),
         }
