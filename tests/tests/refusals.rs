@@ -241,7 +241,7 @@ fn record_with_an_addr_out_that_is_no_flag() {
 
 #[test]
 fn record_with_an_unknown_cause() {
-    in_every_slot(5, &[0, 1, 2, 3, 4, 5], &[6, 128, 255]);
+    in_every_slot(CAUSE, &[0, 1, 2, 3, 4, 5], &[6, 128, 255]);
 }
 
 #[test]
@@ -338,7 +338,7 @@ fn servo_record_with_bytes_out_of_range() {
             off.clone().one(at, value).judged(number, &format!("flag at {at} is {value}"));
         }
     }
-    for (at, most) in [(5, 3), (at::WAITING + 4, 2), (at::LATCHED + 4, 2), (at::WAY, 2), (at::MODE, 4)] {
+    for (at, most) in [(CAUSE, 5), (at::WAITING + 4, 2), (at::LATCHED + 4, 2), (at::WAY, 2), (at::MODE, 4)] {
         for value in 0..=most {
             off.clone().one(at, value).passes(&format!("byte at {at} is {value}"));
         }
@@ -691,7 +691,7 @@ fn byte_refusals_in_order() {
 fn sample_outputs_and_cause_refusals_in_order() {
     let mut good = network(2);
     let mut bad = good.clone();
-    bad[slot(0) + 5] = 4;
+    bad[slot(0) + CAUSE] = 6;
     assert_eq!(sample_call(&mut bad, 2, 4096), BAD_RECORD);
     assert_eq!(sample_call(&mut bad, 2, 0), BAD_RECORD);
     assert_eq!(sample_call(&mut bad, 0, 4096), BAD_RECORD);
@@ -705,7 +705,7 @@ fn sample_outputs_and_cause_refusals_in_order() {
 fn servo_sample_refusals_in_order() {
     let mut good = chain(&[0, 2]);
     let mut bad = good.clone();
-    bad[slot(1) + 5] = 4;
+    bad[slot(1) + CAUSE] = 6;
     for (place, power) in [(2, 3), (2, 1), (1, 3), (0, 3), (0, 1)] {
         assert_eq!(servo_sample_call(&mut bad, place, power), BAD_RECORD);
     }
