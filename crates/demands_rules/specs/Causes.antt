@@ -36,8 +36,7 @@ frameOf damaged r = record { address = 0; code = r .code; content = r .content; 
 
 abbrev pub causes : Bool → Row → ℕ × ℕ
 causes damaged r =
-    let f : Frame = frameOf damaged r in
-    (
+    let f : Frame = frameOf damaged r in (
       Servos.execute f (isAlone (r .to)) ServoState.started .station .cause,
       Inout.execute f (isAlone (r .to)) InoutState.started .station .cause,
     )
