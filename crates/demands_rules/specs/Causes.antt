@@ -31,12 +31,12 @@ abbrev pub row : ℕ → List ℕ → To → ℕ → ℕ → Row
 row code ds to servo inout = record { code = code; content = ds; to = to; servo = servo; inout = inout }
 
 -- its frame, damaged or not, and the causes that the rules give it
-abbrev pub frameOf : Bool → Row → Frame
-frameOf damaged r = record { address = 0; code = r .code; content = r .content; damaged = damaged }
+abbrev pub rowFrame : Bool → Row → Frame
+rowFrame damaged r = record { address = 0; code = r .code; content = r .content; damaged = damaged }
 
 abbrev pub causes : Bool → Row → ℕ × ℕ
 causes damaged r =
-    let f : Frame = frameOf damaged r in (
+    let f : Frame = rowFrame damaged r in (
       Servos.execute f (isAlone (r .to)) ServoState.started .station .cause,
       Inout.execute f (isAlone (r .to)) InoutState.started .station .cause,
     )
