@@ -192,34 +192,32 @@ static void call_tick(struct lent *net)
     record_after("tick", net, number);
 }
 
+/* A call that tells something of a place in so many bytes: outputs and cause are of one kind. */
+typedef uint32_t telling_call(const uint8_t *net, size_t net_len, uint32_t place, uint8_t *told);
+
+static void call_telling(const char *name, telling_call *call, size_t len, struct lent *net)
+{
+    struct lent told = lend(len);
+    remember(net);
+    remember(&told);
+    uint32_t place = PICK(0, 1, below(34), 0xFFFFFFFFu);
+    uint32_t number = call(net->bytes, net->len, place, told.bytes);
+    documented(name, number, BIT(NMC_DONE) | BIT(NMC_BAD_PLACE) | BIT(NMC_BAD_RECORD));
+    if (!unchanged_from(net, 0))
+        surprise(name, "the record changed", number);
+    if (refused(number) && !unchanged_from(&told, 0))
+        surprise(name, "refused, and what it tells changed", number);
+    give_back(&told);
+}
+
 static void call_outputs(struct lent *net)
 {
-    struct lent outputs = lend(NMC_OUTPUTS_LEN);
-    remember(net);
-    remember(&outputs);
-    uint32_t place = PICK(0, 1, below(34), 0xFFFFFFFFu);
-    uint32_t number = nmc_outputs(net->bytes, net->len, place, outputs.bytes);
-    documented("outputs", number, BIT(NMC_DONE) | BIT(NMC_BAD_PLACE) | BIT(NMC_BAD_RECORD));
-    if (!unchanged_from(net, 0))
-        surprise("outputs", "the record changed", number);
-    if (refused(number) && !unchanged_from(&outputs, 0))
-        surprise("outputs", "refused, and the outputs changed", number);
-    give_back(&outputs);
+    call_telling("outputs", nmc_outputs, NMC_OUTPUTS_LEN, net);
 }
 
 static void call_cause(struct lent *net)
 {
-    struct lent cause = lend(1);
-    remember(net);
-    remember(&cause);
-    uint32_t place = PICK(0, 1, below(34), 0xFFFFFFFFu);
-    uint32_t number = nmc_cause(net->bytes, net->len, place, cause.bytes);
-    documented("cause", number, BIT(NMC_DONE) | BIT(NMC_BAD_PLACE) | BIT(NMC_BAD_RECORD));
-    if (!unchanged_from(net, 0))
-        surprise("cause", "the record changed", number);
-    if (refused(number) && !unchanged_from(&cause, 0))
-        surprise("cause", "refused, and the cause changed", number);
-    give_back(&cause);
+    call_telling("cause", nmc_cause, 1, net);
 }
 
 static void call_setup(struct lent *net)

@@ -445,6 +445,22 @@ fn refuse(branch: Branch, number: u32) -> u32 {
     number
 }
 
+/// A call that tells something of the module at a place: refused for the record, for the place, or done.
+fn told_of(network: Option<&Network>, place: u32, branches: [Branch; 3], tell: impl FnOnce(&Module)) -> u32 {
+    let [record, beyond, done] = branches;
+    let network = match network {
+        Some(network) => network,
+        None => return refuse(record, BAD_RECORD),
+    };
+    let module = match network.modules.get(place as usize) {
+        Some(module) => module,
+        None => return refuse(beyond, BAD_PLACE),
+    };
+    reach(done);
+    tell(module);
+    DONE
+}
+
 /// The model behind the same calls as the library.
 #[derive(Clone, Copy)]
 pub struct Model {
@@ -454,32 +470,14 @@ pub struct Model {
 impl Model {
     /// What a place drives in a network that a record told of, if it passed.
     pub fn outputs_of(&self, network: Option<&Network>, place: u32, outputs: &mut [u8; 8]) -> u32 {
-        let network = match network {
-            Some(network) => network,
-            None => return refuse(Branch::OutputsRecord, BAD_RECORD),
-        };
-        let module = match network.modules.get(place as usize) {
-            Some(module) => module,
-            None => return refuse(Branch::OutputsPlace, BAD_PLACE),
-        };
-        reach(Branch::OutputsDone);
-        *outputs = module.outputs(self.slip);
-        DONE
+        let branches = [Branch::OutputsRecord, Branch::OutputsPlace, Branch::OutputsDone];
+        told_of(network, place, branches, |module| *outputs = module.outputs(self.slip))
     }
 
     /// The last cause at a place of such a network.
     pub fn cause_of(&self, network: Option<&Network>, place: u32, cause: &mut u8) -> u32 {
-        let network = match network {
-            Some(network) => network,
-            None => return refuse(Branch::CauseRecord, BAD_RECORD),
-        };
-        let module = match network.modules.get(place as usize) {
-            Some(module) => module,
-            None => return refuse(Branch::CausePlace, BAD_PLACE),
-        };
-        reach(Branch::CauseDone);
-        *cause = module.station().cause;
-        DONE
+        let branches = [Branch::CauseRecord, Branch::CausePlace, Branch::CauseDone];
+        told_of(network, place, branches, |module| *cause = module.station().cause)
     }
 }
 

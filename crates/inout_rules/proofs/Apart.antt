@@ -10,25 +10,6 @@ use Rattle.inout_rules.specs.State.{withStation}
 use Rattle.inout_rules.specs.Perform.{perform}
 use Rattle.inout_rules.specs.Answers.{inout}
 
-performs : (c : Command) (m : Io) → perform c m .station ≡ m .station
-performs (Direction d) m = refl
-performs (Pwm a b) m = refl
-performs SynchOutput m = refl
-performs (Output bits) m = refl
-performs (SynchStore bits a b) m = refl
-performs (Timer t) m = refl
-performs SynchInput m = refl
-
-pub apart : Apart inout
-apart = record {
-  put = λ s m. refl;
-  again = λ s t m. refl;
-  perform = performs;
-  renewed = λ m. refl;
-  sample = λ x m. refl;
-  tick = λ m. refl;
-}
-
 performs-blind : (c : Command) (s : Station) (m : Io) → perform c (withStation s m) ≡ withStation s (perform c m)
 performs-blind (Direction d) s m = refl
 performs-blind (Pwm a b) s m = refl
@@ -37,6 +18,16 @@ performs-blind (Output bits) s m = refl
 performs-blind (SynchStore bits a b) s m = refl
 performs-blind (Timer t) s m = refl
 performs-blind SynchInput s m = refl
+
+pub apart : Apart inout
+apart = record {
+  put = λ s m. refl;
+  again = λ s t m. refl;
+  perform = λ c m. ap (λ (n : Io). n .station) (performs-blind c (m .station) m);
+  renewed = λ m. refl;
+  sample = λ x m. refl;
+  tick = λ m. refl;
+}
 
 pub unseen : Unseen inout
 unseen = record {

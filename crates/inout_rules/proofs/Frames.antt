@@ -22,7 +22,7 @@ use Rattle.inout_rules.specs.Asks.{own}
 use Rattle.inout_rules.specs.State.{noSample}
 use Rattle.inout_rules.specs.Answers.{inout, execute}
 use Rattle.inout_rules.specs.Promises.{Put}
-use Rattle.inout_rules.specs.FramePromises.{Codes, Counted, Unknown, FromBytes, PutOut, Obeys, Items, Zero, PowersUp}
+use Rattle.inout_rules.specs.FramePromises.{Codes, Counts, Unknown, FromBytes, PutOut, Obeys, Items, Zero, PowersUp}
 use Rattle.inout_rules.proofs.Apart.{apart}
 use Rattle.inout_rules.proofs.Bits.{first, inputs-keep}
 
@@ -45,16 +45,16 @@ codes to alone = record {
   hardReset = refl;
 }
 
-pub counted : Counted
+pub counts : Counts
 unfolding Any.request asked own
-counted alone = record {
-  direction = λ to ds m n. Every.unread inout apart Count to 0 ds alone m (rw (ne-eqb (length ds) 2 n));
-  pwm = λ to ds m n. Every.unread inout apart Count to 4 ds alone m (rw (ne-eqb (length ds) 2 n));
-  synchOutput = λ to ds m n. Every.unread inout apart Count to 5 ds alone m (rw (ne-eqb (length ds) 0 n));
-  output = λ to ds m n. Every.unread inout apart Count to 6 ds alone m (rw (ne-eqb (length ds) 2 n));
-  synchStore = λ to ds m n. Every.unread inout apart Count to 7 ds alone m (rw (ne-eqb (length ds) 4 n));
-  timer = λ to ds m n. Every.unread inout apart Count to 8 ds alone m (rw (ne-eqb (length ds) 1 n));
-  synchInput = λ to ds m n. Every.unread inout apart Count to 12 ds alone m (rw (ne-eqb (length ds) 0 n));
+counts = record {
+  direction = λ alone to ds m n. Every.unread inout apart Count to 0 ds alone m (rw (ne-eqb (length ds) 2 n));
+  pwm = λ alone to ds m n. Every.unread inout apart Count to 4 ds alone m (rw (ne-eqb (length ds) 2 n));
+  synchOutput = λ alone to ds m n. Every.unread inout apart Count to 5 ds alone m (rw (ne-eqb (length ds) 0 n));
+  output = λ alone to ds m n. Every.unread inout apart Count to 6 ds alone m (rw (ne-eqb (length ds) 2 n));
+  synchStore = λ alone to ds m n. Every.unread inout apart Count to 7 ds alone m (rw (ne-eqb (length ds) 4 n));
+  timer = λ alone to ds m n. Every.unread inout apart Count to 8 ds alone m (rw (ne-eqb (length ds) 1 n));
+  synchInput = λ alone to ds m n. Every.unread inout apart Count to 12 ds alone m (rw (ne-eqb (length ds) 0 n));
 }
 
 pub unknown : Unknown

@@ -46,17 +46,14 @@ abbrev pub Codes : Type 0
 Codes = (to : ℕ) (alone : Bool) → Asks to alone
 
 -- 01 I/O module: how many data bytes each of its own codes takes; any other number of them is a wrong count.
-pub record Counts (alone : Bool) : Type 0 where
-  pub direction : Takes inout 0 2 alone
-  pub pwm : Takes inout 4 2 alone
-  pub synchOutput : Takes inout 5 0 alone
-  pub output : Takes inout 6 2 alone
-  pub synchStore : Takes inout 7 4 alone
-  pub timer : Takes inout 8 1 alone
-  pub synchInput : Takes inout 12 0 alone
-
-abbrev pub Counted : Type 0
-Counted = (alone : Bool) → Counts alone
+pub record Counts : Type 0 where
+  pub direction : Takes inout 0 2
+  pub pwm : Takes inout 4 2
+  pub synchOutput : Takes inout 5 0
+  pub output : Takes inout 6 2
+  pub synchStore : Takes inout 7 4
+  pub timer : Takes inout 8 1
+  pub synchInput : Takes inout 12 0
 
 -- 02 P1: any other code than these thirteen is unknown, with any data.
 abbrev pub Unknown : Type 0

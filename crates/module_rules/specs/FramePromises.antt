@@ -102,16 +102,19 @@ module _ {M S C : Type 0} (T : Rules M S C) where
   abbrev pub Stored : Type 0
   Stored = (to : ℕ) (alone : Bool) (m : M) → Stores to alone m
 
-  -- an undamaged frame of this code with any other number of data bytes gives the cause of a wrong count
-  abbrev pub Takes : ℕ → ℕ → Bool → Type 0
-  Takes code n alone =
+  -- an undamaged frame of this code with any other number of data bytes gives the cause of a wrong count: sent so, or either way
+  abbrev pub TakesSent : Bool → ℕ → ℕ → Type 0
+  TakesSent alone code n =
       (to : ℕ) (ds : List ℕ) (m : M) → (length ds ≡ n → ⊥) → Becomes m (execute T (undamaged to code ds) alone m) (caused 2 (T .station m))
+
+  abbrev pub Takes : ℕ → ℕ → Type 0
+  Takes code n = (alone : Bool) → TakesSent alone code n
 
   -- 01 Commands of both types: how many data bytes each takes.
   pub record Counts : Type 0 where
-    pub setAddress : (alone : Bool) → Takes 1 2 alone
-    pub defineStatus : (alone : Bool) → Takes 2 1 alone
-    pub readStatus : (alone : Bool) → Takes 3 1 alone
-    pub setBaud : Takes 10 1 false
-    pub noOp : (alone : Bool) → Takes 14 0 alone
-    pub hardReset : (alone : Bool) → Takes 15 0 alone
+    pub setAddress : Takes 1 2
+    pub defineStatus : Takes 2 1
+    pub readStatus : Takes 3 1
+    pub setBaud : TakesSent false 10 1
+    pub noOp : Takes 14 0
+    pub hardReset : Takes 15 0

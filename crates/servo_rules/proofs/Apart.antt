@@ -17,27 +17,6 @@ use Rattle.servo_rules.specs.Loads.{loaded, startsNow, movable, complete
 use Rattle.servo_rules.specs.Perform.{resetPosition, stopped, canHalt, can, perform}
 use Rattle.servo_rules.specs.Tick.{ticked}
 use Rattle.servo_rules.specs.Answers.{done, bitAt, statusOf, numbersOf, outputsFrom, servo}
-use Rattle.servo_rules.proofs.Keeping.{either}
-
-order-apart : (c : Order) (m : Servo) → perform c m .station ≡ m .station
-unfolding resetPosition loaded start stopped
-order-apart ResetPosition m = refl
-order-apart (LoadTrajectory c) m = either (λ (n : Servo). n .station ≡ m .station) (startsNow c) (start (loaded c m)) (loaded c m) refl refl
-order-apart Start m = refl
-order-apart (SetGain t) m = refl
-order-apart (Stop a h x) m = refl
-order-apart ClearBits m = refl
-
-pub apart : Apart servo
-unfolding ticked
-apart = record {
-  put = λ s m. refl;
-  again = λ s t m. refl;
-  perform = order-apart;
-  renewed = λ m. refl;
-  sample = λ x m. refl;
-  tick = λ m. refl;
-}
 
 complete-blind : (w : Way) (s : Station) (m : Servo) → completeBy w (withStation s m) ≡ completeBy w m
 unfolding movable
@@ -79,6 +58,17 @@ order-blind Start s m = refl
 order-blind (SetGain t) s m = refl
 order-blind (Stop a h x) s m = refl
 order-blind ClearBits s m = refl
+
+pub apart : Apart servo
+unfolding ticked
+apart = record {
+  put = λ s m. refl;
+  again = λ s t m. refl;
+  perform = λ c m. ap (λ (n : Servo). n .station) (order-blind c (m .station) m);
+  renewed = λ m. refl;
+  sample = λ x m. refl;
+  tick = λ m. refl;
+}
 
 pub unseen : Unseen servo
 unfolding ticked statusOf numbersOf outputsFrom
