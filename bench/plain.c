@@ -221,8 +221,8 @@ static void tick_servo(struct plain_servo *s)
     s->last_position = position(s);
     s->latched = s->waiting;
     if (s->latched.power == POWER_LOW) {
+        /* the amplifier bit stays, so the enable line comes back with power */
         idle_servo(s, PLAIN_OFF, 0);
-        s->amplifier = 0;
     } else if (s->mode == PLAIN_PWM) {
         s->output = s->latched.power == POWER_GOOD ? (int32_t)held(s->pwm, s->gains.ol) : 0;
     } else if (s->mode != PLAIN_OFF) {

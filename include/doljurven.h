@@ -24,9 +24,9 @@ extern "C" {
 #endif
 
 /* Each landing raises it and says in CHANGELOG.md what is new. */
-#define NMC_VERSION "1.5.0"
+#define NMC_VERSION "1.6.0"
 #define NMC_VERSION_MAJOR 1
-#define NMC_VERSION_MINOR 5
+#define NMC_VERSION_MINOR 6
 #define NMC_VERSION_PATCH 0
 
 #define NMC_MOST_MODULES 32u  /* in one chain */
@@ -111,8 +111,11 @@ uint32_t nmc_tick(uint8_t *net, size_t net_len);
 /*
  * What the board is to drive for a module, in NMC_OUTPUTS_LEN bytes. Servo:
  * size of the motor output (0 to 255), 1 if it is negative, enable line, then
- * five of 0. I/O: directions of bits 1 to 8 and 9 to 12 (1 is input), output
- * register of the same, PWM 1, PWM 2, 0, 0.
+ * five of 0. The enable line is the amplifier bit, which Stop sets or clears
+ * and Hard Reset clears, while power is good: it drops in a power dip and comes
+ * back with power, but the servo stays off until it is started anew. I/O:
+ * directions of bits 1 to 8 and 9 to 12 (1 is input), output register of the
+ * same, PWM 1, PWM 2, 0, 0.
  */
 uint32_t nmc_outputs(const uint8_t *net, size_t net_len, uint32_t place, uint8_t *outputs);
 

@@ -278,8 +278,13 @@ branches! {
         StopKeepsLoad: "Stop with bit 0 alone keeps a waiting load",
         StopSetsAmplifier: "Stop sets the amplifier bit",
         StopClearsAmplifier: "Stop clears the amplifier bit",
+        StopSetsAmplifierAtLow: "Stop sets the amplifier bit at power 0",
+        StopClearsAmplifierAtLow: "Stop clears the amplifier bit at power 0",
         // the servo: tick
         TickPowerLow: "tick at power 0",
+        TickPowerLowAmplifier: "tick at power 0 with the amplifier bit set",
+        EnableBackFromLow: "the enable line is high again: power 1 after power 0",
+        EnableBackFromHigh: "the enable line is high again: power 1 after power 2",
         TickOff: "tick in off",
         TickPwm: "tick in PWM",
         TickPwmHeld: "tick in PWM beyond OL",

@@ -1,4 +1,5 @@
-//! Captures as text. A capture's `.txt` says both the bytes of its `.nmc` and what replaying them prints, its `.out`:
+//! Captures as text. A capture's `.txt` says both the bytes of its `.nmc` and what replaying them prints, its `.out`. It
+//! may say besides what a module drives, which no replay prints:
 //!
 //! ```text
 //! module 2 2                       types, place 0 first (kind 0)
@@ -8,16 +9,29 @@
 //! tick                             (kind 4)
 //! raw 01 00                        bytes as they stand, for what is cut or impossible
 //! > 0 00 00                        a line that is printed here
+//! drives 0 32 00 01 00 00 00 00 00 place, then the eight bytes of what it drives here in hex
 //! ```
 //!
 //! A `#` begins a comment.
 
+use crate::calls::*;
+use crate::model::{Event, Record};
 use std::fs;
 use std::path::{Path, PathBuf};
 
 pub struct Capture {
     pub bytes: Vec<u8>,
     pub printed: String,
+    pub drives: Vec<Drives>,
+}
+
+/// What a line of the text says of a place, once the records before it have been played.
+pub struct Drives {
+    line: usize,
+    /// Bytes of those records.
+    played: usize,
+    place: u8,
+    outputs: [u8; 8],
 }
 
 fn hex(word: &str) -> Result<u32, String> {
@@ -69,18 +83,127 @@ fn records(line: &str) -> Result<Vec<u8>, String> {
     Ok(bytes)
 }
 
+fn place_and_outputs(said: &str) -> Result<(u8, [u8; 8]), String> {
+    let words: Vec<&str> = said.split_whitespace().collect();
+    if words.len() != 9 {
+        return Err(format!("\"{said}\" is no place with eight bytes"));
+    }
+    let mut outputs = [0; 8];
+    for (output, word) in outputs.iter_mut().zip(&words[1..]) {
+        *output = hex_byte(word)?;
+    }
+    Ok((decimal_byte(words[0])?, outputs))
+}
+
 pub fn parse(text: &str) -> Result<Capture, String> {
-    let mut capture = Capture { bytes: Vec::new(), printed: String::new() };
+    let mut capture = Capture { bytes: Vec::new(), printed: String::new(), drives: Vec::new() };
     for (number, line) in text.lines().enumerate() {
+        let number = number + 1;
         let line = line.split('#').next().unwrap_or("").trim();
+        let in_line = |told| format!("line {number}: {told}");
         if let Some(printed) = line.strip_prefix('>') {
             capture.printed.push_str(printed.trim());
             capture.printed.push('\n');
+        } else if let Some(said) = line.strip_prefix("drives") {
+            let (place, outputs) = place_and_outputs(said.trim()).map_err(in_line)?;
+            capture.drives.push(Drives { line: number, played: capture.bytes.len(), place, outputs });
         } else if !line.is_empty() {
-            capture.bytes.extend(records(line).map_err(|told| format!("line {}: {told}", number + 1))?);
+            capture.bytes.extend(records(line).map_err(in_line)?);
         }
     }
     Ok(capture)
+}
+
+impl Capture {
+    /// Plays the records by these calls, and tells each line of the text by which a module drives something else.
+    pub fn driven_otherwise(&self, calls: &dyn Calls) -> Vec<String> {
+        let mut board = Board { calls, types: Vec::new(), net: Vec::new() };
+        let mut otherwise = Vec::new();
+        let mut played = 0;
+        for Drives { line, played: until, place, outputs } in &self.drives {
+            let found = board.play(&self.bytes[played..*until]).and_then(|()| board.drives(*place));
+            played = *until;
+            match found {
+                Some(found) if found == *outputs => {}
+                Some(found) => {
+                    let [said, found] =
+                        [*outputs, found].map(|bytes| bytes.map(|byte| format!("{byte:02X}")).join(" "));
+                    otherwise.push(format!("line {line}: the text says {said}, driven is {found}"));
+                }
+                None => {
+                    otherwise.push(format!("line {line}: place {place} is not there, or a record cannot be played"));
+                    break;
+                }
+            }
+        }
+        otherwise
+    }
+}
+
+/// A network behind the calls, on which records are played.
+struct Board<'a> {
+    calls: &'a dyn Calls,
+    types: Vec<u8>,
+    /// Empty until all modules are known.
+    net: Vec<u8>,
+}
+
+impl Board<'_> {
+    fn set_up(&mut self) -> Option<()> {
+        if self.net.is_empty() {
+            self.net = vec![0; NET_LEN];
+            return done(self.calls.setup(&mut self.net, &self.types));
+        }
+        Some(())
+    }
+
+    /// Nothing where a record is bad.
+    fn play(&mut self, mut records: &[u8]) -> Option<()> {
+        while !records.is_empty() {
+            let (record, length) = Record::first(records)?;
+            match record {
+                Record::Module(_) if !self.net.is_empty() => return None,
+                Record::Module(module_type) => self.types.push(module_type),
+                Record::Event(event) => {
+                    self.set_up()?;
+                    done(self.bring_about(event))?;
+                }
+            }
+            records = &records[length..];
+        }
+        Some(())
+    }
+
+    fn bring_about(&mut self, event: Event) -> u32 {
+        match event {
+            Event::LineByte { mark, byte } => {
+                self.calls.byte(&mut self.net, mark.into(), byte, &mut [0; ROOM_LEN], &mut 0)
+            }
+            Event::ServoSample { place, power, ad, raw } => {
+                self.calls.servo_sample(&mut self.net, place.into(), raw, power.into(), ad)
+            }
+            Event::IoSample { place, inputs, ad, counter } => {
+                self.calls.io_sample(&mut self.net, place.into(), inputs.into(), ad, counter)
+            }
+            Event::Tick => self.calls.tick(&mut self.net),
+        }
+    }
+
+    fn drives(&mut self, place: u8) -> Option<[u8; 8]> {
+        self.set_up()?;
+        let mut outputs = [0xEE; 8];
+        done(self.calls.outputs(&self.net, place.into(), &mut outputs))?;
+        Some(outputs)
+    }
+}
+
+/// Nothing where the number tells of a refusal.
+fn done(number: u32) -> Option<()> {
+    if number <= DAMAGED {
+        Some(())
+    } else {
+        None
+    }
 }
 
 pub fn folder() -> PathBuf {

@@ -16,7 +16,7 @@ pub use host::{frame_bytes, item_sizes, read_status, Reading};
 pub use io::{Io, IoSample, BITS};
 pub use line::{sum, Frame, Receiver, HEADER};
 pub use network::{Ended, Module, Network};
-pub use replay::replay;
+pub use replay::{replay, Event, Record};
 pub use servo::{
     distance, greatest_speed, is_half_turn, stopping_sum, Gains, Load, Mode, Servo, ServoSample, Way, SPEED_MOST,
 };

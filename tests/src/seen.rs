@@ -182,6 +182,7 @@ impl Seen {
                 ("trip", after.error),
                 ("power lost", power == 0),
                 ("power lost with a load waiting", power == 0 && before.load.waits),
+                ("power lost with the amplifier on", power == 0 && before.amplifier),
                 ("power high", power == 2),
                 ("driven again after high power", before.latched.power == 2 && after.output != 0),
                 ("arrived", trapezoid && before.distance() != 0 && after.distance() == 0),

@@ -93,6 +93,7 @@ slips! {
     ResetKeepsPosition: "Hard Reset leaves the position",
     ResetToWaitingRaw: "Hard Reset takes the waiting raw count for 0",
     ResetClearsErrorBit: "Hard Reset leaves the error bit clear",
+    ResetKeepsAmplifier: "Hard Reset leaves the amplifier bit",
     ClearBitsNeedsServo: "Clear Bits leaves the error bit while the servo is off",
     // the servo: loads
     LoadCountIsLeast: "a load may have more data than its control byte asks",
@@ -132,6 +133,7 @@ slips! {
     StopKeepsLoad: "Stop keeps a waiting load",
     AmplifierDropsLoad: "Stop with bit 0 alone drops a waiting load",
     StopNeverDisables: "Stop sets the amplifier bit, but never clears it",
+    AmplifierNeedsPower: "Stop sets the amplifier bit only while power is good",
     // the servo: profile
     LaterVelocityUsed: "a running trapezoid takes the velocity of a later load",
     VelocityPassesGoal: "velocity mode passes its goal",
@@ -155,9 +157,11 @@ slips! {
     OutputTo255: "the filter's output is held to 255, not to OL",
     PwmUnlimited: "PWM is not held to OL",
     OffKeepsOutput: "going off leaves the output until the tick",
-    LowPowerKeepsAmplifier: "power 0 leaves the amplifier bit",
+    LowPowerClearsAmplifier: "power 0 clears the amplifier bit",
+    LowPowerLeavesServoOn: "power 0 puts the output to 0, but leaves servo and PWM on",
     LowPowerDropsLoad: "power 0 drops a waiting load",
     HighPowerGoesOff: "power 2 turns the servo off",
+    HighPowerClearsAmplifier: "power 2 clears the amplifier bit",
     HighPowerSkipsFilter: "power 2 stops the filter",
     HighPowerDrives: "power 2 leaves the output",
     EnabledAtAnyPower: "the enable line does not look at power",

@@ -281,6 +281,10 @@ pub fn servo_command(dice: &mut Dice, servo: &Servo) -> (u8, Vec<u8>) {
     if dice.percent(4) {
         return faulty_command(dice, servo);
     }
+    // in a dip, often a Stop that decides what the enable line is after it
+    if servo.amplifier && servo.latched.power != 1 && dice.percent(15) {
+        return (7, vec![dice.pick(&[0, 1, 2, 8])]);
+    }
     let code = dice.pick(SERVO_CODES);
     let data = match code {
         4 => {

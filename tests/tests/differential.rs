@@ -55,6 +55,8 @@ fn branches_are_reached() {
     often_reached(Branch::Executed, Branch::RangeBeforeNotNowStop);
     // each start condition decides alone, by Start and by start now
     often_reached(Branch::StartNothingWaits, Branch::NowHalfTurnFromOff);
+    // the amplifier bit through a dip
+    often_reached(Branch::StopSetsAmplifierAtLow, Branch::EnableBackFromHigh);
 }
 
 /// Branches that stand together in the table, from one to another.

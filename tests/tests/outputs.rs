@@ -101,6 +101,15 @@ impl Servo {
         self.does(4, &data);
     }
 
+    /// Hard Reset, which draws no reply.
+    fn resets(&mut self) {
+        let (mut room, mut written) = ([0; ROOM_LEN], 9);
+        for byte in frame_bytes(0, 15, &[]) {
+            Library.byte(&mut self.net, 0, byte, &mut room, &mut written);
+        }
+        assert_eq!(written, 0);
+    }
+
     fn pwm(&mut self, value: i32) {
         let reverse = if value < 0 { 0x40 } else { 0 };
         self.does(4, &[0x88 | reverse, value.unsigned_abs() as u8]);
@@ -129,6 +138,13 @@ impl Servo {
         self.measures(-error, 1);
         self.tick();
         self.output()
+    }
+
+    /// A tick with the motor at 0; gives what is driven.
+    fn at_power(&mut self, power: u32) -> (i32, bool) {
+        self.measures(0, power);
+        self.tick();
+        self.drives()
     }
 
     fn number(&self, at: usize) -> i32 {
@@ -408,11 +424,8 @@ fn hard_reset_drives_nothing() {
     servo.does(7, &[0x01]);
     servo.tick();
     assert_eq!(servo.drives(), (50, true));
-    let (mut room, mut written) = ([0; ROOM_LEN], 9);
-    for byte in frame_bytes(0, 15, &[]) {
-        Library.byte(&mut servo.net, 0, byte, &mut room, &mut written);
-    }
-    assert_eq!((servo.drives(), written), ((0, false), 0));
+    servo.resets();
+    assert_eq!(servo.drives(), (0, false));
     servo.tick();
     assert_eq!(servo.drives(), (0, false));
 }
@@ -449,7 +462,7 @@ fn high_power_drives_nothing_and_all_else_runs() {
 }
 
 #[test]
-fn low_power_turns_off_and_drops_the_amplifier() {
+fn low_power_turns_off_and_leaves_the_amplifier_bit() {
     let mut servo = Servo::ready(Gains { kp: 256, ..NO_GAINS });
     servo.does(7, &[0x01]);
     servo.pwm(50);
@@ -459,9 +472,11 @@ fn low_power_turns_off_and_drops_the_amplifier() {
     assert_eq!(servo.drives(), (50, true), "a sample waits");
     servo.tick();
     assert_eq!(servo.drives(), (0, false));
+    assert_eq!(servo.net[slot(0) + at::AMPLIFIER], 1);
     servo.measures(0, 1);
+    assert_eq!(servo.drives(), (0, false), "the latched power counts");
     servo.tick();
-    assert_eq!(servo.drives(), (0, false), "neither comes back with power");
+    assert_eq!(servo.drives(), (0, true), "the line comes back with power, PWM does not");
     assert_eq!(servo.sends(14, &[]), 0x09, "and no error bit");
 }
 
@@ -482,13 +497,177 @@ fn enable_line_is_amplifier_bit_and_good_power() {
     assert!(servo.enabled(), "every Stop sets or clears it");
     servo.refuses(7, &[0x04]);
     assert!(servo.enabled(), "but not one that is not executed");
+    servo.does(7, &[0x00]);
     servo.measures(0, 0);
     servo.tick();
     servo.does(7, &[0x01]);
+    assert!(!servo.enabled(), "set at power 0");
     servo.tick();
+    assert!(!servo.enabled(), "still without power");
     servo.measures(0, 1);
     servo.tick();
-    assert!(!servo.enabled(), "each tick at power 0 clears the bit");
+    assert!(servo.enabled(), "the bit has outlasted a tick at power 0");
+}
+
+// ---------------------------------------------------------------- dips
+
+/// What a servo does when a dip comes.
+#[derive(Clone, Copy, Debug, PartialEq)]
+enum Doing {
+    Nothing,
+    Pwm,
+    Holding,
+    Velocity,
+    Trapezoid,
+}
+
+const ALL_DOINGS: [Doing; 5] = [Doing::Nothing, Doing::Pwm, Doing::Holding, Doing::Velocity, Doing::Trapezoid];
+
+impl Doing {
+    fn begun(self, amplifier: bool) -> Servo {
+        let mut servo = Servo::ready(Gains { kp: 256, ..NO_GAINS });
+        match self {
+            Doing::Nothing => {}
+            Doing::Pwm => servo.pwm(-50),
+            Doing::Holding => servo.stop_here(9),
+            Doing::Velocity => servo.loads(0xB6, &[4 * ONE, 4 * ONE]),
+            Doing::Trapezoid => servo.loads(0x97, &[1000, 4 * ONE, 4 * ONE]),
+        }
+        servo.does(7, &[u8::from(amplifier)]);
+        servo
+    }
+
+    /// What it drives after so many ticks, the motor at 0 throughout.
+    fn output(self, ticks: usize) -> i32 {
+        match self {
+            Doing::Nothing => 0,
+            Doing::Pwm => -50,
+            Doing::Holding => 9,
+            Doing::Velocity | Doing::Trapezoid => 4 * ticks as i32,
+        }
+    }
+}
+
+/// Powers between one tick at power 1 and the next.
+const DIPS: [&[u32]; 9] = [&[0], &[2], &[0, 0], &[2, 2], &[0, 2], &[2, 0], &[0, 2, 0], &[0; 40], &[2; 40]];
+
+/// Every dip, whatever the servo does, with the amplifier bit set and clear.
+fn for_every_dip(check: impl Fn(Doing, bool, &[u32])) {
+    for doing in ALL_DOINGS {
+        for amplifier in [false, true] {
+            for dip in DIPS {
+                check(doing, amplifier, dip);
+            }
+        }
+    }
+}
+
+#[test]
+fn enable_line_after_a_dip_is_what_it_was_before() {
+    for_every_dip(|doing, amplifier, dip| {
+        let told = format!("{doing:?}, amplifier {amplifier}, dip {dip:?}");
+        let mut servo = doing.begun(amplifier);
+        assert_eq!(servo.at_power(1), (doing.output(1), amplifier), "{told}: before");
+        for power in dip {
+            assert_eq!(servo.at_power(*power), (0, false), "{told}: in it");
+        }
+        for _ in 0..5 {
+            assert_eq!(servo.at_power(1).1, amplifier, "{told}: after");
+        }
+    });
+}
+
+#[test]
+fn dip_with_low_power_turns_off_until_a_start() {
+    for_every_dip(|doing, amplifier, dip| {
+        let told = format!("{doing:?}, amplifier {amplifier}, dip {dip:?}");
+        let mut servo = doing.begun(amplifier);
+        servo.at_power(1);
+        for power in dip {
+            servo.at_power(*power);
+        }
+        let runs = !dip.contains(&0) && doing != Doing::Nothing;
+        for ticks in 2..7 {
+            let output = if runs { doing.output(ticks + dip.len()) } else { 0 };
+            assert_eq!(servo.at_power(1).0, output, "{told}");
+            let moves = runs && matches!(doing, Doing::Velocity | Doing::Trapezoid);
+            assert_eq!(servo.number(at::SPEED), if moves { 4 * ONE } else { 0 }, "{told}");
+            assert_eq!(servo.net[slot(0) + at::MODE] != 0, runs, "{told}");
+        }
+        if !runs {
+            assert_eq!(servo.sends(14, &[]), 0x09, "{told}");
+            servo.refuses(5, &[]);
+            servo.loads(0xB6, &[3 * ONE, 3 * ONE]);
+            assert_eq!(servo.at_power(1), (3, amplifier), "{told}: started anew");
+            assert_eq!(servo.at_power(1), (6, amplifier), "{told}: started anew");
+        }
+    });
+}
+
+#[test]
+fn waiting_load_survives_a_dip_and_start_starts_it() {
+    let pwm = &[0x08, 70][..];
+    let velocity = &[0x36, 0, 0, 2, 0, 0, 0, 2, 0][..];
+    let trapezoid = &[0x17, 50, 0, 0, 0, 0, 0, 2, 0, 0, 0, 2, 0][..];
+    for dip in DIPS {
+        for (load, output) in [(pwm, 70), (velocity, 2), (trapezoid, 2)] {
+            let mut servo = Servo::ready(Gains { kp: 256, ..NO_GAINS });
+            servo.does(7, &[0x01]);
+            servo.does(4, load);
+            for power in dip {
+                assert_eq!(servo.at_power(*power), (0, false), "{dip:?}");
+            }
+            for _ in 0..3 {
+                assert_eq!(servo.at_power(1), (0, true), "{dip:?}: a load that waits moves nothing");
+            }
+            servo.does(5, &[]);
+            assert_eq!(servo.at_power(1), (output, true), "{dip:?}");
+            servo.refuses(5, &[]);
+        }
+    }
+}
+
+/// The enable line after a dip to this power in which a frame came.
+fn enabled_after(amplifier: bool, power: u32, frame: impl Fn(&mut Servo)) -> bool {
+    let mut servo = Doing::Pwm.begun(amplifier);
+    assert_eq!(servo.at_power(1), (-50, amplifier));
+    servo.at_power(power);
+    frame(&mut servo);
+    assert!(!servo.enabled(), "no power, no line");
+    assert_eq!(servo.at_power(power), (0, false));
+    let (_, enabled) = servo.at_power(1);
+    assert_eq!(servo.at_power(1).1, enabled, "and stays so");
+    enabled
+}
+
+#[test]
+fn last_stop_in_a_dip_counts_after_it() {
+    for power in [0, 2] {
+        for amplifier in [false, true] {
+            for control in [0x00, 0x01, 0x02, 0x03, 0x08, 0x09] {
+                let enabled = enabled_after(amplifier, power, |servo| servo.does(7, &[control]));
+                assert_eq!(enabled, control & 1 == 1, "power {power}, Stop {control:02X}");
+            }
+            for control in [0x04, 0x05] {
+                let enabled = enabled_after(amplifier, power, |servo| servo.refuses(7, &[control]));
+                assert_eq!(enabled, amplifier, "power {power}, Stop {control:02X}, which is not executed");
+            }
+            let enabled = enabled_after(amplifier, power, |servo| {
+                servo.does(7, &[0x01]);
+                servo.does(7, &[0x00]);
+            });
+            assert!(!enabled, "power {power}: on, then off");
+        }
+    }
+}
+
+#[test]
+fn hard_reset_in_a_dip_clears_the_amplifier_bit() {
+    for power in [0, 2] {
+        for amplifier in [false, true] {
+            assert!(!enabled_after(amplifier, power, Servo::resets), "power {power}");
+        }
+    }
 }
 
 // ---------------------------------------------------------------- profiles

@@ -1,9 +1,13 @@
 //! The replay program, the captures that ship with the project, and the model's replay.
 
 use doljurven_tests::branches::{self, REPLAY};
+use doljurven_tests::calls::Calls;
+use doljurven_tests::capi::Library;
 use doljurven_tests::captures::{self, Capture};
 use doljurven_tests::dice::Dice;
 use doljurven_tests::model::{self, frame_bytes};
+use doljurven_tests::record::Model;
+use doljurven_tests::slips::Slip;
 use std::ffi::OsString;
 use std::io::Write;
 use std::path::{Path, PathBuf};
@@ -80,6 +84,74 @@ fn model_prints_what_the_captures_expect() {
         assert_eq!(model::replay(&capture.bytes), capture.printed, "{}", path.display());
     }
     assert!(branches::unreached(REPLAY).is_empty(), "no capture comes to {:?}", branches::unreached(REPLAY));
+}
+
+/// Those who play captures by the calls.
+const PLAYERS: [(&str, &dyn Calls); 2] = [("library", &Library), ("model", &Model { slip: Slip::None })];
+
+#[test]
+fn library_and_model_drive_what_the_captures_say() {
+    let mut lines = 0;
+    for (path, capture) in all_captures() {
+        lines += capture.drives.len();
+        for (name, calls) in PLAYERS {
+            let told = capture.driven_otherwise(calls);
+            assert!(told.is_empty(), "{}, {name}:\n{}", path.display(), told.join("\n"));
+        }
+    }
+    assert!(lines >= 40, "only {lines} lines of all captures say what is driven");
+}
+
+#[test]
+fn lines_that_say_something_else_than_is_driven_are_told() {
+    let texts = [
+        ("module 0\ndrives 0 00 00 00 00 00 00 00 00", vec![]),
+        ("module 2\ndrives 0 FF 0F 00 00 00 00 00 00\ntick\ndrives 0 FF 0F 00 00 00 00 00 00", vec![]),
+        (
+            "module 0 2\ndrives 0 00 00 01 00 00 00 00 00\ndrives 1 FF 0F 00 00 00 00 00 00\ndrives 1 FF 0F 00 00 00 00 00 80",
+            vec![
+                "line 2: the text says 00 00 01 00 00 00 00 00, driven is 00 00 00 00 00 00 00 00",
+                "line 4: the text says FF 0F 00 00 00 00 00 80, driven is FF 0F 00 00 00 00 00 00",
+            ],
+        ),
+        ("drives 0 00 00 00 00 00 00 00 00", vec!["line 1: place 0 is not there, or a record cannot be played"]),
+        (
+            "module 0\ndrives 1 00 00 00 00 00 00 00 00",
+            vec!["line 2: place 1 is not there, or a record cannot be played"],
+        ),
+        (
+            "module 0\nservo 0 3 00 00000000 # refused\n> bad 2\ndrives 0 00 00 00 00 00 00 00 00",
+            vec!["line 4: place 0 is not there, or a record cannot be played"],
+        ),
+        (
+            "module 0\ntick\nmodule 0 # late\n> bad 3\ndrives 0 00 00 00 00 00 00 00 00",
+            vec!["line 5: place 0 is not there, or a record cannot be played"],
+        ),
+    ];
+    for (text, expected) in texts {
+        let capture = captures::parse(text).expect("good lines");
+        for (name, calls) in PLAYERS {
+            assert_eq!(capture.driven_otherwise(calls), expected, "{name}: {text}");
+        }
+    }
+}
+
+#[test]
+fn drives_lines_that_say_no_place_with_eight_bytes_are_told() {
+    for (line, told) in [
+        ("drives", "\"\" is no place with eight bytes"),
+        ("drives 0", "\"0\" is no place with eight bytes"),
+        ("drives 0 1 2 3 4 5 6 7", "\"0 1 2 3 4 5 6 7\" is no place with eight bytes"),
+        ("drives 0 1 2 3 4 5 6 7 8 9", "\"0 1 2 3 4 5 6 7 8 9\" is no place with eight bytes"),
+        ("drives 0 1 2 3 4 5 6 7 100", "100 is no byte"),
+        ("drives 0 1 2 3 x 5 6 7 8", "x is no hex number"),
+        ("drives A 1 2 3 4 5 6 7 8", "A is no number below 256"),
+        ("drives 256 1 2 3 4 5 6 7 8", "256 is no number below 256"),
+        ("driven 0 1 2 3 4 5 6 7 8", "\"driven 0 1 2 3 4 5 6 7 8\" is no record"),
+    ] {
+        let parsed = captures::parse(&format!("module 0\n\n{line} # here\ntick\n"));
+        assert_eq!(parsed.err(), Some(format!("line 3: {told}")), "{line}");
+    }
 }
 
 #[test]

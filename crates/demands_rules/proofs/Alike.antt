@@ -20,7 +20,7 @@ use Rattle.servo_rules.specs.declared.Run.{Run}
 use Rattle.servo_rules.specs.declared.Servo.{Servo}
 use Rattle.servo_rules.specs.State.{position, idled, off}
 use Rattle.servo_rules.specs.Perform.{shifted, resetPosition}
-use Rattle.servo_rules.specs.Tick.{unpowered, advancedBy, advanced, tripped, pulsed, ticked}
+use Rattle.servo_rules.specs.Tick.{advancedBy, advanced, tripped, pulsed, ticked}
 use Rattle.servo_rules.proofs.Ends.{tick-ends}
 use Rattle.servo_rules.proofs.Keeping.{distinct}
 use Rattle.servo_rules.proofs.Shifting.{Wraps, wraps, whole-shifted}
@@ -149,7 +149,7 @@ abbrev Goes : Run → Run → Type 0
 Goes r n = (n .drive .mode ≡ Off) ⊎ ((n .drive .mode ≡ r .drive .mode) × (n .drive .pulse ≡ r .drive .pulse) × Steps (r .drive .mode) (r .profile) (n .profile))
 
 pub tick-alike : (m : Servo) → (ticked m .run .drive .mode ≡ Off) ⊎ Alike m (ticked m)
-unfolding unpowered pulsed tripped idled off advanced ticked
+unfolding pulsed tripped idled off advanced ticked
 tick-alike m = by (tick-ends (Goes (m .run)) m (record {
   low = λ q. inl refl;
   off = λ q. inr (refl, refl, stays (m .run .drive .mode) (m .run .profile));

@@ -12,6 +12,8 @@ pub mod EveryCall
 pub mod Question
 pub mod Order
 pub mod OnTheLine
+pub mod Dipping
+pub mod Dips
 pub mod Alive
 pub mod Sheet
 pub mod Racing

@@ -23,13 +23,13 @@ use Rattle.servo_rules.specs.declared.Mode.{Mode}
 use Rattle.servo_rules.specs.declared.Mode.the-variants.{Off, Pwm, Hold, Velocity, Trapezoid}
 use Rattle.servo_rules.specs.declared.Run.{Run}
 use Rattle.servo_rules.specs.declared.Servo.{Servo}
-use Rattle.servo_rules.specs.State.{servoOff, idled, off}
-use Rattle.servo_rules.specs.Tick.{unpowered, advancedBy, advanced, tripped, pulsed, ticked}
+use Rattle.servo_rules.specs.State.{servoOff, off}
+use Rattle.servo_rules.specs.Tick.{advancedBy, advanced, tripped, pulsed, ticked}
 use Rattle.servo_rules.specs.StopPromises.{Released}
 use Rattle.servo_rules.specs.TickPromises.{Ticking, followed}
-use Rattle.servo_rules.proofs.Keeping.{distinct}
+use Rattle.servo_rules.proofs.Keeping.{distinct, off-released}
 use Rattle.servo_rules.proofs.Ends.{tick-ends}
-use Rattle.servo_rules.proofs.Ticking.{ticks}
+use Rattle.servo_rules.proofs.Ticking.{tripped-released, ticks}
 use Rattle.inout_rules.proofs.Bits.{read-value}
 use Rattle.inout_rules.proofs.Shown.{shown}
 use Rattle.servo_rules.proofs.Shown.{samples}
@@ -99,10 +99,10 @@ module _ (m : Servo) (t : Fits m) where
   )
 
   speeds : Speeds m p (ticked m .run .profile)
-  unfolding unpowered pulsed tripped idled off
+  unfolding pulsed
   speeds =
       let a : After (ticked m .run) = tick-ends After m (record {
-        low = λ q. after-off (unpowered (m .run)) (record { mode = refl; speed = refl; output = refl; pulse = refl; memory = refl });
+        low = λ q. after-off (off (m .run)) (off-released (m .run));
         off = λ q. (
           λ e z. absurd (distinct Off Velocity refl (sym q ∙ e)),
           λ e z. absurd (distinct Off Trapezoid refl (sym q ∙ e)),
@@ -114,7 +114,7 @@ module _ (m : Servo) (t : Fits m) where
           λ n z. absurd (n z),
         );
         output = λ s y u. (λ e z. toward-goal e, λ e z. greatest-speed e, λ n z. absurd (n z));
-        trip = λ q. after-off (tripped (advanced (m .run)) (m .run)) (record { mode = refl; speed = refl; output = refl; pulse = refl; memory = refl });
+        trip = λ q. after-off (tripped (advanced (m .run)) (m .run)) (tripped-released (m .run) .0);
       }) in
       record { velocity = a .0; trapezoid = a .1; off = a .2 }
 

@@ -29,12 +29,13 @@ use Rattle.servo_rules.specs.declared.Servo.{Servo}
 use Rattle.servo_rules.specs.State.{position, servoOff, withStation, withProfile, idled, off}
 use Rattle.servo_rules.specs.Loads.{loaded, startsNow, start, toSpeed}
 use Rattle.servo_rules.specs.Perform.{resetPosition, shifted, holding, smooth, haltedBy, stopped, can, perform}
-use Rattle.servo_rules.specs.Tick.{unpowered, advancedBy, advanced, tripped, pulsed, ticked}
+use Rattle.servo_rules.specs.Tick.{advancedBy, advanced, tripped, pulsed, ticked}
 use Rattle.servo_rules.specs.Answers as Answers
 use Rattle.servo_rules.specs.Answers.{request, withCause, execute}
 use Rattle.servo_rules.specs.LoadPromises.{Startable, Starting}
 use Rattle.servo_rules.specs.StopPromises.{Counted}
 use Rattle.servo_rules.specs.RestPromises.{Resting, following}
+use Rattle.servo_rules.proofs.Known.{Known, known}
 use Rattle.servo_rules.proofs.Keeping.{by-test, either, number, distinct}
 use Rattle.servo_rules.proofs.Framed.{leaves}
 use Rattle.servo_rules.proofs.Starting.{starts, start-now}
@@ -50,7 +51,7 @@ use Rattle.types_rules.specs.Table.{servo}
 use Rattle.types_rules.proofs.Promised.{every-type}
 use Rattle.demands_rules.specs.Motion.{Moves, Bound, AtRest, SetsOut, moving, bound, Begins, out, put, turnedOn, Asks, LoadStarts, byStart, byLoad, Starts, ofLoad, byStopHere, StartsAreExecuted}
 use Rattle.demands_rules.specs.Sent.{control}
-use Rattle.demands_rules.proofs.Known.{Known, known, here-five}
+use Rattle.demands_rules.proofs.Known.{here-five}
 
 -- the servos that a slot can hold have counts within their bytes
 counted : (m : Servo) → Fits m → Counted m
@@ -385,9 +386,9 @@ module _ (m : Servo) (t : Fits m) where
       inr (b .0, λ e. b .1 (ap (λ (k : Mode). left (advancedBy k (m .run .profile))) (b .0) ∙ at-goal (m .run .profile) (s .profile) (i .2) e))
 
   pub ticked-bound : Bound (ticked m) → Bound m
-  unfolding unpowered pulsed tripped idled off
+  unfolding pulsed tripped idled off
   ticked-bound = tick-ends (λ (n : Run). Aims n → Bound m) m (record {
-    low = λ q b. absurd (mode-unbound Off refl refl (unpowered (m .run)) refl b);
+    low = λ q b. absurd (mode-unbound Off refl refl (off (m .run)) refl b);
     off = λ q b. b;
     pwm = λ q b. b;
     output = λ s y u b. advanced-bound b;

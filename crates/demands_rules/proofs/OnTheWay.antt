@@ -6,16 +6,13 @@ use mathlib.Core.Bool.{Bool, true, false, true≢false}
 use mathlib.Core.Option.{some}
 use Prim.Native.Nat.{ℕ, zero, suc, _+_, _-_, _*_, _<_, _≤_}
 use native.Mathlib.Omega.{arith}
-use native.Mathlib.Nat.{le-refl}
 use borrow.Author.Tests.{eqb-true, eqb-false}
 use lib.IntN.{pos, natAbs}
 use lib.Signed.{ltZ}
-use lib.ListN.{length, getElem?, take}
+use lib.ListN.{getElem?, take}
 use lib.Seq.{take-length}
 use lib.Dec.{eqb}
 use Rattle.base_integers.specs.Bits.{bit}
-use Rattle.line_receiver.specs.declared.Answer.the-variants.{Ended}
-use Rattle.line_receiver.specs.Receive.{taken}
 use Rattle.line_receiver.specs.Frames.{Frame, frameIn}
 use Rattle.module_rules.specs.Rules.{Request, malformed, set, reset, wants, settled}
 use Rattle.module_rules.proofs.Settled.{settles}
@@ -44,6 +41,7 @@ use Rattle.servo_rules.specs.Answers as Answers
 use Rattle.servo_rules.specs.Answers.{done, bitAt, status, request, withCause, execute}
 use Rattle.servo_rules.specs.LoadPromises.{Completes}
 use Rattle.servo_rules.specs.TickPromises.{followed}
+use Rattle.servo_rules.proofs.Known.{Known, known, BitOf, haltBits, halt-bits}
 use Rattle.servo_rules.proofs.Keeping.{by-test, either, distinct}
 use Rattle.servo_rules.proofs.Signs.{signed-size, signed-zero, signed-itself}
 use Rattle.servo_rules.proofs.Starting.{starts, begins}
@@ -67,11 +65,10 @@ use Rattle.demands_rules.specs.Motion.{LoadStarts, At, CallStarts}
 use Rattle.demands_rules.specs.Place.{after, Stands, inTime}
 use Rattle.demands_rules.specs.Sent.{control, WholeLoad}
 use Rattle.demands_rules.specs.Quickest.{total, final, speedsFrom, ticksOf, ticksIn, Disturbs, Undisturbed, SetsOff, OnItsWay, QuickestOnTheLine}
-use Rattle.demands_rules.proofs.Known.{Known, known, BitOf, haltBits, halt-bits}
 use Rattle.demands_rules.proofs.Making.{same-place, fits-at, Silent, Made, same, framed, measured, timed, made}
 use Rattle.demands_rules.proofs.Motion.{load-started}
 use Rattle.demands_rules.proofs.OnTheLine.{tick-goes}
-use Rattle.demands_rules.proofs.Placing.{call-at, valid-after, Only, executed-by}
+use Rattle.demands_rules.proofs.Placing.{Only, calm, Carries, carried-on}
 use Rattle.demands_rules.proofs.Racing.{no-quicker, never-past}
 use Rattle.demands_rules.proofs.Mirroring.{Goes, can-stop, sets-off, after-tick, Gone, gone}
 use Rattle.demands_rules.proofs.Mirroring as Profiles
@@ -103,7 +100,7 @@ module _ (f : Frame) (calm : Disturbs f → ⊥) (m : Servo) where
   order-keeps (LoadTrajectory c) (w, e) = subst (λ (c : Carried). Same m (perform (LoadTrajectory c) m)) (sym e) (load-keeps w)
   order-keeps Start k = absurd (calm (inr (inr (inl (k .0)))))
   order-keeps (SetGain t) k = (refl, refl)
-  order-keeps (Stop a h x) (c, e, y, l) = halts c h a x (subst (λ (h : Halt). BitOf h (haltBits (control f))) (sym e) (halt-bits (control f)))
+  order-keeps (Stop a h x) (c, e, y, l, b) = halts c h a x (subst (λ (h : Halt). BitOf h (haltBits (control f))) (sym e) (halt-bits (control f)))
   order-keeps ClearBits k = (refl, refl)
 
   settled-keeps : (q : Request Order) → Known f q → Same m (settled Answers.servo q m)
@@ -172,36 +169,24 @@ module _ (net : List ℕ) (cs : List Call) (i : ℕ) (s : Servo) (v : ValidRecor
   call-steps : (n : ℕ) (c : Call) (m k : Servo) → getElem? cs n ≡ some c → ValidRecord (after net cs i n) → Stands net cs i n m → m .run .drive .mode ≡ Trapezoid
       → Only net cs i (suc n) k → Made (after net cs i n) i m c k → Later (ticksOf c) m k
   unfolding Profiles.after
-  call-steps n _ _ _ g w st e o (framed mark x room d goes a t) =
-      frame-keeps (frameIn (netIn slots (after net cs i n) .receiver) d) _ _ (calm d a o)
-    where
-      calm : (d : Bool) {k : Servo} → taken (netIn slots (after net cs i n) .receiver) x (eqb mark 1) .answer ≡ Ended d → Only net cs i (suc n) k
-          → d ≡ false → k .station .cause ≡ 0 → Disturbs (frameIn (netIn slots (after net cs i n) .receiver) d) → ⊥
-      calm true a o z q b = true≢false z
-      calm false {k} a o z q b = u .frames n _ (executed-by net cs i n mark x room g goes t a k o q) b
+  call-steps n _ _ k g w st e o (framed mark x room d goes a t) =
+      frame-keeps (frameIn (netIn slots (after net cs i n) .receiver) d) _ _ (calm net cs i n mark x room Disturbs d k g goes t a o (u .frames n))
   call-steps n _ m _ g w st e o (same c y q) = subst (Later (ticksOf c) m) q (time-steps (after net cs i n) i c m w e (λ z. u .ticks n m (g ∙ ap some z) st))
   call-steps n _ m _ g w st e o (measured c x y z q) = subst (Later (ticksOf c) m) q (time-steps (after net cs i n) i c m w e (λ z. u .ticks n m (g ∙ ap some z) st))
   call-steps n _ m _ g w st e o (timed q) = subst (Later 1 m) q (time-steps (after net cs i n) i tick m w e (λ z. u .ticks n m g st))
 
   -- the servo after n calls
-  goes : (n : ℕ) → n ≤ length cs → (m : Servo) × Stands net cs i n m × Later (ticksIn (take n cs)) s m
-  unfolding Profiles.after
-  goes zero l = (s, at, (refl, refl))
-  goes (suc n) l =
-      let (m, st, (p, d)) = goes n (omega arith) in
-      let (c, g, z, hc) = call-at cs net n (omega arith) h in
-      let w = valid-after net cs i n v h (omega arith) in
-      let (k, e, b) = made (after net cs i n) c i m hc w st in
-      let st′ : Stands net cs i (suc n) k = subst (λ (r : List ℕ). At r i k) (sym z) e in
-      let (q, f) = call-steps n c m k g w st (d ∙ runs) (λ m e. same-place (netIn slots (after net cs i (suc n)) .modules) i m k e st′) b in
-      (k, st′, (q ∙ ap (Profiles.after (ticksOf c)) p ∙ after-sum (ticksOf c) _ _ ∙ ap (λ (j : ℕ). Profiles.after j (s .run .profile)) (sym (ticks-at cs n c g)), f ∙ d))
+  goes : Carries net cs i (λ n k. Later (ticksIn (take n cs)) s k)
+  goes n c m k g w st b st′ o (p, d) =
+      let (q, f) = call-steps n c m k g w st (d ∙ runs) o b in
+      (q ∙ ap (Profiles.after (ticksOf c)) p ∙ after-sum (ticksOf c) _ _ ∙ ap (λ (j : ℕ). Profiles.after j (s .run .profile)) (sym (ticks-at cs n c g)), f ∙ d)
 
   -- and after all of them
   went : (k : Servo) → At (leftBy cs net) i k → Later (ticksIn cs) s k
+  unfolding Profiles.after
   went k e =
-      let (m, st, l) = goes (length cs) (le-refl (length cs)) in
-      let z : m ≡ k = same-place (netIn slots (leftBy cs net) .modules) i m k (subst (λ (ds : List Call). At (leftBy ds net) i m) (take-length cs) st) e in
-      subst (Later (ticksIn cs) s) z (subst (λ (ds : List Call). Later (ticksIn ds) s m) (take-length cs) l)
+      subst (λ (ds : List Call). Later (ticksIn ds) s k) (take-length cs)
+      (carried-on net cs i (λ n k. Later (ticksIn (take n cs)) s k) v h goes s at (refl, refl) k e)
 
 -- ---- where it is then
 

@@ -5,8 +5,10 @@ use mathlib.Core.Bool.{Bool, true, false, true≢false}
 use mathlib.Core.Option.{some}
 use Prim.Native.Nat.{ℕ, zero, suc, _<_, _≤_}
 use native.Mathlib.Omega.{arith}
+use native.Mathlib.Nat.{le-refl}
 use lib.Dec.{eqb}
 use lib.ListN.{length, getElem?, take}
+use lib.Seq.{take-length}
 use Rattle.line_receiver.specs.declared.Receiver.{Receiver}
 use Rattle.line_receiver.specs.declared.Answer.the-variants.{Ended}
 use Rattle.line_receiver.specs.Receive.{taken}
@@ -21,7 +23,7 @@ use Rattle.demands_history_rules.specs.Calls.{Call, byte, Handed, AllHanded, le
 use Rattle.demands_history_rules.proofs.Calls.{call-kept}
 use Rattle.demands_rules.specs.Motion.{At}
 use Rattle.demands_rules.specs.Place.{after, Stands, Touched, Executed, inTime, throughTime}
-use Rattle.demands_rules.proofs.Making.{Silent, was-servo}
+use Rattle.demands_rules.proofs.Making.{same-place, Silent, Made, made, was-servo}
 
 -- call n, the record after it, and what time makes of a servo by it
 pub call-at : (cs : List Call) (net : List ℕ) (n : ℕ) → n < length cs → AllHanded cs
@@ -75,3 +77,39 @@ module _ (net : List ℕ) (cs : List Call) (i n : ℕ) (mark value : ℕ) (room 
     undamaged = refl;
     cause = λ m st. ap (λ (k : Servo). k .station .cause) (o m st) ∙ z;
   }
+
+  -- so where none such as Q is executed, the frame that ends here is none, if it is executed
+  pub calm : (Q : Frame → Type 0) (d : Bool) (k : Servo) → getElem? cs n ≡ some (byte mark value room) → Passes (byteTable (after net cs i n) mark room)
+      → touched true (receiver .address) (addresses kind (netIn slots (after net cs i n) .modules)) i ≡ true
+      → taken receiver value (eqb mark 1) .answer ≡ Ended d
+      → Only net cs i (suc n) k → ((f : Frame) → Executed net cs i n f → Q f → ⊥)
+      → d ≡ false → k .station .cause ≡ 0 → Q (frameIn receiver d) → ⊥
+  calm Q true k call goes touches e o u z c q = true≢false z
+  calm Q false k call goes touches e o u z c q = u (frameIn receiver false) (executed-by call goes touches e k o c) q
+
+-- what holds of the servo here before any calls, and after each call if it held before it, holds after each of them
+module _ (net : List ℕ) (cs : List Call) (i : ℕ) (P : ℕ → Servo → Type 0) where
+  abbrev pub Carries : Type 0
+  Carries =
+      (n : ℕ) (c : Call) (m k : Servo) → getElem? cs n ≡ some c → ValidRecord (after net cs i n) → Stands net cs i n m
+      → Made (after net cs i n) i m c k → Stands net cs i (suc n) k → Only net cs i (suc n) k → P n m → P (suc n) k
+
+  module _ (v : ValidRecord net) (h : AllHanded cs) (carry : Carries) (s : Servo) (at : At net i s) (first : P 0 s) where
+    stands : (n : ℕ) → n ≤ length cs → (m : Servo) × Stands net cs i n m × P n m
+    stands zero l = (s, at, first)
+    stands (suc n) l =
+        let (m, st, p) = stands n (omega arith) in
+        let (c, g, z, hc) = call-at cs net n (omega arith) h in
+        let w = valid-after net cs i n v h (omega arith) in
+        let (k, e, d) = made (after net cs i n) c i m hc w st in
+        let st′ : Stands net cs i (suc n) k = subst (λ (r : List ℕ). At r i k) (sym z) e in
+        (k, st′, carry n c m k g w st d st′ (λ m e. same-place (netIn slots (after net cs i (suc n)) .modules) i m k e st′) p)
+
+    pub carried : (n : ℕ) → n ≤ length cs → (k : Servo) → Stands net cs i n k → P n k
+    carried n l k e =
+        let (m, st, p) = stands n l in
+        subst (P n) (same-place (netIn slots (after net cs i n) .modules) i m k st e) p
+
+    -- and after all of them
+    pub carried-on : (k : Servo) → At (leftBy cs net) i k → P (length cs) k
+    carried-on k e = carried (length cs) (le-refl (length cs)) k (subst (λ (ds : List Call). At (leftBy ds net) i k) (sym (take-length cs)) e)

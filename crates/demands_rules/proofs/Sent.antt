@@ -4,7 +4,7 @@ use mathlib.Core.Logic.{_⊎_, inl, inr}
 use mathlib.Core.List.{List}
 use mathlib.Core.Bool.{Bool, true, false, cond, true≢false, false≢true}
 use mathlib.Core.Option.{some, none}
-use Prim.Native.Nat.{ℕ, zero, suc, _+_, _%_, _^_, _<_, _≤_}
+use Prim.Native.Nat.{ℕ, suc, _+_, _%_, _^_, _<_}
 use native.Mathlib.Omega.{arith}
 use native.Mathlib.Nat.{le-refl}
 use lib.IntN.{pos}
@@ -38,6 +38,7 @@ use Rattle.servo_rules.specs.Perform.{resetPosition, stopped, can, perform}
 use Rattle.servo_rules.specs.Tick.{ticked}
 use Rattle.servo_rules.specs.Answers as Answers
 use Rattle.servo_rules.specs.Answers.{request, withCause, execute}
+use Rattle.servo_rules.proofs.Known.{Known, known, BitOf, haltBits, halt-bits}
 use Rattle.servo_rules.proofs.Keeping.{by-test}
 use Rattle.servo_rules.proofs.Starting.{starts, start-now}
 use Rattle.servo_rules.proofs.Completing.{complete}
@@ -53,16 +54,15 @@ use Rattle.api_rules.specs.Table.{byteTable}
 use Rattle.api_rules.specs.Calls.{setupRecord}
 use Rattle.api_rules.specs.Promises.{ValidRecord, Passes}
 use Rattle.api_rules.proofs.Kept.{kept}
-use Rattle.demands_history_rules.specs.Calls.{Call, byte, tick, AllHanded}
-use Rattle.demands_history_rules.proofs.Calls.{call-kept}
-use Rattle.demands_rules.specs.Motion.{Moves, At}
+use Rattle.demands_history_rules.specs.Calls.{Call, byte, tick}
+use Rattle.demands_rules.specs.Motion.{Moves}
 use Rattle.demands_rules.specs.Question.{IsStart}
 use Rattle.demands_rules.specs.Place.{after, Stands, Executed}
 use Rattle.demands_rules.specs.Sent.{control, Has, Lacks, WholeLoad, Halts, Drops, encoder, Loaded, Given, itself, byStart, WasSent, WhatMovesWasSent, numberIn}
-use Rattle.demands_rules.proofs.Known.{Known, known, BitOf, haltBits, halt-bits, not-keep, keep-spares}
+use Rattle.demands_rules.proofs.Known.{spares, not-keep, keep-spares}
 use Rattle.demands_rules.proofs.Alike.{Alike, alike, shift-alike, tick-alike}
-use Rattle.demands_rules.proofs.Making.{same-place, fits-at, Silent, Made, same, framed, measured, timed, made, set-up-is}
-use Rattle.demands_rules.proofs.Placing.{untouched, call-at, stood-before, Only, executed-by}
+use Rattle.demands_rules.proofs.Making.{fits-at, Silent, Made, same, framed, measured, timed, set-up-is}
+use Rattle.demands_rules.proofs.Placing.{valid-after, untouched, stood-before, Only, executed-by, Carries, carried}
 use Rattle.demands_rules.proofs.Sending.{Replaces, brought, none-yet, loaded-on, off-sent, alike-sent, start-sent, hold-sent, slow-sent}
 
 -- what takes a number's place drops a waiting load too
@@ -277,10 +277,10 @@ module _ (net : List ℕ) (cs : List Call) (i : ℕ) where
           subst (λ (c : Carried). can (LoadTrajectory c) m ≡ true → After (perform (LoadTrajectory c) m)) (sym e) (carry-told w) q o
       order-told Start (c, n0) q d o = start-told (d, c, n0) q o
       order-told (SetGain g) k q d o =
-          alike-told (withCause 0 (perform (SetGain g) m)) o refl refl (spared Drops k) (alike m (withCause 0 (perform (SetGain g) m)) refl refl refl refl)
-      order-told (Stop a h x) (c, e, y, l) q d o = stop-told a x c h e y l o
+          alike-told (withCause 0 (perform (SetGain g) m)) o refl refl (spared Drops (spares f k)) (alike m (withCause 0 (perform (SetGain g) m)) refl refl refl refl)
+      order-told (Stop a h x) (c, e, y, l, b) q d o = stop-told a x c h e y l o
       order-told ClearBits k q d o =
-          alike-told (withCause 0 (perform ClearBits m)) o refl refl (spared Drops k) (alike m (withCause 0 (perform ClearBits m)) refl refl refl refl)
+          alike-told (withCause 0 (perform ClearBits m)) o refl refl (spared Drops (spares f k)) (alike m (withCause 0 (perform ClearBits m)) refl refl refl refl)
 
       reset-told : Told (suc n) (withCause 0 (Answers.servo .renewed m))
       reset-told = record {
@@ -329,7 +329,7 @@ module _ (net : List ℕ) (cs : List Call) (i : ℕ) where
           → Stands net cs i (suc n) (settled Answers.servo q m) → Only net cs i (suc n) (settled Answers.servo q m) → Told (suc n) (settled Answers.servo q m)
       settled-told alone e (malformed x) k st o = caused-told (faultCause x) (fault-told x) st o
       settled-told alone e (set s) k st o =
-          alike-told _ o refl refl (spared ending (exec-by e _ o refl) only-one Drops k) (alike m _ refl refl refl refl)
+          alike-told _ o refl refl (spared ending (exec-by e _ o refl) only-one Drops (spares ending k)) (alike m _ refl refl refl refl)
       settled-told alone e reset k st o = reset-told ending (exec-by e _ o refl) only-one
       settled-told alone e (wants c) k st o = at (can c m) refl st o
         where
@@ -358,20 +358,8 @@ module _ (net : List ℕ) (cs : List Call) (i : ℕ) where
 
 -- ---- through any calls
 
--- the servo after n calls, where place i had one before them
-stands-after : (net : List ℕ) (cs : List Call) (i : ℕ) (s : Servo) → ValidRecord net → AllHanded cs → At net i s → Told net cs i 0 s
-    → (n : ℕ) → n ≤ length cs → (m : Servo) × Stands net cs i n m × Told net cs i n m × ValidRecord (after net cs i n)
-stands-after net cs i s v h e q zero l = (s, e, q, v)
-stands-after net cs i s v h e q (suc n) l =
-    let (m, st, told, v′) = stands-after net cs i s v h e q n (omega arith) in
-    let (c, g, z, hc) = call-at cs net n (omega arith) h in
-    let (k, p, d) = made (after net cs i n) c i m hc v′ st in
-    let st′ : Stands net cs i (suc n) k = subst (λ (r : List ℕ). At r i k) (sym z) p in (
-      k,
-      st′,
-      made-told net cs i n m st (fits-at (after net cs i n) i m v′ st) told c k g d st′ (λ m e. same-place (netIn slots (after net cs i (suc n)) .modules) i m k e st′),
-      subst ValidRecord (sym z) (call-kept (after net cs i n) c hc v′),
-    )
+told-on : (net : List ℕ) (cs : List Call) (i : ℕ) → Carries net cs i (Told net cs i)
+told-on net cs i n c m k g w st d st′ o told = made-told net cs i n m st (fits-at (after net cs i n) i m w st) told c k g d st′ o
 
 -- at power-up nothing was sent
 started-told : (net : List ℕ) (cs : List Call) (i : ℕ) → Told net cs i 0 started
@@ -402,5 +390,5 @@ what-moves-was-sent net types cs i n k p h l e =
     let r : List ℕ = setupRecord net types in
     let v : ValidRecord r = kept .setup net types p in
     let (s, q) = stood-before r cs i n k v h l e in
-    let (m, st, told, w) = stands-after r cs i s v h q (subst (Told r cs i 0) (set-up-is net types i s p q) (started-told r cs i)) n l in
-    (in-motion k (fits-at (after r cs i n) i k w e), subst (WasSent r cs i n) (same-place (netIn slots (after r cs i n) .modules) i m k st e) (told .sent))
+    let told = carried r cs i (Told r cs i) v h (told-on r cs i) s q (subst (Told r cs i 0) (set-up-is net types i s p q) (started-told r cs i)) n l k e in
+    (in-motion k (fits-at (after r cs i n) i k (valid-after r cs i n v h l) e), told .sent)

@@ -7,3 +7,4 @@ pub mod Order
 pub mod Quickest
 pub mod Numbering
 pub mod Causes
+pub mod Dip

@@ -1,26 +1,38 @@
--- A servo at rest stays so until a start is carried out. Assumes nothing.
+-- A servo at rest stays so until a start is carried out, one that is off until a start or a Stop that holds. Assumes nothing.
 use mathlib.Core.Path.{_≡_, refl, sym, ap, subst, _∙_}
+use mathlib.Core.Logic.{_⊎_, inl, inr}
+use mathlib.Core.Bool.{Bool, true, true≢false}
 use Prim.Native.Nat.{ℕ, _^_, _<_}
+use lib.ListN.{getD}
 use lib.IntN.{pos}
+use Rattle.line_receiver.specs.Frames.{Frame}
+use Rattle.module_rules.specs.Rules.{wants}
+use Rattle.module_rules.proofs.Settled.{cause}
 use Rattle.servo_motion.specs.declared.Profile.{Profile}
 use Rattle.servo_rules.specs.declared.Halt.{Halt}
 use Rattle.servo_rules.specs.declared.Halt.the-variants.{Keep, Release, Abrupt, Smooth, Here}
 use Rattle.servo_rules.specs.declared.Order.{Order}
 use Rattle.servo_rules.specs.declared.Order.the-variants.{ResetPosition, LoadTrajectory, Start, SetGain, Stop, ClearBits}
-use Rattle.servo_rules.specs.declared.Mode.the-variants.{Off, Hold, Velocity, Trapezoid}
+use Rattle.servo_rules.specs.declared.Mode.the-variants.{Off, Pwm, Hold, Velocity, Trapezoid}
 use Rattle.servo_rules.specs.declared.Run.{Run}
 use Rattle.servo_rules.specs.declared.Servo.{Servo}
+use Rattle.servo_rules.specs.Carried.{isSet, carriedIn}
 use Rattle.servo_rules.specs.State.{position, servoOff, idled, off}
 use Rattle.servo_rules.specs.Loads.{loaded, startsNow, toSpeed, start}
 use Rattle.servo_rules.specs.Perform.{shifted, resetPosition, holding, smooth, haltedBy, stopped, perform}
-use Rattle.servo_rules.specs.Tick.{unpowered, tripped, pulsed, ticked}
+use Rattle.servo_rules.specs.Tick.{tripped, pulsed, ticked}
+use Rattle.servo_rules.specs.Answers.{servo, execute}
 use Rattle.servo_rules.specs.LoadPromises.{Starting}
-use Rattle.servo_rules.specs.StopPromises.{Counted}
-use Rattle.servo_rules.specs.RestPromises.{Rests, Resting, StaysResting}
-use Rattle.servo_rules.proofs.Keeping.{by-test, either, distinct}
+use Rattle.servo_rules.specs.StopPromises.{Released, Counted}
+use Rattle.servo_rules.specs.RestPromises.{Rests, Resting, StaysResting, TurnsOn, StaysOff}
+use Rattle.servo_rules.proofs.Keeping.{by-test, either, distinct, off-released}
+use Rattle.servo_rules.proofs.Known.{Known, known, BitOf, haltBits, halt-bits}
+use Rattle.servo_rules.proofs.Apart.{apart}
 use Rattle.servo_rules.proofs.Framed.{leaves}
 use Rattle.servo_rules.proofs.Shifting.{resets-position}
 use Rattle.servo_rules.proofs.Ends.{tick-ends}
+use Rattle.servo_rules.proofs.Stopping.{stops}
+use Rattle.servo_rules.proofs.Ticking.{tripped-released}
 use Rattle.servo_rules.proofs.Idle.{Still, rest-advanced}
 
 -- off or holding, with no speed
@@ -59,7 +71,7 @@ order-rests ClearBits m k r n = r
 
 tick-rests : (m : Servo) → m .run .profile .setpoint < 2 ^ 48 → Resting m
     → Resting (ticked m) × (ticked m .run .profile .setpoint ≡ m .run .profile .setpoint)
-unfolding unpowered pulsed tripped idled off
+unfolding pulsed tripped idled off
 tick-rests m h r =
     let e = rest-advanced (m .run) h r in
     tick-ends (λ (s : Run). Still s × (s .profile .setpoint ≡ m .run .profile .setpoint)) m (record {
@@ -84,4 +96,73 @@ stays-resting = record {
       });
   sampling = λ x m r. r;
   tick = tick-rests;
+}
+
+-- ---- off
+
+halted-off : (a : Bool) (h : Halt) (x : ℕ) (m : Servo) → Released (m .run) → ((h ≡ Abrupt) ⊎ (h ≡ Here) → ⊥) → Released (stopped a h x m .run)
+unfolding stopped
+halted-off a Keep x m r n = record { mode = r .mode; speed = r .speed; output = r .output; pulse = r .pulse; memory = r .memory }
+halted-off a Release x m r n = stops a x m .release
+halted-off a Abrupt x m r n = absurd (n (inl refl))
+halted-off a Smooth x m r n = stops a x m .slowOff (ap servoOff (r .mode))
+halted-off a Here x m r n = absurd (n (inr refl))
+
+-- the orders after which a servo that was off may drive
+abbrev Rousing : Order → Type 0
+Rousing ResetPosition = ⊥
+Rousing (LoadTrajectory c) = startsNow c ≡ true
+Rousing Start = Unit {0}
+Rousing (SetGain t) = ⊥
+Rousing (Stop a h x) = (h ≡ Abrupt) ⊎ (h ≡ Here)
+Rousing ClearBits = ⊥
+
+order-off : (c : Order) (m : Servo) → Released (m .run) → (Rousing c → ⊥) → Released (perform c m .run)
+unfolding resetPosition shifted loaded
+order-off ResetPosition m r n = record { mode = r .mode; speed = r .speed; output = r .output; pulse = r .pulse; memory = r .memory }
+order-off (LoadTrajectory c) m r n =
+    by-test (λ (k : Servo). Released (k .run)) (startsNow c) (start (loaded c m)) (loaded c m) (λ t. absurd (n t)) (λ t. r)
+order-off Start m r n = absurd (n tt)
+order-off (SetGain t) m r n = r
+order-off (Stop a h x) m r n = halted-off a h x m r n
+order-off ClearBits m r n = record { mode = r .mode; speed = r .speed; output = r .output; pulse = r .pulse; memory = r .memory }
+
+-- a frame that asks for one has its code and its bits
+rouses : (f : Frame) (c : Order) → Known f (wants c) → Rousing c → TurnsOn f
+unfolding carriedIn
+rouses f ResetPosition k o = absurd o
+rouses f (LoadTrajectory c) (w, e) o = inl (w .0, ap startsNow (sym e) ∙ o)
+rouses f Start (c, n) o = inr (inl c)
+rouses f (SetGain t) k o = absurd o
+rouses f (Stop a h x) (c, e, y, n, b) o = inr (inr (c, at o))
+  where
+    bits : (j : Halt) → h ≡ j → BitOf j (haltBits (getD (f .content) 0 0))
+    bits j q = subst (λ (j : Halt). BitOf j (haltBits (getD (f .content) 0 0))) (sym e ∙ q) (halt-bits (getD (f .content) 0 0))
+
+    at : (h ≡ Abrupt) ⊎ (h ≡ Here) → (isSet 2 (getD (f .content) 0 0) ≡ true) ⊎ (isSet 4 (getD (f .content) 0 0) ≡ true)
+    at (inl q) = inl (bits Abrupt q)
+    at (inr q) = inr (bits Here q)
+rouses f ClearBits k o = absurd o
+
+tick-off : (m : Servo) → Released (m .run) → Released (ticked m .run)
+unfolding pulsed
+tick-off m r = tick-ends Released m (record {
+  low = λ q. off-released (m .run);
+  off = λ q. r;
+  pwm = λ q. absurd (distinct Off Pwm refl (sym (r .mode) ∙ q));
+  output = λ s y u. absurd (true≢false (sym (ap servoOff (r .mode)) ∙ s));
+  trip = λ q. tripped-released (m .run) .0;
+})
+
+pub stays-off : StaysOff
+stays-off = record {
+  frame = λ f alone m r n.
+      leaves (λ (k : Servo). Released (k .run)) f alone m (record {
+        kept = λ s. r;
+        renewed = λ d q. record { mode = refl; speed = refl; output = refl; pulse = refl; memory = refl };
+        performed = λ c d q t.
+            let z : execute f alone m .station .cause ≡ 0 = ap (λ (k : Servo). k .station .cause) (cause servo apart f alone m .executed c d q t) in
+            order-off c m r (λ o. n d z (rouses f c (subst (Known f) q (known f alone)) o));
+      });
+  tick = tick-off;
 }

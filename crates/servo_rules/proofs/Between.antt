@@ -13,7 +13,7 @@ use Rattle.servo_rules.specs.declared.Servo.{Servo}
 use Rattle.servo_rules.specs.State.{position, idled, off}
 use Rattle.servo_rules.specs.Loads.{loaded, startsNow, start}
 use Rattle.servo_rules.specs.Perform.{resetPosition, stopped, perform}
-use Rattle.servo_rules.specs.Tick.{unpowered, tripped, pulsed, ticked}
+use Rattle.servo_rules.specs.Tick.{tripped, pulsed, ticked}
 use Rattle.servo_rules.specs.Answers.{execute}
 use Rattle.servo_rules.specs.TickPromises.{Between, Silent, DrivenOnly}
 use Rattle.servo_rules.proofs.Keeping.{either, Undriven, still, not-off, distinct, started-keeps, halted-keeps}
@@ -66,7 +66,7 @@ quiet-silent m n q s = by (q .1)
 
 -- no tick that ends in off has an output
 tick-off : (m : Servo) → Silent m → ticked m .run .drive .mode ≡ Off → ticked m .run .drive .output ≡ pos 0
-unfolding unpowered pulsed tripped idled off
+unfolding pulsed tripped idled off
 tick-off m s =
     tick-ends (λ (r : Run). r .drive .mode ≡ Off → r .drive .output ≡ pos 0) m (record {
       low = λ e k. refl;

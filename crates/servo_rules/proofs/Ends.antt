@@ -14,8 +14,8 @@ use Rattle.servo_rules.specs.declared.Mode.{Mode}
 use Rattle.servo_rules.specs.declared.Mode.the-variants.{Off, Pwm, Hold, Velocity, Trapezoid}
 use Rattle.servo_rules.specs.declared.Run.{Run}
 use Rattle.servo_rules.specs.declared.Servo.{Servo}
-use Rattle.servo_rules.specs.State.{positionAt, servoOff}
-use Rattle.servo_rules.specs.Tick.{advanced, unpowered, tripped, filteredTo, followedAt, servoed, pulsed, drivenBy, ran, ticked}
+use Rattle.servo_rules.specs.State.{positionAt, servoOff, off}
+use Rattle.servo_rules.specs.Tick.{advanced, tripped, filteredTo, followedAt, servoed, pulsed, drivenBy, ran, ticked}
 
 -- the filter's answer at the new setpoint and the position here
 abbrev pub answer : ℕ → Gains → Run → Filtered
@@ -23,7 +23,7 @@ answer here g r = filtered g (r .memory) (followedAt here r)
 
 -- what holds at each end
 pub record Ends (P : Run → Type 0) (power here : ℕ) (g : Gains) (r : Run) : Type 0 where
-  pub low : power ≡ 0 → P (unpowered r)
+  pub low : power ≡ 0 → P (off r)
   pub off : r .drive .mode ≡ Off → P r
   pub pwm : r .drive .mode ≡ Pwm → P (pulsed power (g .ol) r)
   pub output : servoOff (r .drive .mode) ≡ false → (y : Memory) (u : ℤ) → P (filteredTo (Filters.Output y u) power (advanced r) r)
@@ -44,7 +44,7 @@ ends P power here g r e = seen (eqb power 0) refl
     drive Velocity q = filter (ap servoOff q) (answer here g r) refl
     drive Trapezoid q = filter (ap servoOff q) (answer here g r) refl
 
-    seen : (t : Bool) → eqb power 0 ≡ t → P (cond t (unpowered r) (drivenBy (r .drive .mode) power here g r))
+    seen : (t : Bool) → eqb power 0 ≡ t → P (cond t (off r) (drivenBy (r .drive .mode) power here g r))
     seen true q = e .low (eqb-true _ _ q)
     seen false q = drive (r .drive .mode) refl
 

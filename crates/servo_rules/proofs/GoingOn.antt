@@ -82,7 +82,7 @@ module _ (m : Servo) (on : servoOff (ticked m .run .drive .mode) ≡ false) wher
   still-on = at (eqb (m .samples .waiting .power) 0) refl
     where
       at : (t : Bool) → eqb (m .samples .waiting .power) 0 ≡ t → StillOn m (ticked m)
-      at true e = absurd (not-ended Off refl (ticks m .low (eqb-true _ _ e) .0 .mode))
+      at true e = absurd (not-ended Off refl (ticks m .low (eqb-true _ _ e) .mode))
       at false e = by-mode (eqb-false _ _ e) (m .run .drive .mode) refl
 
 pub goes-on : GoesOn

@@ -1,4 +1,4 @@
--- What every start and every stop leave: the error bit, and the output but for going off and PWM. Assumes nothing.
+-- What every start and every stop leave: error bit and amplifier bit, and the output but for going off and PWM; and what off is. Assumes nothing.
 use mathlib.Core.Path.{_≡_, refl, sym, ap, _∙_}
 use mathlib.Core.Logic.{_⊎_, inl, inr}
 use mathlib.Core.Bool.{Bool, true, false, cond, false≢true}
@@ -17,6 +17,7 @@ use Rattle.servo_rules.specs.declared.Run.{Run}
 use Rattle.servo_rules.specs.State.{servoOff, idled, off}
 use Rattle.servo_rules.specs.Loads.{toSpeed, toPlace, startedBy}
 use Rattle.servo_rules.specs.Perform.{holding, smooth, haltedBy}
+use Rattle.servo_rules.specs.StopPromises.{Released}
 
 -- of one or another, by a test, with what it tells or without
 pub by-test : {A : Type 0} (P : A → Type 0) (t : Bool) (n k : A) → (t ≡ true → P n) → (t ≡ false → P k) → P (cond t n k)
@@ -52,30 +53,35 @@ distinct j k s e = eqb-false _ _ s (ap number e)
 
 pub record Keeps (r s : Run) : Type 0 where
   pub error : s .drive .error ≡ r .drive .error
+  pub amplifier : s .drive .amplifier ≡ r .drive .amplifier
   pub undriven : Undriven r s
 
 pub started-keeps : (w : Way) (here : ℕ) (s : Settings) (r : Run) → Keeps r (startedBy w here s r)
 unfolding idled toSpeed toPlace
-started-keeps Pulse here s r = record { error = refl; undriven = inr (refl, refl) }
-started-keeps Speed here s r = record { error = refl; undriven = inl (refl, λ e. absurd (not-off Velocity refl e)) }
-started-keeps Move here s r = record { error = refl; undriven = inl (refl, λ e. absurd (not-off Trapezoid refl e)) }
+started-keeps Pulse here s r = record { error = refl; amplifier = refl; undriven = inr (refl, refl) }
+started-keeps Speed here s r = record { error = refl; amplifier = refl; undriven = inl (refl, λ e. absurd (not-off Velocity refl e)) }
+started-keeps Move here s r = record { error = refl; amplifier = refl; undriven = inl (refl, λ e. absurd (not-off Trapezoid refl e)) }
+
+pub off-released : (r : Run) → Released (off r)
+unfolding off idled
+off-released r = record { mode = refl; speed = refl; output = refl; pulse = refl; memory = refl }
 
 off-keeps : (r : Run) → Keeps r (off r)
 unfolding off idled
-off-keeps r = record { error = refl; undriven = inr (refl, refl) }
+off-keeps r = record { error = refl; amplifier = refl; undriven = inr (refl, refl) }
 
 smooth-keeps : (r : Run) → Keeps r (smooth r)
 unfolding smooth toSpeed
 smooth-keeps r = either (Keeps r) (servoOff (r .drive .mode)) (off r) (toSpeed (r .profile .setpoint) (pos 0) (r .profile .acceleration) r)
     (off-keeps r)
-    (record { error = refl; undriven = inl (refl, λ e. absurd (not-off Velocity refl e)) })
+    (record { error = refl; amplifier = refl; undriven = inl (refl, λ e. absurd (not-off Velocity refl e)) })
 
 holding-keeps : (x : ℕ) (r : Run) → Keeps r (holding x r)
 unfolding holding
-holding-keeps x r = record { error = refl; undriven = inl (refl, λ e. absurd (not-off Hold refl e)) }
+holding-keeps x r = record { error = refl; amplifier = refl; undriven = inl (refl, λ e. absurd (not-off Hold refl e)) }
 
 pub halted-keeps : (h : Halt) (here x : ℕ) (r : Run) → Keeps r (haltedBy h here x r)
-halted-keeps Keep here x r = record { error = refl; undriven = still r }
+halted-keeps Keep here x r = record { error = refl; amplifier = refl; undriven = still r }
 halted-keeps Release here x r = off-keeps r
 halted-keeps Abrupt here x r = holding-keeps here r
 halted-keeps Smooth here x r = smooth-keeps r

@@ -13,28 +13,25 @@ use Rattle.servo_rules.specs.declared.Mode.the-variants.{Off, Pwm, Hold,
 use Rattle.servo_rules.specs.declared.Run.{Run}
 use Rattle.servo_rules.specs.declared.Servo.{Servo}
 use Rattle.servo_rules.specs.State.{positionAt, position, servoOff, withLast, idled, off}
-use Rattle.servo_rules.specs.Tick.{advanced, unpowered, putOut, tripped, filteredTo, servoed, pulsed, drivenBy, ran, ticked}
+use Rattle.servo_rules.specs.Tick.{advanced, putOut, tripped, filteredTo, servoed, pulsed, drivenBy, ran, ticked}
 use Rattle.servo_rules.specs.StopPromises.{Released}
 use Rattle.servo_rules.specs.TickPromises.{followed, remembered, worked, Ticks}
+use Rattle.servo_rules.proofs.Keeping.{off-released}
 use Rattle.servo_rules.proofs.Ends.{answer, tick-ends}
 
-unpowered-released : (r : Run) → Released (unpowered r) × (unpowered r .drive .amplifier ≡ false)
-unfolding unpowered idled off
-unpowered-released r = (record { mode = refl; speed = refl; output = refl; pulse = refl; memory = refl }, refl)
-
-tripped-released : (r : Run) → Released (tripped (advanced r) r) × (tripped (advanced r) r .drive .error ≡ true)
+pub tripped-released : (r : Run) → Released (tripped (advanced r) r) × (tripped (advanced r) r .drive .error ≡ true)
 unfolding tripped idled off
 tripped-released r = (record { mode = refl; speed = refl; output = refl; pulse = refl; memory = refl }, refl)
 
 module _ (power here : ℕ) (g : Gains) (r : Run) where
   -- what a tick makes of what runs at power 0, and at any other by the mode
-  at-low : power ≡ 0 → ran power here g r ≡ unpowered r
+  at-low : power ≡ 0 → ran power here g r ≡ off r
   unfolding ran
-  at-low e = ap (λ (t : Bool). cond t (unpowered r) (drivenBy (r .drive .mode) power here g r)) (eq-eqb _ _ e)
+  at-low e = rw (eq-eqb _ _ e) refl
 
   by-mode : (power ≡ 0 → ⊥) → ran power here g r ≡ drivenBy (r .drive .mode) power here g r
   unfolding ran
-  by-mode n = ap (λ (t : Bool). cond t (unpowered r) (drivenBy (r .drive .mode) power here g r)) (ne-eqb _ _ n)
+  by-mode n = rw (ne-eqb _ _ n) refl
 
   in-mode : (power ≡ 0 → ⊥) → (k : Mode) → r .drive .mode ≡ k → ran power here g r ≡ drivenBy k power here g r
   in-mode n k e = by-mode n ∙ ap (λ (k : Mode). drivenBy k power here g r) e
@@ -56,22 +53,12 @@ module _ (m : Servo) where
   -- no output without power 1
   no-output : (m .samples .waiting .power ≡ 1 → ⊥) → (m .run .drive .mode ≡ Off → m .run .drive .output ≡ pos 0)
       → ticked m .run .drive .output ≡ pos 0
-  unfolding unpowered pulsed putOut tripped idled off
+  unfolding pulsed putOut tripped idled off
   no-output n h = tick-ends (λ (s : Run). s .drive .output ≡ pos 0) m (record {
     low = λ e. refl;
     off = h;
     pwm = λ q. rw (ne-eqb _ _ n) refl;
     output = λ s y u. rw (ne-eqb _ _ n) refl;
-    trip = λ q. refl;
-  })
-
-  amplifier-stays : (m .samples .waiting .power ≡ 0 → ⊥) → ticked m .run .drive .amplifier ≡ m .run .drive .amplifier
-  unfolding pulsed tripped idled off
-  amplifier-stays n = tick-ends (λ (s : Run). s .drive .amplifier ≡ m .run .drive .amplifier) m (record {
-    low = λ e. absurd (n e);
-    off = λ e. refl;
-    pwm = λ q. refl;
-    output = λ s y u. refl;
     trip = λ q. refl;
   })
 
@@ -103,8 +90,7 @@ ticks m =
       tuning = refl;
       rates = refl;
       load = refl;
-      low = λ e. subst (λ (s : Run). Released s × (s .drive .amplifier ≡ false)) (sym (at-low power here g r e)) (unpowered-released r);
-      amplifier = amplifier-stays m;
+      low = λ e. subst Released (sym (at-low power here g r e)) (off-released r);
       unpowered = no-output m;
       off = λ n e.
           ap (λ (s : Run). record {

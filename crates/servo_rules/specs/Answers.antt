@@ -2,6 +2,7 @@
 use Prim.Native.Nat.{ℕ, _+_, _%_}
 use mathlib.Core.List.{List, [], _∷_}
 use mathlib.Core.Bool.{Bool, true, cond, _&&_}
+use lib.ListN.{getD}
 use lib.IntN.{pos, natAbs}
 use lib.Signed.{ltZ}
 use Rattle.line_receiver.specs.Frames.{Frame}
@@ -94,6 +95,10 @@ outputsFrom power d =
 
 abbrev pub outputsOf : Servo → List ℕ
 outputsOf m = outputsFrom (m .samples .latched .power) (m .run .drive)
+
+-- the byte of the enable line there
+abbrev pub enableLine : Servo → ℕ
+enableLine m = getD (outputsOf m) 2 0
 
 -- the servo as a module type
 abbrev pub servo : Any.Rules Servo Sample Order

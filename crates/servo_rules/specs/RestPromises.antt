@@ -3,6 +3,7 @@ use mathlib.Core.Path.{_≡_}
 use mathlib.Core.Logic.{_⊎_}
 use Prim.Native.Nat.{ℕ, _^_, _<_, _≤_}
 use mathlib.Core.Bool.{Bool, true, false}
+use lib.ListN.{getD}
 use lib.IntN.{ℤ, pos, natAbs}
 use Rattle.base_integers.specs.Whole.{difference}
 use Rattle.line_receiver.specs.Frames.{Frame}
@@ -17,12 +18,13 @@ use Rattle.servo_rules.specs.declared.Sample.{Sample}
 use Rattle.servo_rules.specs.declared.Mode.{Mode}
 use Rattle.servo_rules.specs.declared.Mode.the-variants.{Velocity, Trapezoid}
 use Rattle.servo_rules.specs.declared.Servo.{Servo}
+use Rattle.servo_rules.specs.Carried.{isSet}
 use Rattle.servo_rules.specs.State.{position, servoOff, started, sampled}
 use Rattle.servo_rules.specs.Perform.{can}
 use Rattle.servo_rules.specs.Tick.{ticked}
 use Rattle.servo_rules.specs.Answers.{request, execute}
 use Rattle.servo_rules.specs.LoadPromises.{Starting}
-use Rattle.servo_rules.specs.StopPromises.{Counted}
+use Rattle.servo_rules.specs.StopPromises.{Released, Counted}
 
 -- neither moving nor about to: no speed, no PWM value, no goal speed, no distance left
 pub record Rests (p : Profile) (mode : Mode) (value : ℤ) : Type 0 where
@@ -47,6 +49,22 @@ pub record StaysResting : Type 0 where
       → m .run .profile .setpoint < 2 ^ 48
       → Resting m
       → Resting (ticked m) × (ticked m .run .profile .setpoint ≡ m .run .profile .setpoint)
+
+-- 01 Load Trajectory, Start, Stop: the frames that turn a servo on, or start PWM, where they are executed: a Load with bit 7, a Start, a Stop with
+-- bit 2 or bit 4
+abbrev pub TurnsOn : Frame → Type 0
+TurnsOn f =
+    ((f .code ≡ 4) × (isSet 7 (getD (f .content) 0 0) ≡ true))
+    ⊎ ((f .code ≡ 5)
+    ⊎ ((f .code ≡ 7) × ((isSet 2 (getD (f .content) 0 0) ≡ true) ⊎ (isSet 4 (getD (f .content) 0 0) ≡ true))))
+
+-- A servo that is off stays off and drives nothing until such a frame is executed.
+pub record StaysOff : Type 0 where
+  pub frame : (f : Frame) (alone : Bool) (m : Servo)
+      → Released (m .run)
+      → (f .damaged ≡ false → execute f alone m .station .cause ≡ 0 → TurnsOn f → ⊥)
+      → Released (execute f alone m .run)
+  pub tick : (m : Servo) → Released (m .run) → Released (ticked m .run)
 
 -- how far the setpoint is from the position
 abbrev pub following : Servo → ℤ

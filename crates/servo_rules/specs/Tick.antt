@@ -1,7 +1,7 @@
 -- The servo's tick (document 01, "Tick" and "Filter"): the sample is latched, then power, then the profile, then the filter.
 use mathlib.Core.Path.{_≡_}
 use Prim.Native.Nat.{ℕ, _<_, _≤_}
-use mathlib.Core.Bool.{true, false, cond}
+use mathlib.Core.Bool.{true, cond}
 use lib.Dec.{eqb}
 use lib.IntN.{ℤ, pos, natAbs}
 use Rattle.base_integers.specs.Whole.{difference}
@@ -15,7 +15,7 @@ use Rattle.servo_rules.specs.declared.Mode.{Mode}
 use Rattle.servo_rules.specs.declared.Mode.the-variants.{Off, Pwm, Hold, Velocity, Trapezoid}
 use Rattle.servo_rules.specs.declared.Run.{Run}
 use Rattle.servo_rules.specs.declared.Servo.{Servo}
-use Rattle.servo_rules.specs.State.{positionAt, position, good, withLast, running, withProfile, withDrive, putting, erring, amplified, off}
+use Rattle.servo_rules.specs.State.{positionAt, position, good, withLast, running, withProfile, withDrive, putting, erring, off}
 
 -- 01 Tick: the profile's step
 abbrev pub advancedBy : Mode → Profile → Profile
@@ -27,10 +27,6 @@ advancedBy Trapezoid p = byTrapezoid p
 
 unfoldable pub advanced : Run → Profile
 advanced r = advancedBy (r .drive .mode) (r .profile)
-
--- 01 Tick: at power 0 servo and PWM go off, and the amplifier bit is cleared
-unfoldable pub unpowered : Run → Run
-unpowered r = amplified false (off r)
 
 -- 01 Filter: at power 2 the output is 0, all else runs
 unfoldable pub putOut : ℕ → ℤ → ℤ
@@ -62,9 +58,10 @@ drivenBy Hold power here g r = servoed power here g r
 drivenBy Velocity power here g r = servoed power here g r
 drivenBy Trapezoid power here g r = servoed power here g r
 
--- what a tick makes of what runs, at the latched power and the position here, with these gains and limits
+-- what a tick makes of what runs, at the latched power and the position here, with these gains and limits. 01 Tick, 02 P4: at power 0 servo and PWM
+-- go off, and the amplifier bit stays.
 unfoldable pub ran : ℕ → ℕ → Gains → Run → Run
-ran power here g r = cond (eqb power 0) (unpowered r) (drivenBy (r .drive .mode) power here g r)
+ran power here g r = cond (eqb power 0) (off r) (drivenBy (r .drive .mode) power here g r)
 
 -- 01 Tick: the waiting sample is latched and the position before the tick kept; then what runs goes on, at the new power and position
 unfoldable pub ticked : Servo → Servo

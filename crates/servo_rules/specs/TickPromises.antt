@@ -3,6 +3,7 @@ use mathlib.Core.Path.{_≡_}
 use mathlib.Core.Logic.{_⊎_}
 use Prim.Native.Nat.{_≤_, _<_}
 use mathlib.Core.Bool.{Bool, true, false}
+use lib.ListN.{getD}
 use lib.IntN.{ℤ, pos, natAbs}
 use Rattle.base_integers.specs.Whole.{difference}
 use Rattle.line_receiver.specs.Frames.{Frame}
@@ -15,10 +16,11 @@ use Rattle.servo_rules.specs.declared.Order.the-variants.{ClearBits}
 use Rattle.servo_rules.specs.declared.Sample.{Sample}
 use Rattle.servo_rules.specs.declared.Mode.the-variants.{Off, Pwm, Hold, Velocity, Trapezoid}
 use Rattle.servo_rules.specs.declared.Servo.{Servo}
+use Rattle.servo_rules.specs.Carried.{isSet}
 use Rattle.servo_rules.specs.State.{positionAt, position, servoOff, started, withLast, withRun, sampled, erring}
 use Rattle.servo_rules.specs.Perform.{perform}
 use Rattle.servo_rules.specs.Tick.{advanced, followedAt, ticked}
-use Rattle.servo_rules.specs.Answers.{servo, request, execute}
+use Rattle.servo_rules.specs.Answers.{enableLine, servo, request, execute}
 use Rattle.servo_rules.specs.StopPromises.{Released}
 
 -- the following error that a tick's filter sees: at the new setpoint and the new position
@@ -42,10 +44,8 @@ pub record Ticking (m : Servo) : Type 0 where
   pub tuning : ticked m .settings .tuning ≡ m .settings .tuning
   pub rates : ticked m .settings .rates ≡ m .settings .rates
   pub load : ticked m .settings .load ≡ m .settings .load
-  -- power 0 ends in off with the amplifier bit clear
-  pub low : m .samples .waiting .power ≡ 0 → Released (ticked m .run) × (ticked m .run .drive .amplifier ≡ false)
-  -- any other power leaves that bit
-  pub amplifier : (m .samples .waiting .power ≡ 0 → ⊥) → ticked m .run .drive .amplifier ≡ m .run .drive .amplifier
+  -- power 0 ends in off
+  pub low : m .samples .waiting .power ≡ 0 → Released (ticked m .run)
   -- no power but 1 has an output
   pub unpowered : (m .samples .waiting .power ≡ 1 → ⊥) → (m .run .drive .mode ≡ Off → m .run .drive .output ≡ pos 0)
       → ticked m .run .drive .output ≡ pos 0
@@ -127,3 +127,28 @@ pub record ErrorBit : Type 0 where
   pub tick : (m : Servo)
       → (ticked m .run .drive .error ≡ m .run .drive .error)
       ⊎ ((ticked m .run .drive .error ≡ true) × (m .settings .tuning .gains .el < natAbs (followed m)))
+
+-- 01 Stop, Hard Reset: the frames that set or clear the amplifier bit where they are executed
+abbrev pub Switches : Frame → Type 0
+Switches f = (f .code ≡ 7) ⊎ (f .code ≡ 15)
+
+-- An executed Stop puts the amplifier bit to its bit 0, an executed Hard Reset clears it, and no other frame changes it. No tick does, at whatever
+-- power, so the enable line after a tick is the bit before it and the power that the tick latched (01 Stop, Enable line; 02 P4).
+pub record AmplifierBit : Type 0 where
+  pub stop : (f : Frame) (alone : Bool) (m : Servo)
+      → f .damaged ≡ false
+      → f .code ≡ 7
+      → execute f alone m .station .cause ≡ 0
+      → execute f alone m .run .drive .amplifier ≡ isSet 0 (getD (f .content) 0 0)
+  pub reset : (f : Frame) (alone : Bool) (m : Servo)
+      → f .damaged ≡ false
+      → f .code ≡ 15
+      → execute f alone m .station .cause ≡ 0
+      → execute f alone m .run .drive .amplifier ≡ false
+  pub frame : (f : Frame) (alone : Bool) (m : Servo)
+      → (f .damaged ≡ false → execute f alone m .station .cause ≡ 0 → Switches f → ⊥)
+      → execute f alone m .run .drive .amplifier ≡ m .run .drive .amplifier
+  pub tick : (m : Servo) → ticked m .run .drive .amplifier ≡ m .run .drive .amplifier
+  pub high : (m : Servo) → m .run .drive .amplifier ≡ true → m .samples .waiting .power ≡ 1 → enableLine (ticked m) ≡ 1
+  pub unset : (m : Servo) → m .run .drive .amplifier ≡ false → enableLine (ticked m) ≡ 0
+  pub unpowered : (m : Servo) → (m .samples .waiting .power ≡ 1 → ⊥) → enableLine (ticked m) ≡ 0

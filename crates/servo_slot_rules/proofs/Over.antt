@@ -18,7 +18,7 @@ use Rattle.servo_rules.specs.declared.Mode.the-variants.{Off, Pwm, Hold, Veloci
 use Rattle.servo_rules.specs.declared.Run.{Run}
 use Rattle.servo_rules.specs.declared.Servo.{Servo}
 use Rattle.servo_rules.specs.State.{position, withStation, withRun, sampled, withProfile, idled, off}
-use Rattle.servo_rules.specs.Tick.{unpowered, advancedBy, advanced, tripped, filteredTo, pulsed, ticked}
+use Rattle.servo_rules.specs.Tick.{advancedBy, advanced, tripped, filteredTo, pulsed, ticked}
 use Rattle.servo_rules.proofs.Ends.{tick-ends}
 use Rattle.servo_slot_rules.specs.Slot.{sample, slot, waitingAt, servoSize, encodeOf, decodeOf, okOf}
 use Rattle.servo_slot_rules.specs.Parts.{tickedOver}
@@ -42,7 +42,7 @@ advanced-steps Velocity p = refl
 advanced-steps Trapezoid p = refl
 
 tick-goes : (m : Servo) → onward (m .run) (ticked m .run) ≡ ticked m .run
-unfolding unpowered advanced pulsed tripped idled off
+unfolding advanced pulsed tripped idled off
 tick-goes m =
     let r : Run = m .run in
     let steps = advanced-steps (r .drive .mode) (r .profile) in

@@ -1,6 +1,6 @@
 -- A tick leaves a servo such as a slot can hold. Assumes nothing.
 use mathlib.Core.Path.{_≡_, refl}
-use mathlib.Core.Bool.{true, false}
+use mathlib.Core.Bool.{true}
 use Prim.Native.Nat.{ℕ, _≤_}
 use native.Mathlib.Omega.{arith}
 use borrow.Author.Tests.{eqb-false, ne-eqb}
@@ -19,8 +19,8 @@ use Rattle.servo_rules.specs.declared.Mode.{Mode}
 use Rattle.servo_rules.specs.declared.Mode.the-variants.{Off, Pwm, Hold, Velocity, Trapezoid}
 use Rattle.servo_rules.specs.declared.Run.{Run}
 use Rattle.servo_rules.specs.declared.Servo.{Servo}
-use Rattle.servo_rules.specs.State.{positionAt, good, running, putting, withProfile, erring, amplified, idled, off}
-use Rattle.servo_rules.specs.Tick.{unpowered, advanced, putOut, tripped, filteredTo, followedAt, servoed, pulsed, drivenBy, ran, ticked}
+use Rattle.servo_rules.specs.State.{positionAt, good, running, putting, withProfile, erring, idled, off}
+use Rattle.servo_rules.specs.Tick.{advanced, putOut, tripped, filteredTo, followedAt, servoed, pulsed, drivenBy, ran, ticked}
 use Rattle.servo_rules.proofs.Keeping.{by-test, either}
 use Rattle.servo_rules.proofs.Ranges.{advanced-ranged}
 use Rattle.servo_slot_rules.specs.Slot.{gains}
@@ -42,10 +42,6 @@ module _ (power : ℕ) (u : ℤ) where
 
 -- what ran at one power runs on at another
 module _ {before : ℕ} (power here : ℕ) (g : Gains) (h : gains .codec .fits g) {r : Run} (s : Sane before r) where
-  unpowered-sane : Sane power (unpowered r)
-  unfolding unpowered off idled
-  unpowered-sane = off-sane power (amplified false r) (s .profile)
-
   tripped-sane : Sane power (tripped (advanced r) r)
   unfolding tripped off idled
   tripped-sane = off-sane power (erring true (withProfile (advanced r) r)) (advanced-ranged r (s .profile))
@@ -99,7 +95,7 @@ module _ {before : ℕ} (power here : ℕ) (g : Gains) (h : gains .codec .fits g
   ran-sane : Sane power (ran power here g r)
   unfolding ran
   ran-sane =
-      by-test (Sane power) (eqb power 0) (unpowered r) (drivenBy (r .drive .mode) power here g r) (λ e. unpowered-sane)
+      by-test (Sane power) (eqb power 0) (off r) (drivenBy (r .drive .mode) power here g r) (λ e. off-sane power r (s .profile))
       (λ e. driven-sane (r .drive .mode) refl (s .mode) (eqb-false _ _ e))
 
 pub tick-good : {m : Servo} → Good m → Good (ticked m)

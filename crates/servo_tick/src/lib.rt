@@ -1,20 +1,13 @@
 // What a tick makes of what runs in a servo, by value: power, then the profile, then the filter.
 ghost use mathlib.Core.Path.{_≡_};
 ghost use Rattle.servo_rules.specs.State.{putting};
-ghost use Rattle.servo_rules.specs.Tick.{unpowered, advanced, putOut, tripped, servoed, pulsed, drivenBy, ran, Steady};
+ghost use Rattle.servo_rules.specs.Tick.{advanced, putOut, tripped, servoed, pulsed, drivenBy, ran, Steady};
 use servo_filter::Filtered;
 use servo_filter::Gains;
 use servo_motion::Profile;
 use servo_rules::Drive;
 use servo_rules::Mode;
 use servo_rules::Run;
-
-// At power 0 servo and PWM go off, and the amplifier bit is cleared.
-fn unpowered(r: Run) -> Run
-    ensures { λ q. ⌜ q ≡ unpowered r ⌝ }
-{
-    servo_run::amplified(servo_run::off(r), false)
-}
 
 fn advanced(r: Run) -> Profile
     requires { ⌜ Steady r ⌝ }
@@ -102,13 +95,13 @@ fn driven(power: u8, here: u32, g: Gains, r: Run) -> Run
     }
 }
 
-// A tick, at the latched power and the position here, with these gains and limits.
+// A tick, at the latched power and the position here, with these gains and limits. At power 0 the amplifier bit stays.
 pub fn ran(power: u8, here: u32, g: Gains, r: Run) -> Run
     requires { ⌜ Steady r ⌝ }
     ensures { λ q. ⌜ q ≡ ran power here g r ⌝ }
 {
     if power == 0 {
-        return unpowered(r);
+        return servo_run::off(r);
     }
     driven(power, here, g, r)
 }

@@ -1,7 +1,7 @@
-//! Writes every capture's `.nmc` and `.out` anew from its `.txt`. Where the model would print something else than the
-//! text says, it tells both and fails: one of the two is wrong, and the paper decides which.
+//! Writes every capture's `.nmc` and `.out` anew from its `.txt`. Where the model would print or drive something else
+//! than the text says, it tells both and fails: one of the two is wrong, and the paper decides which.
 
-use doljurven_tests::{captures, model};
+use doljurven_tests::{captures, model, record::Model, slips::Slip};
 use std::{fs, process::ExitCode};
 
 fn main() -> ExitCode {
@@ -21,6 +21,10 @@ fn main() -> ExitCode {
         let by_model = model::replay(&capture.bytes);
         if by_model != capture.printed {
             println!("{}: the text says\n{}the model says\n{by_model}", path.display(), capture.printed);
+            code = ExitCode::FAILURE;
+        }
+        for told in capture.driven_otherwise(&Model { slip: Slip::None }) {
+            println!("{}, by the model: {told}", path.display());
             code = ExitCode::FAILURE;
         }
     }

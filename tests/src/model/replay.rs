@@ -5,6 +5,40 @@ use crate::branches::{reach, Branch};
 use crate::calls::MOST_MODULES;
 use crate::slips::Slip;
 
+/// A record of a replay file by its kind: a module's type, or an event. Whether it can be played is another matter.
+pub enum Record {
+    Module(u8),
+    Event(Event),
+}
+
+pub enum Event {
+    LineByte { mark: u8, byte: u8 },
+    ServoSample { place: u8, power: u8, ad: u8, raw: u32 },
+    IoSample { place: u8, inputs: u16, ad: [u8; 3], counter: u32 },
+    Tick,
+}
+
+impl Record {
+    /// The record at the head of a file and its length, or nothing where its kind is unknown or it is cut short.
+    pub fn first(file: &[u8]) -> Option<(Record, usize)> {
+        let body_length = [1, 2, 7, 10, 0];
+        let kind = usize::from(*file.first()?);
+        let length = 1 + body_length.get(kind).or_else(|| bad(Branch::ReplayKind))?;
+        let four = |bytes: &[u8]| u32::from_le_bytes(bytes.try_into().expect("four bytes"));
+        let event = match *file.get(..length).or_else(|| bad(Branch::ReplayCut))? {
+            [0, module_type] => return Some((Record::Module(module_type), length)),
+            [1, mark, byte] => Event::LineByte { mark, byte },
+            [2, place, power, ad, ref raw @ ..] => Event::ServoSample { place, power, ad, raw: four(raw) },
+            [3, place, low, high, ad1, ad2, ad3, ref counter @ ..] => {
+                let inputs = u16::from_le_bytes([low, high]);
+                Event::IoSample { place, inputs, ad: [ad1, ad2, ad3], counter: four(counter) }
+            }
+            _ => Event::Tick,
+        };
+        Some((Record::Event(event), length))
+    }
+}
+
 /// What the replay program prints for a file.
 pub fn replay(file: &[u8]) -> String {
     let mut printed = String::new();
@@ -37,39 +71,32 @@ fn replay_record(
     network: &mut Option<Network>,
     printed: &mut String,
 ) -> Option<usize> {
-    let body_length = [1, 2, 7, 10, 0];
-    let kind = usize::from(file[0]);
-    let body_length = body_length.get(kind).or_else(|| bad(Branch::ReplayKind))?;
-    let length = 1 + body_length;
-    let body = file.get(1..length).or_else(|| bad(Branch::ReplayCut))?;
-    if kind == 0 {
-        if network.is_some() {
-            return bad(Branch::ReplayModuleLate);
+    let (record, length) = Record::first(file)?;
+    match record {
+        Record::Module(_) if network.is_some() => return bad(Branch::ReplayModuleLate),
+        Record::Module(_) if modules.len() == MOST_MODULES => return bad(Branch::ReplayModuleBeyond),
+        Record::Module(module_type) => {
+            let module = Module::power_up(module_type).or_else(|| bad(Branch::ReplayModuleType))?;
+            reach(Branch::ReplayModule);
+            modules.push(module);
         }
-        if modules.len() == MOST_MODULES {
-            return bad(Branch::ReplayModuleBeyond);
+        Record::Event(_) if modules.is_empty() => return bad(Branch::ReplayNoModule),
+        Record::Event(event) => {
+            let network = network.get_or_insert_with(|| Network::power_up(modules.clone(), Slip::None));
+            replay_event(event, network, printed)?;
         }
-        let module = Module::power_up(body[0]).or_else(|| bad(Branch::ReplayModuleType))?;
-        reach(Branch::ReplayModule);
-        modules.push(module);
-        return Some(length);
     }
-    if modules.is_empty() {
-        return bad(Branch::ReplayNoModule);
-    }
-    let network = network.get_or_insert_with(|| Network::power_up(modules.clone(), Slip::None));
-    replay_call(kind, body, network, printed)?;
     Some(length)
 }
 
-/// The call that a record of kind 1 to 4 makes, or nothing where it is refused.
-fn replay_call(kind: usize, body: &[u8], network: &mut Network, printed: &mut String) -> Option<()> {
-    match kind {
-        1 => {
-            if body[0] > 1 {
+/// An event brought about in the network, or nothing where it is refused.
+fn replay_event(event: Event, network: &mut Network, printed: &mut String) -> Option<()> {
+    match event {
+        Event::LineByte { mark, byte } => {
+            if mark > 1 {
                 return bad(Branch::ReplayMark);
             }
-            let replies = network.byte(body[0] == 1, body[1]).map_or(Vec::new(), |ended| ended.replies);
+            let replies = network.byte(mark == 1, byte).map_or(Vec::new(), |ended| ended.replies);
             reach(if replies.is_empty() { Branch::ReplayByte } else { Branch::ReplayReply });
             for (place, reply) in replies {
                 printed.push_str(&place.to_string());
@@ -79,22 +106,19 @@ fn replay_call(kind: usize, body: &[u8], network: &mut Network, printed: &mut St
                 printed.push('\n');
             }
         }
-        2 => {
-            let raw = u32::from_le_bytes([body[3], body[4], body[5], body[6]]);
-            if network.servo_sample(u32::from(body[0]), raw, u32::from(body[1]), body[2]).is_err() {
+        Event::ServoSample { place, power, ad, raw } => {
+            if network.servo_sample(place.into(), raw, power.into(), ad).is_err() {
                 return bad(Branch::ReplayServoSampleRefused);
             }
             reach(Branch::ReplayServoSample);
         }
-        3 => {
-            let inputs = u32::from(u16::from_le_bytes([body[1], body[2]]));
-            let counter = u32::from_le_bytes([body[6], body[7], body[8], body[9]]);
-            if network.io_sample(u32::from(body[0]), inputs, [body[3], body[4], body[5]], counter).is_err() {
+        Event::IoSample { place, inputs, ad, counter } => {
+            if network.io_sample(place.into(), inputs.into(), ad, counter).is_err() {
                 return bad(Branch::ReplayIoSampleRefused);
             }
             reach(Branch::ReplayIoSample);
         }
-        _ => {
+        Event::Tick => {
             reach(Branch::ReplayTick);
             network.tick();
         }

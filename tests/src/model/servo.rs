@@ -245,6 +245,20 @@ impl Servo {
         self.error |= slip == Slip::OffSetsErrorBit;
     }
 
+    /// A tick at power 0: servo and PWM go off. A waiting load stays, and the amplifier bit too, so that the enable line
+    /// comes back with power.
+    fn lose_power(&mut self, slip: Slip) {
+        if slip == Slip::LowPowerLeavesServoOn {
+            self.output = 0;
+            return;
+        }
+        self.go_off(slip);
+        self.amplifier &= slip != Slip::LowPowerClearsAmplifier;
+        if slip == Slip::LowPowerDropsLoad {
+            self.load = Load::default();
+        }
+    }
+
     fn hold(&mut self, at: u32, slip: Slip) -> Result<(), u8> {
         let any_power = slip == Slip::HoldNeedsNoPower;
         let can = all_hold(&[
@@ -588,9 +602,22 @@ impl Servo {
         if (kinds != 0 && slip != Slip::StopKeepsLoad) || slip == Slip::AmplifierDropsLoad {
             self.load = Load::default();
         }
-        self.amplifier = control & 1 == 1 || (self.amplifier && slip == Slip::StopNeverDisables);
-        either(self.amplifier, Branch::StopSetsAmplifier, Branch::StopClearsAmplifier);
+        self.set_amplifier(control & 1 == 1, slip);
         Ok(())
+    }
+
+    /// Stop sets or clears the amplifier bit, whatever power is.
+    fn set_amplifier(&mut self, set: bool, slip: Slip) {
+        let before = self.amplifier;
+        self.amplifier = match slip {
+            Slip::StopNeverDisables => set || before,
+            Slip::AmplifierNeedsPower => set && self.latched.power == GOOD,
+            _ => set,
+        };
+        either(self.amplifier, Branch::StopSetsAmplifier, Branch::StopClearsAmplifier);
+        if self.latched.power == LOW && self.amplifier != before {
+            either(self.amplifier, Branch::StopSetsAmplifierAtLow, Branch::StopClearsAmplifierAtLow);
+        }
     }
 
     fn stop_motion(&mut self, kinds: u8, rest: &[u8], slip: Slip) -> Result<(), u8> {
@@ -878,6 +905,7 @@ impl Device for Servo {
             self.station.low = before.station.low;
         }
         self.error = slip != Slip::ResetClearsErrorBit;
+        self.amplifier = before.amplifier && slip == Slip::ResetKeepsAmplifier;
     }
 
     fn item(&self, bit: usize, slip: Slip) -> Vec<u8> {
@@ -910,17 +938,20 @@ impl Device for Servo {
 
     fn tick(&mut self, slip: Slip) {
         self.last_position = self.position();
+        let power_before = self.latched.power;
         self.latched = self.waiting.clone();
         if slip == Slip::SampleOnce {
             self.waiting = ServoSample::default();
         }
+        match (self.amplifier, power_before, self.latched.power) {
+            (true, _, LOW) => reach(Branch::TickPowerLowAmplifier),
+            (true, LOW, GOOD) => reach(Branch::EnableBackFromLow),
+            (true, HIGH, GOOD) => reach(Branch::EnableBackFromHigh),
+            _ => {}
+        }
         if self.latched.power == LOW || (self.latched.power == HIGH && slip == Slip::HighPowerGoesOff) {
             reach(Branch::TickPowerLow);
-            self.go_off(slip);
-            self.amplifier &= slip == Slip::LowPowerKeepsAmplifier;
-            if slip == Slip::LowPowerDropsLoad {
-                self.load = Load::default();
-            }
+            self.lose_power(slip);
             return;
         }
         reach(match self.mode {
@@ -944,6 +975,7 @@ impl Device for Servo {
         if self.latched.power == HIGH && slip != Slip::HighPowerDrives {
             reach(Branch::TickPowerHigh);
             self.output = 0;
+            self.amplifier &= slip != Slip::HighPowerClearsAmplifier;
         }
     }
 

@@ -3,7 +3,8 @@ use borrow.Author.Tests.{eq-eqb, ne-eqb}
 use lib.Dec.{eqb}
 use mathlib.Core.Bool.{Bool, cond}
 use mathlib.Core.Path.{_≡_, sym, ap, _∙_}
-use Rattle.servo_rules.specs.Tick.{ran, unpowered, drivenBy}
+use Rattle.servo_rules.specs.State.{off}
+use Rattle.servo_rules.specs.Tick.{ran, drivenBy}
 use borrow.Author.Needs.{needs}
 use Rattle.servo_tick.proofs.ran.Statement.{statement}
 use Rattle.servo_tick.proofs.ran.Tie as tie
@@ -11,12 +12,12 @@ use Rattle.servo_tick.proofs.ran.Tie as tie
 -- what a tick comes to, by whether power is low
 at-power : (s : tie.Start) (t : Bool) → eqb (s .args .power) 0 ≡ t
     → let a = s .args in
-    cond t (unpowered (a .r)) (drivenBy (a .r .drive .mode) (a .power) (a .here) (a .g) (a .r)) ≡ ran (a .power) (a .here) (a .g) (a .r)
+    cond t (off (a .r)) (drivenBy (a .r .drive .mode) (a .power) (a .here) (a .g) (a .r)) ≡ ran (a .power) (a .here) (a .g) (a .r)
 unfolding ran
-at-power s t e = let a = s .args in sym (ap (λ (u : Bool). cond u (unpowered (a .r)) (drivenBy (a .r .drive .mode) (a .power) (a .here) (a .g) (a .r))) e)
+at-power s t e = let a = s .args in sym (ap (λ (u : Bool). cond u (off (a .r)) (drivenBy (a .r .drive .mode) (a .power) (a .here) (a .g) (a .r))) e)
 
 returns : tie.Need-returns
-returns c = c .unpowered .ensures ∙ at-power (c .before .before) _ (eq-eqb _ _ (c .before .if1 .taken))
+returns c = c .off .ensures ∙ at-power (c .before .before) _ (eq-eqb _ _ (c .before .if1 .taken))
 
 returns-2 : tie.Need-returns-2
 returns-2 c = c .driven .ensures ∙ at-power (c .before .before) _ (ne-eqb _ _ (c .before .if1 .left))
