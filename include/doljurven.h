@@ -113,9 +113,9 @@ uint32_t nmc_tick(uint8_t *net, size_t net_len);
  * size of the motor output (0 to 255), 1 if it is negative, enable line, then
  * five of 0. The enable line is the amplifier bit, which Stop sets or clears
  * and Hard Reset clears, while power is good: it drops in a power dip and comes
- * back with power, but the servo stays off until it is started anew. I/O:
- * directions of bits 1 to 8 and 9 to 12 (1 is input), output register of the
- * same, PWM 1, PWM 2, 0, 0.
+ * back with power. Low power turns the servo off until it is started anew.
+ * I/O: directions of bits 1 to 8 and 9 to 12 (1 is input), output register of
+ * the same, PWM 1, PWM 2, 0, 0.
  */
 uint32_t nmc_outputs(const uint8_t *net, size_t net_len, uint32_t place, uint8_t *outputs);
 

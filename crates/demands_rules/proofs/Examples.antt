@@ -144,7 +144,7 @@ travels = (refl, refl)
 abbrev pub types : List ℕ
 types = typeNumber ∷ []
 
-abbrev zeros : List ℕ
+abbrev pub zeros : List ℕ
 zeros = replicate recordSize 0
 
 abbrev pub lent : List ℕ

@@ -13,7 +13,6 @@ pub mod Question
 pub mod Order
 pub mod OnTheLine
 pub mod Dipping
-pub mod Dips
 pub mod Alive
 pub mod Sheet
 pub mod Racing
@@ -23,6 +22,7 @@ pub mod Mirroring
 pub mod OnTheWay
 pub mod Meaning
 pub mod Examples
+pub mod Dips
 mod Computing
 pub mod TimeExample
 pub mod QuickestExamples
