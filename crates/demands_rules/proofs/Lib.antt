@@ -1,5 +1,5 @@
 mod Types
-mod Known
+mod Reading
 mod Alike
 pub mod Calls
 pub mod Motion

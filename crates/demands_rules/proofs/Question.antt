@@ -19,7 +19,7 @@ use Rattle.types_rules.specs.Table.{servo}
 use Rattle.types_rules.proofs.Promised.{every-type}
 use Rattle.demands_rules.specs.Motion.{byStart, byLoad, ofLoad, byStopHere, OnlyTheCause}
 use Rattle.demands_rules.specs.Question.{Missed, elsewhere, damaged, short, MissedTells, NoneReady, IsStart, Question, Twice}
-use Rattle.demands_rules.proofs.Known.{start-asks, short-asks, not-keep}
+use Rattle.demands_rules.proofs.Reading.{start-asks, short-asks, not-keep}
 
 -- without a complete load no Start can be carried out, whatever the cause is
 unready : (c : ℕ) (m : Servo) → NoneReady m → can Start (withCause c m) ≡ false

@@ -31,7 +31,7 @@ use Rattle.servo_slot_rules.proofs.Good.{InMode, good}
 use Rattle.demands_history_rules.specs.Calls.{Call}
 use Rattle.demands_rules.specs.Place.{Stands, Executed, None, Since}
 use Rattle.demands_rules.specs.Sent.{Has, pulseIn, signedIn, Halts, encoder, HeldAt, Loaded, Given, Started, itself, byStart, Began, SlowingSent, HoldSent, WasSent, numberIn}
-use Rattle.demands_rules.proofs.Known.{WayBits, way-bits}
+use Rattle.demands_rules.proofs.Reading.{WayBits, way-bits}
 use Rattle.demands_rules.proofs.Alike.{Alike}
 use Rattle.demands_rules.proofs.Placing.{Only}
 use Rattle.demands_rules.proofs.Motion.{zero?}

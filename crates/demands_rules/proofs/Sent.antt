@@ -59,7 +59,7 @@ use Rattle.demands_rules.specs.Motion.{Moves}
 use Rattle.demands_rules.specs.Question.{IsStart}
 use Rattle.demands_rules.specs.Place.{after, Stands, Executed}
 use Rattle.demands_rules.specs.Sent.{control, Has, Lacks, WholeLoad, Halts, Drops, encoder, Loaded, Given, itself, byStart, WasSent, WhatMovesWasSent, numberIn}
-use Rattle.demands_rules.proofs.Known.{spares, not-keep, keep-spares}
+use Rattle.demands_rules.proofs.Reading.{spares, not-keep, keep-spares}
 use Rattle.demands_rules.proofs.Alike.{Alike, alike, shift-alike, tick-alike}
 use Rattle.demands_rules.proofs.Making.{fits-at, Silent, Made, same, framed, measured, timed, set-up-is}
 use Rattle.demands_rules.proofs.Placing.{valid-after, untouched, stood-before, Only, executed-by, Carries, carried}
