@@ -1,5 +1,5 @@
--- Through a power dip (document 02, P4): the enable lines come back as they were, and nothing moves until a start. Each promise is proved under its
--- name, with small letters, in proofs/.
+-- Through a power dip (document 02, P4): the enable lines come back as they were, and after low power nothing moves until a start. Each promise is
+-- proved under its name, with small letters, in proofs/.
 use mathlib.Core.Path.{_≡_}
 use mathlib.Core.Logic.{_⊎_}
 use Prim.Native.Nat.{ℕ, _<_, _≤_}
