@@ -1,6 +1,6 @@
 /*
- * Document 01 with P1 of 02 in plain C11. It shares nothing with the library,
- * so that the two can be held against each other.
+ * Document 01 with P1, P4 and P5 of 02 in plain C11. It shares nothing with
+ * the library, so that the two can be held against each other.
  */
 #include "plain.h"
 
@@ -187,6 +187,7 @@ static void idle_servo(struct plain_servo *s, enum plain_mode mode, int32_t pwm)
     s->output = 0;
     s->integral = 0;
     s->previous_error = 0;
+    s->cut = 0;
 }
 
 static void power_up_servo(struct plain_servo *s)
@@ -209,11 +210,16 @@ static void filter(struct plain_servo *s)
         s->error = 1;
         return;
     }
-    s->integral = (int32_t)held(s->integral + e, g->il);
+    int64_t integral = held(s->integral + e, g->il);
     /* 64 bits: u reaches 2,684,141,572 */
-    int64_t u = g->kp * e + g->kd * (e - s->previous_error) + g->ki * (int64_t)s->integral;
+    int64_t wanted = (g->kp * e + g->kd * (e - s->previous_error) + g->ki * integral) / 256;
+    int64_t output = held(wanted, g->ol);
+    /* where OL cuts something off, the integral stays what it was, be that beyond IL or not */
+    s->cut = output != wanted;
+    if (!s->cut)
+        s->integral = (int32_t)integral;
     s->previous_error = (int32_t)e;
-    s->output = s->latched.power == POWER_GOOD ? (int32_t)held(u / 256, g->ol) : 0;
+    s->output = s->latched.power == POWER_GOOD ? (int32_t)output : 0;
 }
 
 static void tick_servo(struct plain_servo *s)
@@ -463,7 +469,7 @@ static bool move_done(const struct plain_servo *s)
 
 static uint8_t servo_status(const struct plain_servo *s)
 {
-    return (uint8_t)(move_done(s) | (s->latched.power == POWER_GOOD) << 3 | s->error << 4);
+    return (uint8_t)(move_done(s) | s->cut << 2 | (s->latched.power == POWER_GOOD) << 3 | s->error << 4);
 }
 
 static void servo_items(const struct plain_servo *s, uint32_t items[ITEMS])
@@ -757,7 +763,7 @@ static bool ranges_hold(const struct plain_servo *s)
            s->acceleration <= FASTEST && s->top_speed <= FASTEST &&
            within(s->integral, MOST_GAIN) && within(s->previous_error, MOST_ERROR) &&
            s->mode <= PLAIN_TRAPEZOID && within(s->pwm, MOST_OUTPUT) &&
-           within(s->output, MOST_OUTPUT) && s->error <= 1 && s->amplifier <= 1;
+           within(s->output, MOST_OUTPUT) && s->error <= 1 && s->amplifier <= 1 && s->cut <= 1;
 }
 
 /* A trapezoid runs toward a goal that is not half the range away and can still stop within the distance left. */
@@ -776,7 +782,7 @@ static bool mode_holds(const struct plain_servo *s)
 {
     if (s->latched.power != POWER_GOOD && s->output != 0)
         return false;
-    bool emptied = s->integral == 0 && s->previous_error == 0;
+    bool emptied = s->integral == 0 && s->previous_error == 0 && !s->cut;
     if (s->mode == PLAIN_OFF)
         return s->speed == 0 && s->output == 0 && emptied && s->pwm == 0;
     if (s->error || s->latched.power == POWER_LOW)

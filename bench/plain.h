@@ -1,9 +1,9 @@
 /*
- * Document 01 with P1 of 02 in plain C, to measure the library against: the
- * same calls and the same answers on a network of typed structs. plain.c is
- * compiled twice: as it stands (plain_...) it believes the network that it is
- * lent, with PLAIN_CHECKS (checked_...) it tests the list for refusal 16 at
- * each call.
+ * Document 01 with P1, P4 and P5 of 02 in plain C, to measure the library
+ * against: the same calls and the same answers on a network of typed structs.
+ * plain.c is compiled twice: as it stands (plain_...) it believes the network
+ * that it is lent, with PLAIN_CHECKS (checked_...) it tests the list for
+ * refusal 16 at each call.
  */
 #ifndef PLAIN_H
 #define PLAIN_H
@@ -81,7 +81,7 @@ struct plain_servo {
     uint32_t setpoint; /* whole counts */
     uint16_t fraction; /* and 65,536ths of one */
     uint8_t mode;
-    plain_flag error, amplifier;
+    plain_flag error, amplifier, cut; /* cut: there was more to put out than OL in the last filter tick */
     int32_t speed, goal_speed;
     uint32_t goal, acceleration, top_speed; /* of the profile last started */
     int32_t integral, previous_error;

@@ -2,8 +2,8 @@
  * Holds plain C to the library, so that what is measured against it is the
  * same document: over long histories, led to where modules hear and execute,
  * both builds and the library must give the same numbers, replies, causes and
- * outputs; and over spoiled records the library and the build that checks must
- * refuse the same ones.
+ * outputs, and servos must remember the same; and over spoiled records the
+ * library and the build that checks must refuse the same ones.
  */
 #include "plain.h"
 #include "three.h"
@@ -14,11 +14,39 @@
 #include <string.h>
 
 enum { HISTORIES = 1500, STEPS = 500, FASTEST = 83886080, SLOTS_AT = 20, SLOT_LEN = (NMC_NET_LEN - SLOTS_AT) / NMC_MOST_MODULES };
-enum { CAUSE_AT = 5, CAUSES = 6, LEAST_TIMES = 1000 };
+enum { CAUSE_AT = 5, INTEGRAL_AT = 87, PREVIOUS_AT = 91, CUT_AT = 106, CAUSES = 6, LEAST_TIMES = 1000 };
 
 static uint64_t dice;
 static uint32_t history, step;
 static unsigned long calls, frames, frames_with[CAUSES], moving_ticks, spoiled, refused;
+
+/* What histories must come to where an output is at its limit. */
+enum at_limit {
+    CUT,
+    CUT_AGAIN,
+    CUT_TO_NOTHING,
+    CUT_AGAINST_ERROR,
+    CUT_PAST_IL,
+    CUT_AT_HIGH_POWER,
+    LIMIT_ITSELF,
+    CUT_ENDS,
+    FRAME_LEAVES_CUT,
+    FRAME_CLEARS_CUT,
+    WAYS_AT_LIMIT
+};
+static const char *const ways_at_limit[WAYS_AT_LIMIT] = {
+    [CUT] = "cut",
+    [CUT_AGAIN] = "cut again",
+    [CUT_TO_NOTHING] = "cut, OL being 0",
+    [CUT_AGAINST_ERROR] = "cut, the output against the error",
+    [CUT_PAST_IL] = "cut, the integral left beyond IL",
+    [CUT_AT_HIGH_POWER] = "cut at power 2",
+    [LIMIT_ITSELF] = "at the limit, not cut",
+    [CUT_ENDS] = "no longer cut",
+    [FRAME_LEAVES_CUT] = "cut bit left by a frame",
+    [FRAME_CLEARS_CUT] = "cut bit cleared by a frame",
+};
+static unsigned long times_at_limit[WAYS_AT_LIMIT];
 
 /* The library's record and the structs, as three.c keeps them. */
 static uint8_t *record;
@@ -70,6 +98,32 @@ static void causes_of_all(void)
     }
 }
 
+static uint32_t number_at(const uint8_t *s, int at, int bytes)
+{
+    uint32_t x = 0;
+    while (bytes-- > 0)
+        x = x << 8 | s[at + bytes];
+    return x;
+}
+
+static bool remembers(const struct plain_servo *s, const uint8_t *slot)
+{
+    return (uint32_t)s->integral == number_at(slot, INTEGRAL_AT, 4) &&
+           (uint32_t)s->previous_error == number_at(slot, PREVIOUS_AT, 4) && s->cut == slot[CUT_AT];
+}
+
+/* What a filter remembers shows later or never, and the cut bit in a reply that may not be asked for. */
+static void memories_of_all(void)
+{
+    for (int place = 0; place < plain->chain; place++) {
+        const uint8_t *slot = record + SLOTS_AT + SLOT_LEN * place;
+        if (slot[0] != NMC_TYPE_SERVO)
+            continue;
+        need(remembers(&plain->modules[place].as.servo, slot), "memory", PLAIN_C);
+        need(remembers(&checked->modules[place].as.servo, slot), "memory", CHECKED_C);
+    }
+}
+
 static uint32_t byte_at_all(uint32_t mark, uint8_t byte, size_t room_len)
 {
     static uint8_t rooms[IMPLEMENTATIONS][NMC_ROOM_LEN];
@@ -86,19 +140,44 @@ static uint32_t byte_at_all(uint32_t mark, uint8_t byte, size_t room_len)
         need(written[i] == written[LIBRARY], "length of the replies", i);
         need(memcmp(rooms[i], rooms[LIBRARY], sizeof rooms[i]) == 0, "replies", i);
     }
-    if (numbers[LIBRARY] == NMC_FRAME || numbers[LIBRARY] == NMC_DAMAGED)
+    if (numbers[LIBRARY] == NMC_FRAME || numbers[LIBRARY] == NMC_DAMAGED) {
         causes_of_all();
+        memories_of_all();
+    }
     return numbers[LIBRARY];
+}
+
+/* A tick of a servo at its limit, or out of it. */
+static void count_at_limit(bool was_cut, const struct plain_servo *s)
+{
+    uint32_t size = (uint32_t)abs(s->output);
+    times_at_limit[CUT] += s->cut;
+    times_at_limit[CUT_AGAIN] += was_cut && s->cut;
+    times_at_limit[CUT_TO_NOTHING] += s->cut && s->gains.ol == 0;
+    times_at_limit[CUT_AGAINST_ERROR] += s->cut && (int64_t)s->output * s->previous_error < 0;
+    times_at_limit[CUT_PAST_IL] += s->cut && abs(s->integral) > s->gains.il;
+    times_at_limit[CUT_AT_HIGH_POWER] += s->cut && s->latched.power == 2;
+    times_at_limit[LIMIT_ITSELF] += !s->cut && s->mode >= PLAIN_HOLDING && size > 0 && size == s->gains.ol;
+    times_at_limit[CUT_ENDS] += was_cut && !s->cut && s->mode >= PLAIN_HOLDING;
 }
 
 static void tick_all(void)
 {
+    bool were_cut[NMC_MOST_MODULES];
+    for (int place = 0; place < plain->chain; place++)
+        were_cut[place] = plain->modules[place].type == NMC_TYPE_SERVO && plain->modules[place].as.servo.cut;
     uint32_t number = implementations[LIBRARY].tick();
     calls++;
     for (unsigned i = 1; i < IMPLEMENTATIONS; i++)
         need(implementations[i].tick() == number, "tick's number", i);
-    for (int place = 0; place < plain->chain; place++)
-        moving_ticks += plain->modules[place].type == NMC_TYPE_SERVO && plain->modules[place].as.servo.speed != 0;
+    memories_of_all();
+    for (int place = 0; place < plain->chain; place++) {
+        const struct plain_servo *s = &plain->modules[place].as.servo;
+        if (plain->modules[place].type != NMC_TYPE_SERVO)
+            continue;
+        moving_ticks += s->speed != 0;
+        count_at_limit(were_cut[place], s);
+    }
 }
 
 static void servo_sample_at_all(uint32_t place, uint32_t raw, uint32_t power, uint8_t ad)
@@ -220,8 +299,29 @@ static size_t some_load(const struct plain_servo *s, uint8_t *data)
     return len;
 }
 
-static size_t some_gains(uint8_t *data)
+/* The servo's own gains but for IL, which its integral is often beyond, and OL. */
+static size_t other_limits(const struct plain_servo *s, uint8_t *data)
 {
+    static const uint8_t limits[] = {0, 1, 20, 100, 255};
+    const struct plain_gains *g = &s->gains;
+    uint32_t il = percent(70) ? below(1 + (uint32_t)abs(s->integral)) : below(32768);
+    const uint32_t words[4] = {g->kp, g->kd, g->ki, il};
+    for (int i = 0; i < 8; i++)
+        data[i] = (uint8_t)(words[i / 2] >> 8 * (i % 2));
+    data[8] = limits[below(sizeof limits)];
+    data[9] = g->cl;
+    data[10] = (uint8_t)g->el;
+    data[11] = (uint8_t)(g->el >> 8);
+    data[12] = 1;
+    data[13] = 0;
+    data[14] = g->sm;
+    return 15;
+}
+
+static size_t some_gains(const struct plain_servo *s, uint8_t *data)
+{
+    if (percent(s->cut ? 60 : 20))
+        return other_limits(s, data);
     for (int i = 0; i < 12; i += 2) {
         data[i] = (uint8_t)throw_dice();
         data[i + 1] = percent(50) ? below(4) : below(percent(5) ? 256 : 64);
@@ -256,7 +356,7 @@ static size_t some_data(const struct plain_module *m, uint8_t code, uint8_t *dat
     if (code == 4)
         return some_load(&m->as.servo, data);
     if (code == 6)
-        return some_gains(data);
+        return some_gains(&m->as.servo, data);
     return code == 7 ? some_stop(&m->as.servo, data) : 0;
 }
 
@@ -290,11 +390,31 @@ static void send_some_frame(void)
         data[0] = (uint8_t)below(6);
         data[1] = percent(50) ? 0x7F : 0xFF;
     }
+    bool was_cut = m->type == NMC_TYPE_SERVO && m->as.servo.cut;
     send_command(address, code, data, len);
     frames_with[m->station.cause]++;
+    if (was_cut)
+        times_at_limit[m->as.servo.cut ? FRAME_LEAVES_CUT : FRAME_CLEARS_CUT]++;
 }
 
 /* ---- a history */
+
+/* The error by which there is OL or -OL to put out, or a little more or less; within EL, if it is not to trip. */
+static uint32_t error_to_limit(const struct plain_servo *s)
+{
+    const struct plain_gains *g = &s->gains;
+    int64_t slope = (int64_t)g->kp + g->kd + g->ki, el = g->el;
+    int64_t u = 256 * (int64_t)g->ol + below(700) - 200;
+    int64_t remembered = (int64_t)g->ki * s->integral - (int64_t)g->kd * s->previous_error;
+    int64_t error = ((percent(50) ? u : -u) - remembered) / (slope > 0 ? slope : 1);
+    return (uint32_t)(error > el ? el : error < -el ? -el : error);
+}
+
+static uint32_t some_error(const struct plain_servo *s)
+{
+    uint32_t limit = 1 + s->gains.el, error = below(percent(10) ? limit + 1 : limit < 10 ? limit : 10);
+    return percent(50) ? error : 0 - error;
+}
 
 static void some_sample(void)
 {
@@ -305,12 +425,11 @@ static void some_sample(void)
         return;
     }
     const struct plain_servo *s = &plain->modules[place].as.servo;
-    uint32_t limit = 1 + s->gains.el, error = below(percent(10) ? limit + 1 : limit < 10 ? limit : 10);
+    uint32_t error = percent(30) ? error_to_limit(s) : some_error(s);
     uint32_t ahead = s->setpoint + (uint32_t)(s->speed / 65536);
     uint32_t base = s->mode < PLAIN_HOLDING ? s->latched.raw - s->offset : ahead;
-    uint32_t power = percent(93) ? 1 : below(4);
-    uint32_t at = base + (percent(50) ? error : 0 - error) + s->offset;
-    uint32_t raw = percent(99) ? at : (uint32_t)throw_dice();
+    uint32_t power = percent(92) ? 1 : percent(50) ? 2 : below(4);
+    uint32_t raw = percent(99) ? base - error + s->offset : (uint32_t)throw_dice();
     servo_sample_at_all(place, raw, power, some_byte());
 }
 
@@ -389,14 +508,6 @@ static void take_step(void)
 
 /* ---- records, spoiled or not, as docs/RECORD.md lays them out */
 
-static uint32_t number_at(const uint8_t *s, int at, int bytes)
-{
-    uint32_t x = 0;
-    while (bytes-- > 0)
-        x = x << 8 | s[at + bytes];
-    return x;
-}
-
 static struct plain_io_sample io_sample_in(const uint8_t *s)
 {
     return (struct plain_io_sample){
@@ -456,13 +567,14 @@ static struct plain_servo servo_in(const uint8_t *s)
                                 .goal_speed = (int32_t)number_at(s, 75, 4),
                                 .acceleration = number_at(s, 79, 4),
                                 .top_speed = number_at(s, 83, 4),
-                                .integral = (int32_t)number_at(s, 87, 4),
-                                .previous_error = (int32_t)number_at(s, 91, 4),
+                                .integral = (int32_t)number_at(s, INTEGRAL_AT, 4),
+                                .previous_error = (int32_t)number_at(s, PREVIOUS_AT, 4),
                                 .mode = s[95],
                                 .pwm = (int32_t)number_at(s, 96, 4),
                                 .output = (int32_t)number_at(s, 100, 4),
                                 .error = s[104],
-                                .amplifier = s[105]};
+                                .amplifier = s[105],
+                                .cut = s[CUT_AT]};
 }
 
 static void network_in(const uint8_t *r, struct plain_network *net)
@@ -509,8 +621,10 @@ static void spoil_record(void)
     static const uint8_t words[] = {41, 45, 61, 63, 67, 71, 75, 79, 83, 87, 91, 96, 100};
     static const uint32_t edges[] = {0, 1, 255, 256, 16383, 16384, 32767, 32768, FASTEST, FASTEST + 1};
     uint8_t *slot = record + SLOTS_AT + SLOT_LEN * below(plain->chain);
-    uint32_t kind = below(12);
-    if (kind == 11) {
+    uint32_t kind = below(13);
+    if (kind == 12) {
+        slot[CUT_AT] = (uint8_t)(1 + percent(10));
+    } else if (kind == 11) {
         put32(slot + 71, number_at(slot, 63, 4) + UINT32_C(0x7FFFFFFF) + below(3));
     } else if (kind == 10) {
         swing(slot);
@@ -519,7 +633,7 @@ static void spoil_record(void)
         record[below(SLOTS_AT)] = byte;
     } else if (kind < 6) {
         uint8_t byte = percent(50) ? (uint8_t)below(7) : some_byte();
-        slot[below(106)] = byte;
+        slot[below(107)] = byte;
     } else {
         int at = words[below(sizeof words)];
         uint32_t edge = edges[below(10)];
@@ -602,9 +716,14 @@ int main(void)
             printf("cause %u came up %lu times only\n", cause, frames_with[cause]);
             return 1;
         }
-    printf("%lu calls, %lu frames ended, by cause %lu %lu %lu %lu %lu %lu, %lu ticks of a moving servo; "
+    for (unsigned way = 0; way < WAYS_AT_LIMIT; way++)
+        if (times_at_limit[way] < LEAST_TIMES) {
+            printf("%s: %lu times only\n", ways_at_limit[way], times_at_limit[way]);
+            return 1;
+        }
+    printf("%lu calls, %lu frames ended, by cause %lu %lu %lu %lu %lu %lu, %lu ticks of a moving servo, %lu cut; "
            "%lu spoiled records, %lu refused: all the same\n",
            calls, frames, frames_with[0], frames_with[1], frames_with[2], frames_with[3], frames_with[4],
-           frames_with[5], moving_ticks, spoiled, refused);
+           frames_with[5], moving_ticks, times_at_limit[CUT], spoiled, refused);
     return 0;
 }

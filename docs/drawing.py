@@ -49,24 +49,25 @@ def line_through(places, kind):
 
 
 class Panel:
-    """Room for curves over ticks, with numbers on both axes."""
+    """Room for curves over ticks, with numbers on both axes; they may go below 0, down to least."""
 
-    def __init__(self, top, most, ticks, height=170):
+    def __init__(self, top, most, ticks, height=170, least=0):
         self.top, self.bottom, self.ticks = top, top + height, ticks
-        self.up = step(most)
+        self.up = step(most - least)
         self.most = -(-most // self.up) * self.up
-        self.scale = height / self.most
+        self.least = least // self.up * self.up
+        self.scale = height / (self.most - self.least)
         self.pace = (WIDTH - RIGHT - LEFT) / ticks
 
     def x(self, tick):
         return LEFT + tick * self.pace
 
     def y(self, number):
-        return self.bottom - number * self.scale
+        return self.bottom - (number - self.least) * self.scale
 
     def axes(self, words):
         drawn = [text(LEFT, self.top - 10, words, "start")]
-        for number in range(0, self.most + 1, self.up):
+        for number in range(self.least, self.most + 1, self.up):
             y = self.y(number)
             drawn.append(rule(LEFT, y, WIDTH - RIGHT, y, "grid" if number else "axis"))
             drawn.append(text(LEFT - 8, y + 4, number, "end"))

@@ -24,9 +24,9 @@ extern "C" {
 #endif
 
 /* Each landing raises it and says in CHANGELOG.md what is new. */
-#define NMC_VERSION "1.6.0"
+#define NMC_VERSION "1.7.0"
 #define NMC_VERSION_MAJOR 1
-#define NMC_VERSION_MINOR 6
+#define NMC_VERSION_MINOR 7
 #define NMC_VERSION_PATCH 0
 
 #define NMC_MOST_MODULES 32u  /* in one chain */
@@ -137,7 +137,9 @@ uint32_t nmc_write_frame(uint32_t address, uint32_t code, const uint8_t *data, s
  * Takes a module's reply apart, knowing its type and the status items that
  * were asked for. reading has NMC_READING_LEN bytes: the status byte, then for
  * each item bit 0 to 7 its number in four bytes, least significant first; 0
- * where the item was not asked for.
+ * where the item was not asked for. A servo's status bits: 0 move done, 1 last
+ * cause not 0, 2 the last filter tick was cut to OL, 3 power good, 4 position
+ * error; the others are 0.
  */
 uint32_t nmc_read_status(uint32_t type, uint8_t items, const uint8_t *reply, size_t reply_len,
                          uint8_t *reading);

@@ -325,7 +325,7 @@ static void put_within(uint8_t *at, uint32_t most, int may_be_negative)
 /* Whatever the slot holds, its fields brought into their ranges: docs/RECORD.md. */
 static void range_servo(uint8_t *slot)
 {
-    static const uint8_t flags[] = {3, 4, 49, 50, 51, 53, 58, 60, 104, 105};
+    static const uint8_t flags[] = {3, 4, 49, 50, 51, 53, 58, 60, 104, 105, 106};
     static const uint8_t high_bytes[] = {29, 31, 33, 35};
     const uint32_t rate = 83886080u;
     for (size_t i = 0; i < sizeof flags; i++)
@@ -352,6 +352,8 @@ static void range_servo(uint8_t *slot)
     put_within(slot + 100, slot[95] != 0 && slot[18] == 1 ? 255 : 0, 1);
     if (slot[95] != 0)
         slot[104] = 0;
+    if (slot[95] < 2)
+        slot[106] = 0;
 }
 
 static void range_io(uint8_t *slot)

@@ -68,6 +68,9 @@ impl Pair<'_> {
     }
 
     fn remember(&mut self, event: Event) {
+        if matches!(event, Event::Record) {
+            self.seen.another_record();
+        }
         if self.past.len() == 40 {
             self.past.pop_front();
         }

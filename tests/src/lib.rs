@@ -13,3 +13,4 @@ pub mod record;
 pub mod seen;
 pub mod slips;
 pub mod steering;
+pub mod windup;

@@ -19,7 +19,7 @@ pub const CAUSE: usize = 5;
 pub const ITEMS: usize = 6;
 /// Bytes of its slot that an I/O module uses, and a servo.
 pub const IO_LEN: usize = 43;
-pub const SERVO_LEN: usize = 106;
+pub const SERVO_LEN: usize = 107;
 
 /// Where in a slot the 12-bit numbers of an I/O module begin.
 pub const TWELVE_BITS: [usize; 6] = [8, 17, 26, 28, 32, 37];
@@ -64,9 +64,10 @@ pub mod at {
     pub const OUTPUT: usize = 100;
     pub const ERROR: usize = 104;
     pub const AMPLIFIER: usize = 105;
+    pub const CUT: usize = 106;
 
     /// Bytes that are 0 or 1, each with the line that asks for it.
-    pub const FLAGS: [(usize, Branch); 10] = [
+    pub const FLAGS: [(usize, Branch); 11] = [
         (3, Branch::ListLeader),
         (4, Branch::ListLow),
         (VELOCITY_LOADED, Branch::ListPaced),
@@ -77,6 +78,7 @@ pub mod at {
         (REVERSE, Branch::ListReverse),
         (ERROR, Branch::ListError),
         (AMPLIFIER, Branch::ListAmplifier),
+        (CUT, Branch::ListCut),
     ];
 }
 
@@ -209,10 +211,12 @@ fn put_io(bytes: &mut [u8], io: &Io) {
 
 /// Ranges and flags of a servo's slot: what can be told field by field.
 fn servo_in_range(slot: &[u8], slip: Slip) -> bool {
-    let flags: [(bool, Branch); 10] = at::FLAGS.map(|(at, line)| (slot[at] <= 1, line));
+    let flags: [(bool, Branch); 11] = at::FLAGS.map(|(at, line)| (slot[at] <= 1, line));
     let gains = [at::KP, at::KD, at::KI, at::IL].iter().all(|at| two(slot, *at) <= 32_767);
     let loaded_force = slot[at::ACCELERATION_LOADED] == 0 || four(slot, at::ACCELERATION) >= 1;
     let within = |at: usize, most: i64| signed(slot, at).abs() <= most;
+    // whatever IL is: a cut tick leaves an integral that Set Gain has put beyond it
+    let integral_most = if slip == Slip::RecordIntegralToIl { two(slot, at::IL).into() } else { 32_767 };
     let rate = |at: usize| four(slot, at) <= SPEED_MOST;
     let most = i64::from(SPEED_MOST);
     let numbers = [
@@ -228,7 +232,7 @@ fn servo_in_range(slot: &[u8], slip: Slip) -> bool {
         (within(at::GOAL_SPEED, most), Branch::ListAim),
         (rate(at::RUNNING_ACCELERATION), Branch::ListRunningAcceleration),
         (rate(at::TOP), Branch::ListTop),
-        (within(at::INTEGRAL, 32_767), Branch::ListIntegral),
+        (within(at::INTEGRAL, integral_most), Branch::ListIntegral),
         (within(at::PREVIOUS_ERROR, 16_383), Branch::ListPrevious),
         (slot[at::MODE] <= 4, Branch::ListMode),
         (within(at::PWM, 255), Branch::ListPulse),
@@ -247,9 +251,14 @@ fn servo_in_order(servo: &Servo, slip: Slip) -> bool {
         Mode::Off => all_hold(&[
             (at_rest, Branch::ListOffSpeed),
             (empty, Branch::ListOffEmpty),
+            (!servo.cut || slip == Slip::RecordCutOffUntested, Branch::ListOffUncut),
             (servo.output == 0 || slip == Slip::RecordOutputUntested, Branch::ListOffOutput),
         ]),
-        Mode::Pwm => all_hold(&[(at_rest, Branch::ListPwmSpeed), (empty, Branch::ListPwmEmpty)]),
+        Mode::Pwm => all_hold(&[
+            (at_rest, Branch::ListPwmSpeed),
+            (empty, Branch::ListPwmEmpty),
+            (!servo.cut || slip == Slip::RecordCutPwmUntested, Branch::ListPwmUncut),
+        ]),
         Mode::Holding => all_hold(&[(at_rest, Branch::ListHold)]),
         Mode::Velocity => true,
         Mode::Trapezoid => trapezoid_in_order(servo, slip),
@@ -335,6 +344,7 @@ fn servo(slot: &[u8], slip: Slip) -> Option<Box<Servo>> {
         output: signed(slot, at::OUTPUT),
         error: flag(at::ERROR),
         amplifier: flag(at::AMPLIFIER),
+        cut: flag(at::CUT),
     };
     servo_in_order(&servo, slip).then(|| Box::new(servo))
 }
@@ -377,6 +387,7 @@ fn put_servo(bytes: &mut [u8], servo: &Servo) {
     put_signed(bytes, at::OUTPUT, servo.output);
     bytes[at::ERROR] = u8::from(servo.error);
     bytes[at::AMPLIFIER] = u8::from(servo.amplifier);
+    bytes[at::CUT] = u8::from(servo.cut);
 }
 
 /// Puts a module into its slot; what its type does not use stays as it was.

@@ -41,6 +41,19 @@ const STEEP: i64 = SPEED_MOST as i64 / 2;
 /// Counts by name.
 pub type Tally = Vec<(&'static str, usize)>;
 
+/// The last filter ticks of a place.
+#[derive(Clone, Copy, Debug, Default)]
+struct Cuts {
+    /// How many were cut, one after another.
+    in_a_row: usize,
+    /// Whether the last of them left the integral beyond IL.
+    past_il: bool,
+}
+
+fn is_past_il(servo: &Servo) -> bool {
+    servo.integral.abs() > i64::from(servo.gains.il)
+}
+
 #[derive(Debug, Default)]
 pub struct Seen {
     /// Frames that ended, by the chain's last place.
@@ -57,6 +70,10 @@ pub struct Seen {
     pub running: Tally,
     /// Numbers of servos that went round in a tick, at either end of their range or in its middle.
     pub wraps: Tally,
+    /// What servos have executed while their last filter tick was a cut one, and what ticks have done to them then.
+    pub frames_while_cut: Tally,
+    pub ticks_while_cut: Tally,
+    cuts: [Cuts; MOST_MODULES],
     /// Answers by their number.
     pub numbers: [usize; 20],
     /// Frames by how many modules replied: none, one, more.
@@ -125,7 +142,11 @@ impl Seen {
             self.met[module_type][usize::from(code)][usize::from(cause)] += 1;
             told[module_type][usize::from(cause)] = true;
             if let (Module::Servo(before), Module::Servo(after)) = (module, &after.modules[place]) {
-                self.mode(change_by_frame(code, &receiver.data[..count], cause), before, after);
+                let change = change_by_frame(code, &receiver.data[..count], cause);
+                self.mode(change, before, after);
+                if before.cut && cause == EXECUTED {
+                    self.frame_while_cut(code, change, after);
+                }
             }
             let speaks = touch == Touch::Individually || module.station().leader;
             repliers += usize::from(speaks && !(code == 15 && cause == 0));
@@ -149,7 +170,7 @@ impl Seen {
     }
 
     pub fn tick(&mut self, before: &Network, after: &Network) {
-        for pair in before.modules.iter().zip(&after.modules) {
+        for (place, pair) in before.modules.iter().zip(&after.modules).enumerate() {
             let (before, after) = match pair {
                 (Module::Servo(before), Module::Servo(after)) => (before, after),
                 _ => continue,
@@ -163,7 +184,52 @@ impl Seen {
             if before.mode != Mode::Off {
                 self.run(before, after);
             }
+            if before.cut {
+                self.tick_while_cut(self.cuts[place], change, before, after);
+            }
+            let in_a_row = if before.cut { self.cuts[place].in_a_row + 1 } else { 1 };
+            self.cuts[place] = if after.cut { Cuts { in_a_row, past_il: is_past_il(after) } } else { Cuts::default() };
         }
+    }
+
+    /// The ticks before are those of another record.
+    pub fn another_record(&mut self) {
+        self.cuts = Default::default();
+    }
+
+    fn frame_while_cut(&mut self, code: u8, change: Change, after: &Servo) {
+        let started = matches!(change, Change::Start | Change::StartNow);
+        add(
+            &mut self.frames_while_cut,
+            &[
+                ("cut, then off by Stop", change == Change::StopOff),
+                ("cut, then Hard Reset", change == Change::HardReset),
+                ("cut, then PWM starts", started && after.mode == Mode::Pwm),
+                ("cut, then velocity mode starts", started && after.mode == Mode::Velocity),
+                ("cut, then a trapezoid starts", started && after.mode == Mode::Trapezoid),
+                ("cut, then an abrupt stop", change == Change::Abrupt),
+                ("cut, then Stop Here", change == Change::StopHere),
+                ("cut, then a smooth stop", change == Change::Smooth),
+                ("cut, then Stop with bit 0 alone", code == 7 && change == Change::Nothing),
+                ("cut, then a load that waits", code == 4 && !started),
+                ("cut, then Set Gain", code == 6),
+                ("cut, then Reset Position", code == 0),
+                ("cut, then Clear Bits", code == 11),
+            ],
+        );
+    }
+
+    fn tick_while_cut(&mut self, cuts: Cuts, change: Change, before: &Servo, after: &Servo) {
+        let plain = !after.servo_off() && !after.cut;
+        add(
+            &mut self.ticks_while_cut,
+            &[
+                ("cut, then off by power", change == Change::PowerLow),
+                ("cut, then off by a trip", change == Change::Trip),
+                ("cut three times, then not", plain && cuts.in_a_row >= 3),
+                ("left beyond IL by a cut tick, then held to it", plain && cuts.past_il && is_past_il(before)),
+            ],
+        );
     }
 
     fn mode(&mut self, change: Change, before: &Servo, after: &Servo) {

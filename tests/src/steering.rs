@@ -223,13 +223,16 @@ fn gain(dice: &mut Dice) -> u16 {
 /// Bytes of Set Gain by which a value is out of range: the upper one of a number, SR, DB.
 const GAIN_TOPS: &[usize] = &[1, 3, 5, 7, 11, 12, 13];
 
+/// Output limits, with those among them that leave nothing, or hardly a thing.
+const OUTPUT_LIMITS: &[u8] = &[0, 1, 50, 127, 200, 254, 255];
+
 /// Good gains, mostly with room for an error.
 pub fn gains(dice: &mut Dice) -> Vec<u8> {
     let mut data = Vec::new();
     for _ in 0..4 {
         data.extend(gain(dice).to_le_bytes());
     }
-    data.push(dice.pick(&[0, 1, 50, 127, 200, 254, 255]));
+    data.push(dice.pick(OUTPUT_LIMITS));
     data.push(dice.byte());
     let limit = match dice.below(8) {
         0 => dice.below(4) as u16,
@@ -238,6 +241,18 @@ pub fn gains(dice: &mut Dice) -> Vec<u8> {
     };
     data.extend(limit.to_le_bytes());
     data.extend([1, 0, dice.byte()]);
+    data
+}
+
+/// The servo's own gains, but for IL and OL: the integral is often beyond the new IL.
+fn other_limits(dice: &mut Dice, servo: &Servo) -> Vec<u8> {
+    let Gains { kp, kd, ki, cl, el, sm, .. } = servo.gains;
+    let integral = servo.integral.unsigned_abs() as usize;
+    let il = if dice.percent(70) { dice.below(1 + integral) as u16 } else { gain(dice) };
+    let mut data = [kp, kd, ki, il].map(u16::to_le_bytes).concat();
+    data.extend([dice.pick(OUTPUT_LIMITS), cl]);
+    data.extend(el.to_le_bytes());
+    data.extend([1, 0, sm]);
     data
 }
 
@@ -285,6 +300,10 @@ pub fn servo_command(dice: &mut Dice, servo: &Servo) -> (u8, Vec<u8>) {
     if servo.amplifier && servo.latched.power != 1 && dice.percent(15) {
         return (7, vec![dice.pick(&[0, 1, 2, 8])]);
     }
+    // with the output at its limit, often a Set Gain after which the integral may stay beyond its own
+    if servo.cut && dice.percent(15) {
+        return (6, other_limits(dice, servo));
+    }
     let code = dice.pick(SERVO_CODES);
     let data = match code {
         4 => {
@@ -321,10 +340,10 @@ pub fn ahead(servo: &Servo) -> u32 {
     ((servo.setpoint + servo.speed) >> 16) as u32
 }
 
-/// A raw count for a motor that follows its setpoint more or less, with errors at the limit among them.
-pub fn following(dice: &mut Dice, servo: &Servo) -> u32 {
+/// How far off a motor is, by a little mostly, with what trips and what just does not among it.
+fn error(dice: &mut Dice, servo: &Servo) -> u32 {
     let limit = u32::from(servo.gains.el);
-    let mut error = match dice.below(24) {
+    let error = match dice.below(24) {
         0 => limit,
         1 => limit + 1,
         2 => 1 << 31,
@@ -333,14 +352,31 @@ pub fn following(dice: &mut Dice, servo: &Servo) -> u32 {
         _ => dice.below(1 + servo.gains.el.min(9) as usize) as u32,
     };
     if dice.percent(50) {
-        error = error.wrapping_neg();
+        error.wrapping_neg()
+    } else {
+        error
     }
+}
+
+/// The error, if EL allows it, by which there is just OL or -OL to put out, or a little more or less.
+fn error_to_output_limit(dice: &mut Dice, servo: &Servo) -> u32 {
+    let [kp, kd, ki, el] = [servo.gains.kp, servo.gains.kd, servo.gains.ki, servo.gains.el].map(i64::from);
+    let u = 256 * i64::from(servo.gains.ol) + dice.below(600) as i64 - 200;
+    let remembered = ki * servo.integral - kd * servo.previous_error;
+    let error = (dice.pick(&[1, -1]) * u - remembered) / (kp + kd + ki).max(1);
+    error.clamp(-el, el) as u32
+}
+
+/// A raw count for a motor that follows its setpoint more or less.
+pub fn following(dice: &mut Dice, servo: &Servo) -> u32 {
+    let error =
+        if !servo.servo_off() && dice.percent(15) { error_to_output_limit(dice, servo) } else { error(dice, servo) };
     let base = match servo.servo_off() {
         true if dice.percent(15) => seam(dice),
         true => servo.position(),
         false => ahead(servo),
     };
-    base.wrapping_add(error).wrapping_add(servo.offset)
+    base.wrapping_sub(error).wrapping_add(servo.offset)
 }
 
 pub fn servo_sample(dice: &mut Dice, servo: &Servo) -> (u32, u32) {
@@ -447,6 +483,7 @@ fn any_motion(dice: &mut Dice, servo: &mut Servo) {
     if !servo.servo_off() {
         servo.integral = within(dice, 32_767);
         servo.previous_error = within(dice, 16_383);
+        servo.cut = flag(dice);
     }
     if servo.mode != Mode::Off && servo.latched.power == 1 {
         servo.output = within(dice, 255);
@@ -571,7 +608,7 @@ fn far_goal(dice: &mut Dice, slot: &mut [u8]) {
 
 fn damage_number(dice: &mut Dice, slot: &mut [u8]) {
     let trapezoid = slot[at::MODE] == Mode::Trapezoid as u8 && dice.percent(60);
-    if trapezoid && dice.percent(30) {
+    if trapezoid && dice.percent(45) {
         return far_goal(dice, slot);
     }
     let at = dice.pick(if trapezoid { STOPPING } else { NUMBERS });
@@ -586,13 +623,29 @@ fn damage_number(dice: &mut Dice, slot: &mut [u8]) {
     slot[at..at + 4].copy_from_slice(&new.to_le_bytes());
 }
 
+/// A bit that the mode does not allow, the cut bit where no filter runs or the error bit where something does; or any
+/// number in a byte that has few.
+fn damage_byte(dice: &mut Dice, slot: &mut [u8]) {
+    if dice.percent(50) {
+        let forbidden = match slot[at::MODE] {
+            0 => at::CUT,
+            1 => dice.pick(&[at::CUT, at::ERROR]),
+            _ => at::ERROR,
+        };
+        slot[forbidden] = 1;
+    } else {
+        let at = dice.pick(&[at::ERROR, at::MODE, at::LATCHED + 4, at::WAY, at::LOAD_WAITS, at::CUT]);
+        slot[at] = dice.below(6) as u8;
+    }
+}
+
 /// Some place of the chain, often one with a trapezoid: no other mode is asked that much.
 fn place_to_damage(dice: &mut Dice, net: &[u8]) -> usize {
     let places = usize::from(net[COUNT]).min(MOST_MODULES);
     let runs =
         |place: &usize| net[slot(*place)] == Servo::TYPE && net[slot(*place) + at::MODE] == Mode::Trapezoid as u8;
     let trapezoids: Vec<usize> = (0..places).filter(runs).collect();
-    if !trapezoids.is_empty() && dice.percent(30) {
+    if !trapezoids.is_empty() && dice.percent(45) {
         dice.pick(&trapezoids)
     } else {
         dice.below(places)
@@ -614,8 +667,7 @@ pub fn damaged_record(dice: &mut Dice, net: &[u8]) -> Vec<u8> {
                 continue;
             }
             4 if is_servo => {
-                let at = dice.pick(&[at::ERROR, at::MODE, at::LATCHED + 4, at::WAY, at::LOAD_WAITS]);
-                damaged[slot(place) + at] = dice.below(6) as u8;
+                damage_byte(dice, &mut damaged[slot(place)..slot(place + 1)]);
                 continue;
             }
             5 if dice.percent(30) => {

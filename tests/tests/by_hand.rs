@@ -138,6 +138,29 @@ fn servo_fields_stand_where_the_record_says() {
 }
 
 #[test]
+fn cut_tick_leaves_the_integral_and_sets_byte_106() {
+    let mut net = vec![0x99; NET_LEN];
+    assert_eq!(Library.setup(&mut net, &[0]), DONE);
+    assert_eq!(Library.servo_sample(&mut net, 0, 0, 1, 0), DONE);
+    assert_eq!(Library.tick(&mut net), DONE);
+    // Kp 256, Ki 256, IL 100, OL 9, EL 16,383; Clear Bits; Stop Here at 20
+    send(&mut net, &written(0, 6, &[0, 1, 0, 0, 0, 1, 100, 0, 9, 0, 0xFF, 0x3F, 1, 0, 1]));
+    send(&mut net, &written(0, 11, &[]));
+    send(&mut net, &written(0, 7, &[0x10, 20, 0, 0, 0]));
+    let mut expected = net[slot(0)..slot(1)].to_vec();
+    // 20 + 20 to put out
+    assert_eq!(Library.tick(&mut net), DONE);
+    (expected[91], expected[100], expected[106]) = (20, 9, 1);
+    assert_eq!(net[slot(0)..slot(1)], expected, "cut: previous error, output, cut bit");
+    // at 18 there are 2 + 2
+    assert_eq!(Library.servo_sample(&mut net, 0, 18, 1, 0), DONE);
+    assert_eq!(Library.tick(&mut net), DONE);
+    (expected[8], expected[14]) = (18, 18);
+    (expected[87], expected[91], expected[100], expected[106]) = (2, 2, 4, 0);
+    assert_eq!(net[slot(0)..slot(1)], expected, "not cut: the integral, too");
+}
+
+#[test]
 fn bench_sheet_frames_read_undamaged() {
     assert_eq!(send(&mut network(1), &[0xAA, 0x01, 0x17, 0x02, 0x1A]), (UNDAMAGED, vec![]));
     let stop_here = [0xAA, 0x01, 0x57, 0x11, 0x64, 0x00, 0x00, 0x00, 0xCD];

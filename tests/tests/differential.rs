@@ -57,6 +57,8 @@ fn branches_are_reached() {
     often_reached(Branch::StartNothingWaits, Branch::NowHalfTurnFromOff);
     // the amplifier bit through a dip
     often_reached(Branch::StopSetsAmplifierAtLow, Branch::EnableBackFromHigh);
+    // ticks that are cut, and those that nearly are
+    often_reached(Branch::CutAbove, Branch::UncutAfterCut);
 }
 
 /// Branches that stand together in the table, from one to another.
@@ -130,7 +132,8 @@ fn every_mode_change_is_made(seen: &Seen) {
 }
 
 fn servos_come_everywhere(seen: &Seen) {
-    for (name, times) in seen.running.iter().chain(&seen.wraps) {
+    let while_cut = seen.frames_while_cut.iter().chain(&seen.ticks_while_cut);
+    for (name, times) in seen.running.iter().chain(&seen.wraps).chain(while_cut) {
         assert!(*times > 100, "{name}: {times}");
     }
     for often in ["output at its limit", "trapezoid's speed neither highest nor lowest"] {

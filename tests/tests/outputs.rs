@@ -4,12 +4,14 @@
 use doljurven_tests::calls::*;
 use doljurven_tests::capi::Library;
 use doljurven_tests::model::frame_bytes;
-use doljurven_tests::record::{at, slot, SLOT_LEN};
+use doljurven_tests::record::{at, slot, Model, SLOT_LEN};
+use doljurven_tests::slips::Slip;
 
 const ONE: i32 = 65_536;
 
-/// A servo alone, at address 0.
+/// A servo alone, at address 0, of the library or of a model beside it.
 struct Servo {
+    calls: &'static dyn Calls,
     net: Vec<u8>,
 }
 
@@ -27,15 +29,19 @@ struct Gains {
 const NO_GAINS: Gains = Gains { kp: 0, kd: 0, ki: 0, il: 0, ol: 255, el: 16_383 };
 
 impl Servo {
-    fn at_power_up() -> Servo {
+    fn at_power_up(calls: &'static dyn Calls) -> Servo {
         let mut net = vec![0x99; NET_LEN];
-        assert_eq!(Library.setup(&mut net, &[0]), DONE);
-        Servo { net }
+        assert_eq!(calls.setup(&mut net, &[0]), DONE);
+        Servo { calls, net }
     }
 
     /// Power good, the motor at 0, error bit clear.
     fn ready(gains: Gains) -> Servo {
-        let mut servo = Servo::at_power_up();
+        Servo::ready_by(&Library, gains)
+    }
+
+    fn ready_by(calls: &'static dyn Calls, gains: Gains) -> Servo {
+        let mut servo = Servo::at_power_up(calls);
         servo.measures(0, 1);
         servo.tick();
         servo.gains(gains);
@@ -44,11 +50,11 @@ impl Servo {
     }
 
     fn measures(&mut self, raw: i32, power: u32) {
-        assert_eq!(Library.servo_sample(&mut self.net, 0, raw as u32, power, 0), DONE);
+        assert_eq!(self.calls.servo_sample(&mut self.net, 0, raw as u32, power, 0), DONE);
     }
 
     fn tick(&mut self) {
-        assert_eq!(Library.tick(&mut self.net), DONE);
+        assert_eq!(self.calls.tick(&mut self.net), DONE);
     }
 
     /// Sends a frame; gives the status byte.
@@ -56,7 +62,7 @@ impl Servo {
         let (mut room, mut written) = ([0; ROOM_LEN], 0);
         let bytes = frame_bytes(0, code, data);
         for (at, byte) in bytes.iter().enumerate() {
-            let number = Library.byte(&mut self.net, 0, *byte, &mut room, &mut written);
+            let number = self.calls.byte(&mut self.net, 0, *byte, &mut room, &mut written);
             assert_eq!(number, if at + 1 == bytes.len() { UNDAMAGED } else { DONE });
         }
         assert_eq!((written, room[0]), (2, room[1]), "a status byte and its sum");
@@ -105,7 +111,7 @@ impl Servo {
     fn resets(&mut self) {
         let (mut room, mut written) = ([0; ROOM_LEN], 9);
         for byte in frame_bytes(0, 15, &[]) {
-            Library.byte(&mut self.net, 0, byte, &mut room, &mut written);
+            self.calls.byte(&mut self.net, 0, byte, &mut room, &mut written);
         }
         assert_eq!(written, 0);
     }
@@ -118,7 +124,7 @@ impl Servo {
     /// The output with its sign, and the enable line.
     fn drives(&self) -> (i32, bool) {
         let mut outputs = [0xEE; 8];
-        assert_eq!(Library.outputs(&self.net, 0, &mut outputs), DONE);
+        assert_eq!(self.calls.outputs(&self.net, 0, &mut outputs), DONE);
         let [size, negative, enabled, rest @ ..] = outputs;
         assert!(negative <= 1 && enabled <= 1 && rest == [0; 5], "{outputs:X?}");
         assert!(size > 0 || negative == 0, "no sign without a size");
@@ -167,7 +173,7 @@ impl Servo {
 
 #[test]
 fn power_up_drives_nothing() {
-    let servo = Servo::at_power_up();
+    let servo = Servo::at_power_up(&Library);
     assert_eq!(servo.drives(), (0, false));
     let mut expected = [0; SLOT_LEN];
     (expected[2], expected[at::SM], expected[at::ERROR]) = (0xFF, 1, 1);
@@ -250,16 +256,19 @@ fn output_is_held_to_its_limit() {
 fn u_is_larger_than_32_bits() {
     for sign in [1, -1] {
         let full = Gains { kp: 32_767, kd: 32_767, ki: 32_767, il: 32_767, ol: 255, el: 16_383 };
-        let mut servo = Servo::ready(full);
+        // the integral grows only while nothing is cut
+        let mut servo = Servo::ready(Gains { il: 32_767, ..NO_GAINS });
         servo.stop_here(0);
         for _ in 0..3 {
             servo.error(sign * 16_383);
         }
         assert_eq!(servo.number(at::INTEGRAL), sign * 32_767);
+        servo.gains(full);
         // 32,767 (-16,383 - 32,766 + 16,384) = -1,073,938,425
         assert_eq!(servo.error(-sign * 16_383), -sign * 255);
         // 32,767 (16,383 + 32,766 + 32,767) = 2,684,141,572: in 32 bits it would have the other sign
         assert_eq!(servo.error(sign * 16_383), sign * 255);
+        assert_eq!(servo.number(at::INTEGRAL), sign * 32_767);
     }
 }
 
@@ -290,6 +299,321 @@ fn set_gain_takes_all_or_nothing() {
     servo.stop_here(1);
     servo.tick();
     assert_eq!(servo.output(), 255, "32,767 (1 + 1 + 1) / 256 is 383");
+}
+
+// ---------------------------------------------------------------- cut ticks
+
+/// The rule before version 1.7.0: a cut tick kept its new integral.
+const BEFORE: &Model = &Model { slip: Slip::CutWindsUp };
+
+const CUT_BIT: u8 = 4;
+
+impl Servo {
+    /// Status bit 2, which is the record's byte.
+    fn is_cut(&mut self) -> bool {
+        let status = self.sends(14, &[]);
+        assert_eq!(status & 0xE0, 0, "bits 5 to 7: status {status:02X}");
+        assert_eq!(self.net[slot(0) + at::CUT], u8::from(status & CUT_BIT != 0), "status {status:02X}");
+        status & CUT_BIT != 0
+    }
+
+    /// A tick so many counts short of the setpoint 0; gives output and integral, and whether it was cut.
+    fn follows(&mut self, error: i32) -> (i32, i32, bool) {
+        (self.error(error), self.number(at::INTEGRAL), self.is_cut())
+    }
+
+    /// Holding 0, its last filter tick cut: 50 to put out, 10 of them in its limit.
+    fn cut() -> Servo {
+        let mut servo = Servo::ready(Gains { kp: 256, ki: 256, il: 100, ol: 10, ..NO_GAINS });
+        servo.stop_here(0);
+        assert_eq!(servo.follows(25), (10, 0, true));
+        servo
+    }
+}
+
+#[test]
+fn integral_wound_up_against_the_limit_and_released() {
+    // with Kp and Ki 256 the output is e + i, i being the integral with e, held to 50; then what it was before
+    #[rustfmt::skip]
+    let ticks = [
+        // error, output, integral, cut, output and integral before
+        (20, (40, 20, false), (40, 20)),   // 20 + 20
+        (20, (50, 20, true), (50, 40)),    // 20 + 40 is cut: the integral goes back to 20
+        (20, (50, 20, true), (50, 60)),    // again 20 + 40; before 20 + 60
+        (20, (50, 20, true), (50, 80)),
+        (20, (50, 20, true), (50, 100)),
+        (20, (50, 20, true), (50, 120)),
+        (10, (40, 30, false), (50, 130)),  // released: 10 + 30; before 10 + 130
+        (0, (30, 30, false), (50, 130)),   // 0 + 30, there
+        (-10, (10, 20, false), (50, 120)), // -10 + 20 brakes; before -10 + 120 pushes on with all it has
+        (-20, (-20, 0, false), (50, 100)), // -20 + 0; before -20 + 100
+        (-20, (-40, -20, false), (50, 80)),
+        (-20, (-50, -20, true), (40, 60)), // -20 - 40 is cut, on the other side
+        (0, (-20, -20, false), (50, 60)),  // 0 - 20
+        (20, (20, 0, false), (50, 80)),
+    ];
+    let gains = Gains { kp: 256, ki: 256, il: 1000, ol: 50, ..NO_GAINS };
+    for sign in [1, -1] {
+        let mut servo = Servo::ready(gains);
+        let mut before = Servo::ready_by(BEFORE, gains);
+        servo.stop_here(0);
+        before.stop_here(0);
+        for (tick, (error, (output, integral, cut), (wound, integral_before))) in ticks.into_iter().enumerate() {
+            let error = sign * error;
+            assert_eq!(servo.follows(error), (sign * output, sign * integral, cut), "tick {tick}, sign {sign}");
+            let (wound_up, summed, _) = before.follows(error);
+            assert_eq!((wound_up, summed), (sign * wound, sign * integral_before), "tick {tick} before, sign {sign}");
+        }
+    }
+}
+
+#[test]
+fn limit_itself_is_no_cut_nor_is_a_lost_fraction() {
+    // with Kp 1 u is the error, and the output u / 256 toward zero
+    let ends = [
+        (2, 511, 1, false),
+        (2, 512, 2, false),
+        (2, 767, 2, false),
+        (2, 768, 2, true),
+        (0, 0, 0, false),
+        (0, 1, 0, false),
+        (0, 255, 0, false),
+        (0, 256, 0, true),
+        (0, 16_383, 0, true),
+        (1, 511, 1, false),
+        (1, 512, 1, true),
+    ];
+    for (ol, error, output, cut) in ends {
+        for sign in [1, -1] {
+            let mut servo = Servo::ready(Gains { kp: 1, il: 32_767, ol, ..NO_GAINS });
+            servo.stop_here(0);
+            let integral = if cut { 0 } else { sign * error };
+            assert_eq!(servo.follows(sign * error), (sign * output, integral, cut), "OL {ol}, u {}", sign * error);
+        }
+    }
+    // 255 is all that an output can be: 65,535 / 256 is 255, 65,536 / 256 is 256
+    for (error, cut) in [(13_107, false), (-13_107, false), (13_108, true), (-13_108, true)] {
+        let mut servo = Servo::ready(Gains { kp: 5, ..NO_GAINS });
+        servo.stop_here(0);
+        assert_eq!(servo.follows(error), (255 * error.signum(), 0, cut), "5 x {error}");
+    }
+}
+
+#[test]
+fn integral_goes_back_whatever_the_signs_of_error_and_cut() {
+    let mut servo = Servo::ready(Gains { ki: 256, il: 1000, ..NO_GAINS });
+    servo.stop_here(0);
+    assert_eq!(servo.follows(100), (100, 100, false));
+    servo.gains(Gains { ki: 256, il: 1000, ol: 50, ..NO_GAINS });
+    for _ in 0..20 {
+        // 100 - 10 is still above 50: nothing is unwound
+        assert_eq!(servo.follows(-10), (50, 100, true));
+    }
+    assert_eq!(servo.follows(-49), (50, 100, true), "51");
+    assert_eq!(servo.follows(-50), (50, 50, false), "50");
+    assert_eq!(servo.follows(-101), (-50, 50, true), "-51");
+    assert_eq!(servo.follows(-100), (-50, -50, false), "-50");
+}
+
+#[test]
+fn cut_tick_stores_its_error() {
+    let mut servo = Servo::ready(Gains { kd: 256, ol: 10, ..NO_GAINS });
+    servo.stop_here(0);
+    assert_eq!(servo.follows(100), (10, 0, true));
+    assert_eq!(servo.number(at::PREVIOUS_ERROR), 100);
+    assert_eq!(servo.follows(105), (5, 0, false), "105 - 100");
+    assert_eq!(servo.follows(80), (-10, 0, true), "80 - 105");
+    assert_eq!(servo.follows(80), (0, 0, false));
+}
+
+#[test]
+fn integral_left_beyond_a_lowered_limit() {
+    for cut_ticks in [1, 2, 3, 50] {
+        let mut servo = Servo::ready(Gains { ki: 256, il: 1000, ..NO_GAINS });
+        servo.stop_here(0);
+        assert_eq!(servo.follows(100), (100, 100, false));
+        servo.gains(Gains { ki: 256, il: 10, ol: 0, ..NO_GAINS });
+        for _ in 0..cut_ticks {
+            // u is of 100 held to 10: 10 is cut to 0, and what stays is the former 100, not held to 10
+            assert_eq!(servo.follows(0), (0, 100, true));
+        }
+        servo.gains(Gains { ki: 256, il: 10, ..NO_GAINS });
+        // 100 - 5 held to 10; had the former number been held, 10 - 5
+        assert_eq!(servo.follows(-5), (10, 10, false), "after {cut_ticks}");
+        assert_eq!(servo.follows(-5), (5, 5, false));
+    }
+    // a cut by Kp alone does the same, on the other side too
+    let mut servo = Servo::ready(Gains { ki: 256, il: 1000, ..NO_GAINS });
+    servo.stop_here(0);
+    assert_eq!(servo.follows(100), (100, 100, false));
+    servo.gains(Gains { kp: 256, il: 0, ol: 20, ..NO_GAINS });
+    assert_eq!(servo.follows(-30), (-20, 100, true));
+    assert_eq!(servo.follows(-20), (-20, 0, false), "-20 is no cut: 80 held to 0");
+}
+
+#[test]
+fn any_number_of_cut_ticks_leaves_the_integral() {
+    for cut_ticks in [1, 2, 3, 7, 64, 255, 256, 1000] {
+        let mut servo = Servo::ready(Gains { ki: 256, il: 32_767, ..NO_GAINS });
+        servo.stop_here(0);
+        assert_eq!(servo.follows(7), (7, 7, false));
+        servo.gains(Gains { kp: 32_767, il: 32_767, ol: 127, ..NO_GAINS });
+        for tick in 0..cut_ticks {
+            // 32,767 is 127 in 256ths and 255 of 256 more: one count is no cut, two are, either way
+            let error = (2 + tick % 900) * if tick % 3 == 1 { -1 } else { 1 };
+            assert_eq!(servo.follows(error), (127 * error.signum(), 7, true), "tick {tick}");
+        }
+        servo.gains(Gains { ki: 256, il: 32_767, ..NO_GAINS });
+        assert_eq!(servo.follows(-3), (4, 4, false), "after {cut_ticks}");
+    }
+}
+
+#[test]
+fn high_power_cuts_as_any_other() {
+    let mut servo = Servo::ready(Gains { kp: 256, ki: 256, il: 1000, ol: 50, ..NO_GAINS });
+    servo.stop_here(0);
+    // error, power, then output, integral and status
+    #[rustfmt::skip]
+    let ticks = [
+        (40, 2, 0, 0, 0x05),    // 40 + 40 is cut, and nothing is put out
+        (20, 2, 0, 20, 0x01),   // 20 + 20
+        (-60, 2, 0, 20, 0x05),  // -60 - 40 is cut
+        (25, 2, 0, 20, 0x05),   // 25 + 45 is cut
+        (15, 2, 0, 35, 0x01),   // 15 + 35 is 50
+        (15, 1, 50, 35, 0x0D),  // 15 + 50 is cut
+        (15, 2, 0, 35, 0x05),
+        (0, 1, 35, 35, 0x09),
+    ];
+    for (tick, (error, power, output, integral, status)) in ticks.into_iter().enumerate() {
+        servo.measures(-error, power);
+        servo.tick();
+        assert_eq!((servo.output(), servo.number(at::INTEGRAL)), (output, integral), "tick {tick}");
+        assert_eq!(servo.sends(14, &[]), status, "tick {tick}");
+    }
+}
+
+#[test]
+fn going_off_clears_the_cut_bit() {
+    let power_low = |servo: &mut Servo| {
+        servo.measures(0, 0);
+        servo.tick();
+    };
+    let trip = |servo: &mut Servo| {
+        servo.measures(16_384, 1);
+        servo.tick();
+    };
+    let ways: [(&str, &dyn Fn(&mut Servo)); 5] = [
+        ("power 0", &power_low),
+        ("trip", &trip),
+        ("Stop 02", &|servo| servo.does(7, &[0x02])),
+        ("Stop 03", &|servo| servo.does(7, &[0x03])),
+        ("Hard Reset", &Servo::resets),
+    ];
+    for (name, off) in ways {
+        let mut servo = Servo::cut();
+        off(&mut servo);
+        assert_eq!((servo.net[slot(0) + at::MODE], servo.output()), (0, 0), "{name}");
+        assert!(!servo.is_cut(), "{name}");
+        for power in [1, 2, 0, 1] {
+            servo.measures(-25, power);
+            servo.tick();
+            assert!(!servo.is_cut(), "{name}: off at power {power}");
+        }
+        servo.does(7, &[0x09]);
+        assert!(!servo.is_cut(), "{name}: a smooth stop of a servo that is off");
+    }
+}
+
+#[test]
+fn pwm_has_no_cut_bit() {
+    for now in [false, true] {
+        let mut servo = Servo::cut();
+        if now {
+            servo.does(4, &[0x88, 200]);
+        } else {
+            servo.does(4, &[0x08, 200]);
+            assert!(servo.is_cut(), "a load that waits leaves it");
+            servo.does(5, &[]);
+        }
+        assert!(!servo.is_cut(), "a PWM start clears it");
+        for power in [1, 2, 1] {
+            servo.measures(0, power);
+            servo.tick();
+            assert_eq!(servo.output(), if power == 1 { 10 } else { 0 }, "200 held to 10");
+            assert!(!servo.is_cut(), "held, but by no filter tick");
+        }
+        if now {
+            servo.does(7, &[0x09]);
+            assert!(!servo.is_cut(), "a smooth stop of PWM is off");
+        } else {
+            servo.stop_here(0);
+            assert!(!servo.is_cut(), "holding has it from its own first tick on");
+            assert_eq!(servo.follows(25), (10, 0, true));
+        }
+    }
+}
+
+#[test]
+fn cut_bit_stays_between_ticks() {
+    let loads = |control: u8, numbers: &'static [i32]| move |servo: &mut Servo| servo.loads(control, numbers);
+    let gains = |servo: &mut Servo| servo.gains(Gains { kp: 256, ..NO_GAINS });
+    let waiting_start = |servo: &mut Servo| {
+        servo.loads(0x36, &[ONE, ONE]);
+        servo.does(5, &[]);
+    };
+    let ways: [(&str, &dyn Fn(&mut Servo)); 13] = [
+        ("abrupt stop", &|servo| servo.does(7, &[0x05])),
+        ("Stop Here", &|servo| servo.stop_here(3)),
+        ("smooth stop", &|servo| servo.does(7, &[0x09])),
+        ("Stop with bit 0 alone", &|servo| servo.does(7, &[0x01])),
+        ("Reset Position", &|servo| servo.does(0, &[])),
+        ("Set Gain", &gains),
+        ("Clear Bits", &|servo| servo.does(11, &[])),
+        ("a load that waits", &loads(0x36, &[ONE, ONE])),
+        ("a start in velocity mode", &loads(0xB6, &[ONE, ONE])),
+        ("Start in velocity mode", &waiting_start),
+        ("a start of a trapezoid", &loads(0x97, &[5, ONE, ONE])),
+        ("Define Status", &|servo| servo.does(2, &[0])),
+        ("a sample", &|servo| servo.measures(0, 2)),
+    ];
+    for (name, way) in ways {
+        let mut servo = Servo::cut();
+        way(&mut servo);
+        assert!(servo.is_cut(), "{name}");
+        // then the next filter tick tells: the motor at the setpoint, with nothing remembered that would drive it
+        servo.gains(NO_GAINS);
+        assert!(servo.is_cut(), "{name}, then Set Gain");
+        servo.measures(0, 1);
+        servo.tick();
+        assert!(!servo.is_cut(), "{name}, then a tick that is not cut");
+    }
+}
+
+#[test]
+fn abrupt_stop_blanks_the_memory_and_leaves_the_cut_bit() {
+    let gains = Gains { kp: 256, ki: 256, il: 100, ol: 60, ..NO_GAINS };
+    for stop in [&[0x05][..], &[0x11, 0, 0, 0, 0]] {
+        let mut servo = Servo::ready(gains);
+        servo.stop_here(0);
+        assert_eq!(servo.follows(25), (50, 25, false));
+        assert_eq!(servo.follows(25), (60, 25, true), "25 + 50");
+        servo.does(7, stop);
+        assert_eq!([at::INTEGRAL, at::PREVIOUS_ERROR].map(|at| servo.number(at)), [0, 0]);
+        assert!(servo.is_cut());
+        assert_eq!(servo.output(), 60, "as the output stays until the tick");
+        servo.tick();
+        assert!(!servo.is_cut());
+    }
+}
+
+#[test]
+fn frame_that_is_not_executed_leaves_the_cut_bit() {
+    let mut servo = Servo::cut();
+    servo.refuses(5, &[]);
+    servo.refuses(7, &[0x06]);
+    servo.refuses(6, &[0; 14]);
+    servo.refuses(4, &[0x88]);
+    assert!(servo.is_cut());
 }
 
 // ---------------------------------------------------------------- trips
@@ -482,7 +806,7 @@ fn low_power_turns_off_and_leaves_the_amplifier_bit() {
 
 #[test]
 fn enable_line_is_amplifier_bit_and_good_power() {
-    let mut servo = Servo::at_power_up();
+    let mut servo = Servo::at_power_up(&Library);
     servo.does(7, &[0x01]);
     assert!(!servo.enabled(), "the bit may be set without power");
     servo.measures(0, 2);

@@ -271,6 +271,8 @@ const HOLDING: u8 = 2;
 const VELOCITY: u8 = 3;
 const TRAPEZOID: u8 = 4;
 const RUNNING: [u8; 4] = [PWM, HOLDING, VELOCITY, TRAPEZOID];
+/// Modes in which the filter runs.
+const SERVO_ON: [u8; 3] = [HOLDING, VELOCITY, TRAPEZOID];
 
 /// A servo of its own in a network, at rest in some mode at power 1.
 #[derive(Clone)]
@@ -334,8 +336,10 @@ impl Slot {
 fn servo_record_with_bytes_out_of_range() {
     let off = Slot::new(OFF);
     for (at, _) in at::FLAGS {
+        // off asks the cut bit to be clear, all other modes the error bit
+        let slot = Slot::new(if at == at::CUT { HOLDING } else { OFF });
         for (value, number) in [(0, DONE), (1, DONE), (2, BAD_RECORD), (128, BAD_RECORD), (255, BAD_RECORD)] {
-            off.clone().one(at, value).judged(number, &format!("flag at {at} is {value}"));
+            slot.clone().one(at, value).judged(number, &format!("flag at {at} is {value}"));
         }
     }
     for (at, most) in [(CAUSE, 5), (at::WAITING + 4, 2), (at::LATCHED + 4, 2), (at::WAY, 2), (at::MODE, 4)] {
@@ -428,6 +432,40 @@ fn servo_record_against_its_mode() {
 }
 
 #[test]
+fn servo_record_with_the_cut_bit_where_no_filter_runs() {
+    for mode in [OFF, PWM, HOLDING, VELOCITY, TRAPEZOID] {
+        for power in if mode == OFF { vec![0, 1, 2] } else { vec![1, 2] } {
+            let slot = Slot::new(mode).one(at::LATCHED + 4, power);
+            let number = if SERVO_ON.contains(&mode) { DONE } else { BAD_RECORD };
+            slot.clone().one(at::CUT, 0).passes(&format!("not cut, power {power}"));
+            slot.clone().one(at::CUT, 1).judged(number, &format!("cut, power {power}"));
+            for value in [2, 3, 128, 255] {
+                slot.clone().one(at::CUT, value).breaks(&format!("cut bit {value}, power {power}"));
+            }
+        }
+    }
+    Slot::new(PWM).four(at::PWM, 255).four(at::OUTPUT, 10).one(at::OL, 10).passes("PWM held to OL");
+    Slot::new(PWM).four(at::PWM, 255).four(at::OUTPUT, 10).one(at::OL, 10).one(at::CUT, 1).breaks("no filter tick");
+}
+
+#[test]
+fn servo_record_with_an_integral_beyond_il() {
+    for mode in SERVO_ON {
+        for cut in [0, 1] {
+            for il in [0, 10, 32_766, 32_767] {
+                let slot = Slot::new(mode).two(at::IL, il).one(at::CUT, cut);
+                for integral in [i32::from(il), i32::from(il) + 1, 32_767] {
+                    let number = if integral <= 32_767 { DONE } else { BAD_RECORD };
+                    let told = format!("integral {integral}, IL {il}, cut bit {cut}");
+                    slot.clone().four(at::INTEGRAL, integral).judged(number, &told);
+                    slot.clone().four(at::INTEGRAL, -integral).judged(number, &format!("{told}, below 0"));
+                }
+            }
+        }
+    }
+}
+
+#[test]
 fn servo_record_with_a_trapezoid_that_cannot_stop() {
     let slot = Slot::new(TRAPEZOID);
     slot.clone().four(at::RUNNING_ACCELERATION, 0).breaks("no acceleration");
@@ -478,7 +516,7 @@ fn servo_record_bytes_that_may_be_anything() {
     let bytes = [1, 2, 6, 7, at::OL, at::CL, at::SM, at::LOAD_PWM, at::WAITING + 5, at::LATCHED + 5];
     let fours = [at::WAITING, at::LATCHED, at::OFFSET, at::LAST_POSITION, at::LOAD_POSITION, at::GOAL, at::SETPOINT];
     let all = fours.into_iter().flat_map(|at| at..at + 4).chain(bytes).chain([at::SETPOINT + 4, at::SETPOINT + 5]);
-    for at in all.chain(at::AMPLIFIER + 1..SLOT_LEN) {
+    for at in all.chain(at::CUT + 1..SLOT_LEN) {
         Slot::new(OFF).one(at, 0xFF).passes(&format!("byte at {at}"));
     }
 }

@@ -5,9 +5,9 @@ use mathlib.Core.Bool.{Bool, true, false, cond, false≢true, true≢false}
 use Prim.Native.Nat.{ℕ, zero, suc, _+_, _-_, _≤_, _<_}
 use native.Mathlib.Omega.{arith}
 use lib.Dec.{ltb}
-use borrow.Author.Tests.{ltb-true, ltb-false, leb-true, leb-false, le-leb, lt-leb}
+use borrow.Author.Tests.{ltb-true, ltb-false, leb-true, leb-false, le-leb, lt-leb, lt-ltb, le-ltb}
 use lib.IntN.{ℤ, pos, negsuc, negℤ, natAbs, subℕ, _+ℤ_, _-ℤ_}
-use lib.Signed.{leZ}
+use lib.Signed.{leZ, ltZ}
 
 abbrev pub up : ℤ → ℕ
 up (pos n) = n
@@ -64,6 +64,18 @@ parts-gt (pos a) (pos b) h = lt-leb a b (omega arith)
 parts-gt (pos a) (negsuc b) h = refl
 parts-gt (negsuc a) (pos b) h = absurd (omega arith)
 parts-gt (negsuc a) (negsuc b) h = lt-leb b a (omega arith)
+
+pub parts-lt : (x y : ℤ) → up x + down y < up y + down x → ltZ x y ≡ true
+parts-lt (pos a) (pos b) h = lt-ltb a b (omega arith)
+parts-lt (pos a) (negsuc b) h = absurd (omega arith)
+parts-lt (negsuc a) (pos b) h = refl
+parts-lt (negsuc a) (negsuc b) h = lt-ltb b a (omega arith)
+
+pub parts-ge : (x y : ℤ) → up y + down x ≤ up x + down y → ltZ x y ≡ false
+parts-ge (pos a) (pos b) h = le-ltb a b (omega arith)
+parts-ge (pos a) (negsuc b) h = refl
+parts-ge (negsuc a) (pos b) h = absurd (omega arith)
+parts-ge (negsuc a) (negsuc b) h = le-ltb b a (omega arith)
 
 pub parts-same : (x y : ℤ) → up x + down y ≡ up y + down x → x ≡ y
 parts-same (pos a) (pos b) e = let k : a ≡ b = omega arith in ap pos k

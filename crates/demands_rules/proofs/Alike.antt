@@ -154,7 +154,7 @@ tick-alike m = by (tick-ends (Goes (m .run)) m (record {
   low = λ q. inl refl;
   off = λ q. inr (refl, refl, stays (m .run .drive .mode) (m .run .profile));
   pwm = λ q. inr (refl, refl, stays (m .run .drive .mode) (m .run .profile));
-  output = λ s y u. inr (refl, refl, steps (m .run .drive .mode) (m .run .profile));
+  output = λ s t q. inr (refl, refl, steps (m .run .drive .mode) (m .run .profile));
   trip = λ q. inl refl;
 }))
   where

@@ -21,7 +21,7 @@ use Rattle.servo_motion.specs.Trapezoid.{terms, stop, pick, greatest, nextSpeed
 use Rattle.servo_motion.specs.Setpoint.{distance, moved}
 use Rattle.servo_motion.specs.Velocity.{toward}
 use Rattle.servo_motion.specs.Profile.{trapezoid, stepped, byTrapezoid, byVelocity}
-use Rattle.servo_filter.specs.Filter.{filtered}
+use Rattle.servo_filter.specs.Filter as Filter
 use Rattle.servo_rules.specs.declared.Mode.the-variants.{Pwm, Velocity, Trapezoid}
 use Rattle.servo_rules.specs.declared.Servo.{Servo}
 use Rattle.servo_rules.specs.Carried.{needed, carriedIn, inRange}
@@ -132,11 +132,11 @@ starts = frame-starts speed true awake awake-fits by-load
 
 -- the speed laws of both modes speak of ticks that there are
 pub climbs : (execute speed true awake .run .drive .mode ≡ Velocity) × (ticked (execute speed true awake) .run .drive .mode ≡ Velocity) × Moves (ticked (execute speed true awake))
-unfolding Any.execute Any.request asked own ticked ran loadMeant carriedIn inRange loaded loadOf ratesOf wayOf startable complete start beginningAt toSpeed signedBy ones servoed advanced byVelocity stepped moved toward difference signed filtered
+unfolding Any.execute Any.request asked own ticked ran loadMeant carriedIn inRange loaded loadOf ratesOf wayOf startable complete start beginningAt toSpeed signedBy ones servoed advanced byVelocity stepped moved toward difference signed Filter.held Filter.drive Filter.limited Filter.filtered
 climbs = (refl, refl, inl (some-number 99 _ refl))
 
 pub travels : (execute go true (execute move true awake) .run .drive .mode ≡ Trapezoid) × (ticked (execute go true (execute move true awake)) .run .drive .mode ≡ Trapezoid)
-unfolding Any.execute Any.request asked own ticked ran loadMeant carriedIn inRange loaded loadOf ratesOf wayOf startable complete movable same start beginningAt toPlace distance difference signed ones servoed advanced byTrapezoid trapezoid stepped moved filtered terms stop pick greatest nextSpeed
+unfolding Any.execute Any.request asked own ticked ran loadMeant carriedIn inRange loaded loadOf ratesOf wayOf startable complete movable same start beginningAt toPlace distance difference signed ones servoed advanced byTrapezoid trapezoid stepped moved Filter.held Filter.drive Filter.limited Filter.filtered terms stop pick greatest nextSpeed
 travels = (refl, refl)
 
 -- ---- a record of one servo

@@ -13,6 +13,7 @@ pub mod Question
 pub mod Order
 pub mod OnTheLine
 pub mod Dipping
+pub mod Winding
 pub mod Alive
 pub mod Sheet
 pub mod Racing

@@ -19,6 +19,7 @@ use Rattle.servo_motion.proofs.Runs.{runs}
 use Rattle.servo_motion.proofs.Velocity.{velocity}
 use Rattle.servo_filter.proofs.Held.{held-most}
 use Rattle.servo_filter.proofs.Sizes.{largest, reached}
+use Rattle.servo_filter.proofs.Answers.{only-the-integral}
 use Rattle.servo_rules.specs.declared.Mode.{Mode}
 use Rattle.servo_rules.specs.declared.Mode.the-variants.{Off, Pwm, Hold, Velocity, Trapezoid}
 use Rattle.servo_rules.specs.declared.Run.{Run}
@@ -113,7 +114,7 @@ module _ (m : Servo) (t : Fits m) where
           λ e z. absurd (distinct Pwm Trapezoid refl (sym q ∙ e)),
           λ n z. absurd (n z),
         );
-        output = λ s y u. (λ e z. toward-goal e, λ e z. greatest-speed e, λ n z. absurd (n z));
+        output = λ s t q. (λ e z. toward-goal e, λ e z. greatest-speed e, λ n z. absurd (n z));
         trip = λ q. after-off (tripped (advanced (m .run)) (m .run)) (tripped-released (m .run) .0);
       }) in
       record { velocity = a .0; trapezoid = a .1; off = a .2 }
@@ -136,7 +137,7 @@ module _ (m : Servo) (t : Fits m) where
 
       at : (b : Bool) → leb (natAbs (followed m)) (m .settings .tuning .gains .el) ≡ b → natAbs (ticked m .run .drive .output) ≤ m .settings .tuning .gains .ol
       at true e =
-          let q = k .runs lit s (leb-true _ _ e) .4 w in
+          let q = k .runs lit s (leb-true _ _ e) .output w in
           subst (λ (z : ℤ). natAbs z ≤ m .settings .tuning .gains .ol) (sym q) (held-most (m .settings .tuning .gains .ol) _)
       at false e = none-most _ (k .trip lit s (leb-false _ _ e) .0 .output)
 
@@ -181,6 +182,7 @@ meaning = record {
   goesOn = goes-on;
   speeds = speeds;
   output = output-most;
+  asTheBase = only-the-integral;
   largest = largest;
   reached = reached;
   bytes = ofLe-le;

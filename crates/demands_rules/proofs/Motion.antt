@@ -391,7 +391,7 @@ module _ (m : Servo) (t : Fits m) where
     low = λ q b. absurd (mode-unbound Off refl refl (off (m .run)) refl b);
     off = λ q b. b;
     pwm = λ q b. b;
-    output = λ s y u b. advanced-bound b;
+    output = λ s t q b. advanced-bound b;
     trip = λ q b. absurd (mode-unbound Off refl refl (tripped (advanced (m .run)) (m .run)) refl b);
   })
 

@@ -21,7 +21,7 @@ use Rattle.chain_rules.specs.Chain.{Net, byteStep}
 use Rattle.servo_motion.specs.Trapezoid.{terms, stop, pick, greatest, nextSpeed}
 use Rattle.servo_motion.specs.Setpoint.{distance, moved}
 use Rattle.servo_motion.specs.Profile.{left, trapezoid, stepped, byTrapezoid}
-use Rattle.servo_filter.specs.Filter.{filtered}
+use Rattle.servo_filter.specs.Filter.{held, drive, limited, filtered}
 use Rattle.servo_rules.specs.declared.Mode.the-variants.{Off, Velocity, Trapezoid}
 use Rattle.servo_rules.specs.declared.Servo.{Servo}
 use Rattle.servo_rules.specs.Carried.{isSet, carriedIn, inRange}
@@ -286,7 +286,7 @@ module _ (orders : List Byte) (power x : ℕ) where
 
 -- 2, 4 and sixty-eight times 5 from 0, forth and back
 forth-computed : Facts forth 1 0x05 346 (pos 5)
-unfolding taken byteStep Any.execute Any.request asked own ticked loadMeant gainMeant gainsIn gainsFit stopMeant haltOf stopped ones inRange carriedIn loaded loadOf ratesOf wayOf startable complete movable same start beginningAt toPlace distance difference signed servoed advanced byTrapezoid trapezoid stepped moved filtered terms stop pick greatest nextSpeed ran
+unfolding taken byteStep Any.execute Any.request asked own ticked loadMeant gainMeant gainsIn gainsFit stopMeant haltOf stopped ones inRange carriedIn loaded loadOf ratesOf wayOf startable complete movable same start beginningAt toPlace distance difference signed servoed advanced byTrapezoid trapezoid stepped moved held drive limited filtered terms stop pick greatest nextSpeed ran
 forth-computed = record {
   bytes = refl;
   small-byte = refl;
@@ -304,7 +304,7 @@ forth-computed = record {
 }
 
 back-computed : Facts back 2 0x6E (2 ^ 48 - 346) (negsuc 4)
-unfolding taken byteStep Any.execute Any.request asked own ticked loadMeant gainMeant gainsIn gainsFit stopMeant haltOf stopped ones inRange carriedIn loaded loadOf ratesOf wayOf startable complete movable same start beginningAt toPlace distance difference signed servoed advanced byTrapezoid trapezoid stepped moved filtered terms stop pick greatest nextSpeed ran
+unfolding taken byteStep Any.execute Any.request asked own ticked loadMeant gainMeant gainsIn gainsFit stopMeant haltOf stopped ones inRange carriedIn loaded loadOf ratesOf wayOf startable complete movable same start beginningAt toPlace distance difference signed servoed advanced byTrapezoid trapezoid stepped moved held drive limited filtered terms stop pick greatest nextSpeed ran
 back-computed = record {
   bytes = refl;
   small-byte = refl;

@@ -128,7 +128,7 @@ tick-steps : (m : Servo) → m .run .drive .mode ≡ Trapezoid → (m .samples .
 unfolding advanced
 tick-steps m e p l =
     let r = ticks m .runs p (ap servoOff e) l in
-    (r .0 ∙ ap (λ (k : Mode). advancedBy k (m .run .profile)) e, r .2 ∙ e)
+    (r .profile ∙ ap (λ (k : Mode). advancedBy k (m .run .profile)) e, r .mode ∙ e)
 
 -- k runs as m would after n ticks
 abbrev Later : ℕ → Servo → Servo → Type 0

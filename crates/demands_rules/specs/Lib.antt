@@ -8,3 +8,4 @@ pub mod Quickest
 pub mod Numbering
 pub mod Causes
 pub mod Dip
+pub mod Winding

@@ -82,8 +82,9 @@ pub record Meaning : Type 0 where
   pub noFrameRaises : NoFrameRaises
   pub goesOn : GoesOn
   pub speeds : (m : Servo) → Fits m → Speeds m (m .run .profile) (ticked m .run .profile)
-  -- the motor's output is within OL, and u within 2,684,141,572, which it reaches
+  -- the motor's output is within OL; on the same memory it is what document 01 puts out, cut or not; u is within 2,684,141,572, which it reaches
   pub output : (m : Servo) → Fits m → natAbs (ticked m .run .drive .output) ≤ m .settings .tuning .gains .ol
+  pub asTheBase : Filter.OnlyTheIntegral
   pub largest : Filter.Largest
   pub reached : Filter.Reached
   -- least significant byte first, for any number of bytes, there and back

@@ -1,4 +1,5 @@
 pub mod Held
+pub mod Limiting
 pub mod Sizes
 pub mod Answers
 pub mod Terms

@@ -6,8 +6,8 @@ use native.Mathlib.Omega.{arith}
 use lib.IntN.{ℤ, pos, negsuc, natAbs, _+ℤ_, _-ℤ_, _*ℤ_}
 use Rattle.base_integers.proofs.Sizes.{abs-add, abs-diff, abs-mul-le}
 use Rattle.servo_filter.specs.declared.Gains.{Gains}
-use Rattle.servo_filter.specs.Filter.{held, drive, summed, filtered, after}
-use Rattle.servo_filter.specs.Promises.{Largest, Reached}
+use Rattle.servo_filter.specs.Filter.{held, drive, summed, limited, filtered, Tick, after}
+use Rattle.servo_filter.specs.Promises.{Ranged, Largest, Settable, Reached}
 use Rattle.servo_filter.proofs.Held.{held-most}
 
 -- with gains up to K, and error, previous error and integral up to E, P and I
@@ -45,13 +45,25 @@ largest g m e r k h =
       integral = let l = r .il in omega (arith, held-most (g .il) (m .integral +ℤ e));
     })
 
+-- from 0 the integral is wound up with gains of 0, which cut nothing, and then the gains are set to their greatest
+abbrev with-gains : ℕ → Gains
+with-gains k = record { kp = k; kd = k; ki = k; il = 32767; ol = 255; el = 16383 }
+
+ranged : (k : ℕ) → k ≤ 32767 → Ranged (with-gains k)
+ranged k h = record { kp = h; kd = h; ki = h; il = omega arith; el = omega arith }
+
+abbrev idle : ℤ → Tick
+idle e = record { gains = with-gains 0; error = e }
+
 pub reached : Reached
-unfolding after filtered drive held
-reached = record {
-  gains = record { kp = 32767; kd = 32767; ki = 32767; il = 32767; ol = 255; el = 16383 };
-  errors = pos 16383 ∷ pos 16383 ∷ pos 16383 ∷ negsuc 16382 ∷ [];
-  last = pos 16383;
-  ranged = record { kp = omega arith; kd = omega arith; ki = omega arith; il = omega arith; el = omega arith };
-  within = omega arith;
-  reached = refl;
-}
+unfolding after filtered limited drive held Settable
+reached =
+    let z = ranged 0 (omega arith) in
+    let l : 255 ≤ 255 = omega arith in
+    record {
+      ticks = idle (pos 16383) ∷ idle (pos 16383) ∷ idle (pos 16383) ∷ idle (negsuc 16382) ∷ [];
+      last = record { gains = with-gains 32767; error = pos 16383 };
+      settable = (ranged 32767 (omega arith), l, (z, l, (z, l, (z, l, (z, l, tt)))));
+      within = omega arith;
+      reached = refl;
+    }

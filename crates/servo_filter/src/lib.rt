@@ -6,7 +6,7 @@ ghost use lib.Signed.{quotZ};
 ghost use mir.Syntax.{w64};
 ghost use mir.Val.{SFits};
 ghost use Rattle.base_integers.specs.Whole.{difference};
-ghost use Rattle.servo_filter.specs.Filter.{Kept, held, drive, filtered};
+ghost use Rattle.servo_filter.specs.Filter.{Kept, held, limited, drive, answered, filtered};
 
 // Gains and limits, as Set Gain brings them: IL holds the integral, OL the output, and past EL the servo goes off.
 pub struct Gains {
@@ -24,14 +24,22 @@ pub struct Memory {
     pub previous: i64,
 }
 
-// What a tick of the filter comes to: its new memory and the output, or off.
+// What holding an output to its limits leaves of it: all of it, or the limit that it lay above or below.
+pub enum Limited {
+    Plain(i64),
+    Above(i64),
+    Below(i64),
+}
+
+// What a tick of the filter comes to: its new memory and the output, plain or cut to its limit; or off.
 pub enum Filtered {
-    Output(Memory, i64),
+    Plain(Memory, i64),
+    Cut(Memory, i64),
     Off,
 }
 
 // z held to -limit..limit.
-fn hold(limit: u16, z: i64) -> i64
+pub fn hold(limit: u16, z: i64) -> i64
     ensures { λ r. ⌜ r ≡ held limit z ⌝ }
 {
     let high = limit as i64;
@@ -43,11 +51,18 @@ fn hold(limit: u16, z: i64) -> i64
     }
 }
 
-// An output held to its limits, the filter's or a PWM value.
-pub fn limited(ol: u8, z: i64) -> i64
-    ensures { λ r. ⌜ r ≡ held ol z ⌝ }
+// An output held to its limits, and whether that cut anything off it, and on which side.
+fn limit(ol: u8, z: i64) -> Limited
+    ensures { λ r. ⌜ r ≡ limited ol z ⌝ }
 {
-    hold(ol as u16, z)
+    let output = hold(ol as u16, z);
+    if output < z {
+        return Limited::Above(output);
+    }
+    if z < output {
+        return Limited::Below(output);
+    }
+    Limited::Plain(output)
 }
 
 // A gain times a number.
@@ -87,6 +102,23 @@ fn scaled(u: i64) -> i64
     u / 256
 }
 
+fn remembered(integral: i64, previous: i64) -> Memory
+    ensures { λ r. ⌜ r ≡ record { integral = integral; previous = previous } ⌝ }
+{
+    Memory { integral, previous }
+}
+
+// Where the output was cut, the integral goes back to its former number.
+fn answered(a: Limited, new: i64, former: i64, e: i64) -> Filtered
+    ensures { λ r. ⌜ r ≡ answered a new former e ⌝ }
+{
+    match a {
+        Limited::Plain(output) => Filtered::Plain(remembered(new, e), output),
+        Limited::Above(output) => Filtered::Cut(remembered(former, e), output),
+        Limited::Below(output) => Filtered::Cut(remembered(former, e), output),
+    }
+}
+
 // The filter at the error e.
 fn at_error(g: Gains, m: Memory, e: i64) -> Filtered
     requires { ⌜ Kept m ⌝ }
@@ -99,14 +131,7 @@ fn at_error(g: Gains, m: Memory, e: i64) -> Filtered
     let sum = m.integral + e;
     let integral = hold(g.il, sum);
     let u = drive(g, e, m.previous, integral);
-    let output = limited(g.ol, scaled(u));
-    Filtered::Output(
-        Memory {
-            integral,
-            previous: e,
-        },
-        output,
-    )
+    answered(limit(g.ol, scaled(u)), integral, m.integral, e)
 }
 
 // A tick of the filter, from the setpoint's whole part and the position.

@@ -3,7 +3,7 @@ ghost use mathlib.Core.Path.{_≡_};
 ghost use Prim.Native.Nat.{_≤_, _<_, _^_};
 ghost use lib.IntN.{natAbs};
 ghost use Rattle.servo_motion.specs.Profile.{fastest, Ranged};
-ghost use Rattle.servo_filter.specs.Filter.{told};
+ghost use Rattle.servo_filter.specs.Filter.{Kept, blank, told};
 ghost use Rattle.servo_filter.specs.Promises.{Ranged as Gains·Ranged};
 use libc::STDOUT_FILENO;
 use servo_filter::Filtered;
@@ -105,40 +105,51 @@ fn velocity(speed: i64, aim: i64, acceleration: u32, rows: u32)
     walk(p, true, 1, rows);
 }
 
-// The output, or off; and the memory that is kept.
+// The output, with a word if it was cut, or off; and the memory that is kept.
 fn answered(f: Filtered) -> Memory
     requires { ⌜ natAbs (told f .output) < 256 ⌝ }
     ensures { λ r. ⌜ r ≡ told f .memory ⌝ }
 {
     match f {
-        Filtered::Output(m, out) => {
+        Filtered::Plain(m, out) => {
             write(out);
+            m
+        }
+        Filtered::Cut(m, out) => {
+            write(out);
+            io::write_all(STDOUT_FILENO, b" cut");
             m
         }
         Filtered::Off => {
             io::write_all(STDOUT_FILENO, b" off");
-            Memory {
-                integral: 0,
-                previous: 0,
-            }
+            blank()
         }
     }
 }
 
-// The outputs at these positions, one a tick, from a blank memory.
-fn outputs(g: Gains, setpoint: u32, positions: &[u32])
-    requires { ⌜ Gains·Ranged g ⌝ }
+fn blank() -> Memory
+    ensures { λ r. ⌜ (r ≡ blank) × Kept r ⌝ }
 {
-    let mut m = Memory {
+    Memory {
         integral: 0,
         previous: 0,
-    };
+    }
+}
+
+// The outputs at these positions, one a tick, and the memory after them.
+fn outputs(g: Gains, start: Memory, setpoint: u32, positions: &[u32]) -> Memory
+    requires { ⌜ Gains·Ranged g ⌝ }
+    requires { ⌜ Kept start ⌝ }
+    ensures { λ r. ⌜ Kept r ⌝ }
+{
+    let mut m = start;
     let mut i: usize = 0;
     while i < positions.len() {
         m = answered(servo_filter::filter(g, m, setpoint, positions[i]));
         i += 1;
     }
     io::write_all(STDOUT_FILENO, b"\n");
+    m
 }
 
 // The bench sheet's moves, their mirror images, and the shortest one.
@@ -191,30 +202,35 @@ fn small_errors() {
         ol: 255,
         el: 16383,
     };
-    outputs(g, 0, &positions);
+    outputs(g, blank(), 0, &positions);
 }
 
-// All gains at their greatest, with the errors that bring u to its bound.
-fn greatest_gains() {
-    let positions = [
-        2147467265u32,
-        2147467265,
-        2147467265,
-        2147500031,
-        2147467265,
-    ];
-    let g = Gains {
-        kp: 32767,
-        kd: 32767,
-        ki: 32767,
+// All three gains k, the limits at their greatest.
+fn gains(k: u16) -> Gains
+    requires { ⌜ k ≤ 32767 ⌝ }
+    ensures { λ r. ⌜ Gains·Ranged r ⌝ }
+{
+    Gains {
+        kp: k,
+        kd: k,
+        ki: k,
         il: 32767,
         ol: 255,
         el: 16383,
-    };
-    outputs(g, 2147483648, &positions);
+    }
 }
 
-// A held integral, and an error above the limit.
+// With gains of 0 nothing is cut, and the integral winds up; then gains at their greatest, and the error that brings u to its bound. So they cut at once,
+// and the integral stays 0.
+fn greatest_gains() {
+    let winding = [2147467265u32, 2147467265, 2147467265, 2147500031];
+    let last = [2147467265u32];
+    let wound = outputs(gains(0), blank(), 2147483648, &winding);
+    outputs(gains(32767), wound, 2147483648, &last);
+    outputs(gains(32767), blank(), 2147483648, &winding);
+}
+
+// A held integral, outputs that are cut, and an error above the limit.
 fn held_integral() {
     let positions = [500u32, 200, 700, 1200, 3000, 3001, 1000];
     let g = Gains {
@@ -225,7 +241,7 @@ fn held_integral() {
         ol: 100,
         el: 2000,
     };
-    outputs(g, 1000, &positions);
+    outputs(g, blank(), 1000, &positions);
 }
 
 fn main() {

@@ -64,6 +64,7 @@ fn no_run() -> Run
             output: 0,
             error: true,
             amplifier: false,
+            cut: false,
         },
     }
 }

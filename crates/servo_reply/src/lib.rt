@@ -51,6 +51,7 @@ fn status(cause: u8, power: u8, r: Run) -> u8
 {
     bit_at(1, is_done(r))
         + module_station::cause_bit(cause)
+        + bit_at(4, r.drive.cut)
         + bit_at(8, power == 1)
         + bit_at(16, r.drive.error)
 }

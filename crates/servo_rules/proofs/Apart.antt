@@ -81,5 +81,10 @@ unseen = record {
   numbers = λ s m. refl;
   outputs = λ s m. refl;
   status = λ s m e.
-      ap (λ (t : Bool). bitAt 1 (done (m .run)) + cond t 0 2 + bitAt 8 (good (m .samples .latched .power)) + bitAt 16 (m .run .drive .error)) e;
+      ap (λ (t : Bool).
+      bitAt 1 (done (m .run))
+      + cond t 0 2
+      + bitAt 4 (m .run .drive .cut)
+      + bitAt 8 (good (m .samples .latched .power))
+      + bitAt 16 (m .run .drive .error)) e;
 }

@@ -78,7 +78,7 @@ tick-rests m h r =
       low = λ q. (off-rests _ refl, refl);
       off = λ q. (r, refl);
       pwm = λ q. (r, refl);
-      output = λ s y u. (
+      output = λ s t q. (
         subst (λ (p : Profile). Rests p (m .run .drive .mode) (m .run .drive .pulse)) (sym e) r,
         ap (λ (p : Profile). p .setpoint) e,
       );
@@ -102,7 +102,7 @@ stays-resting = record {
 
 halted-off : (a : Bool) (h : Halt) (x : ℕ) (m : Servo) → Released (m .run) → ((h ≡ Abrupt) ⊎ (h ≡ Here) → ⊥) → Released (stopped a h x m .run)
 unfolding stopped
-halted-off a Keep x m r n = record { mode = r .mode; speed = r .speed; output = r .output; pulse = r .pulse; memory = r .memory }
+halted-off a Keep x m r n = record { mode = r .mode; speed = r .speed; output = r .output; pulse = r .pulse; cut = r .cut; memory = r .memory }
 halted-off a Release x m r n = stops a x m .release
 halted-off a Abrupt x m r n = absurd (n (inl refl))
 halted-off a Smooth x m r n = stops a x m .slowOff (ap servoOff (r .mode))
@@ -119,13 +119,13 @@ Rousing ClearBits = ⊥
 
 order-off : (c : Order) (m : Servo) → Released (m .run) → (Rousing c → ⊥) → Released (perform c m .run)
 unfolding resetPosition shifted loaded
-order-off ResetPosition m r n = record { mode = r .mode; speed = r .speed; output = r .output; pulse = r .pulse; memory = r .memory }
+order-off ResetPosition m r n = record { mode = r .mode; speed = r .speed; output = r .output; pulse = r .pulse; cut = r .cut; memory = r .memory }
 order-off (LoadTrajectory c) m r n =
     by-test (λ (k : Servo). Released (k .run)) (startsNow c) (start (loaded c m)) (loaded c m) (λ t. absurd (n t)) (λ t. r)
 order-off Start m r n = absurd (n tt)
 order-off (SetGain t) m r n = r
 order-off (Stop a h x) m r n = halted-off a h x m r n
-order-off ClearBits m r n = record { mode = r .mode; speed = r .speed; output = r .output; pulse = r .pulse; memory = r .memory }
+order-off ClearBits m r n = record { mode = r .mode; speed = r .speed; output = r .output; pulse = r .pulse; cut = r .cut; memory = r .memory }
 
 -- a frame that asks for one has its code and its bits
 rouses : (f : Frame) (c : Order) → Known f (wants c) → Rousing c → TurnsOn f
@@ -150,7 +150,7 @@ tick-off m r = tick-ends Released m (record {
   low = λ q. off-released (m .run);
   off = λ q. r;
   pwm = λ q. absurd (distinct Off Pwm refl (sym (r .mode) ∙ q));
-  output = λ s y u. absurd (true≢false (sym (ap servoOff (r .mode)) ∙ s));
+  output = λ s t q. absurd (true≢false (sym (ap servoOff (r .mode)) ∙ s));
   trip = λ q. tripped-released (m .run) .0;
 })
 
@@ -159,7 +159,7 @@ stays-off = record {
   frame = λ f alone m r n.
       leaves (λ (k : Servo). Released (k .run)) f alone m (record {
         kept = λ s. r;
-        renewed = λ d q. record { mode = refl; speed = refl; output = refl; pulse = refl; memory = refl };
+        renewed = λ d q. record { mode = refl; speed = refl; output = refl; pulse = refl; cut = refl; memory = refl };
         performed = λ c d q t.
             let z : execute f alone m .station .cause ≡ 0 = ap (λ (k : Servo). k .station .cause) (cause servo apart f alone m .executed c d q t) in
             order-off c m r (λ o. n d z (rouses f c (subst (Known f) q (known f alone)) o));

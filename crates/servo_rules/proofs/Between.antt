@@ -1,21 +1,24 @@
--- What frames do to the output between ticks, and that a motor is driven only at power 1 and not in off. Assumes nothing.
+-- What frames do to the output and to the cut bit between ticks, that a motor is driven only at power 1 and not in off, and that neither off nor PWM has a
+-- cut bit. Assumes nothing.
 use mathlib.Core.Path.{_≡_, refl, sym, ap, _∙_}
 use mathlib.Core.Logic.{_⊎_, inl, inr}
-use mathlib.Core.Bool.{Bool}
+use mathlib.Core.Bool.{Bool, true, false, false≢true}
 use lib.IntN.{pos}
 use Rattle.line_receiver.specs.Frames.{Frame}
 use Rattle.servo_rules.specs.declared.Order.{Order}
 use Rattle.servo_rules.specs.declared.Order.the-variants.{ResetPosition, LoadTrajectory, Start, SetGain, Stop, ClearBits}
 use Rattle.servo_rules.specs.declared.Samples.{Samples}
 use Rattle.servo_rules.specs.declared.Mode.the-variants.{Off, Pwm}
+use Rattle.servo_rules.specs.declared.Drive.{Drive}
 use Rattle.servo_rules.specs.declared.Run.{Run}
 use Rattle.servo_rules.specs.declared.Servo.{Servo}
-use Rattle.servo_rules.specs.State.{position, idled, off}
+use Rattle.servo_rules.specs.State.{position, servoOff, idled, off}
 use Rattle.servo_rules.specs.Loads.{loaded, startsNow, start}
 use Rattle.servo_rules.specs.Perform.{resetPosition, stopped, perform}
 use Rattle.servo_rules.specs.Tick.{tripped, pulsed, ticked}
 use Rattle.servo_rules.specs.Answers.{execute}
 use Rattle.servo_rules.specs.TickPromises.{Between, Silent, DrivenOnly}
+use Rattle.servo_rules.specs.CutPromises.{Uncut, CutBit}
 use Rattle.servo_rules.proofs.Keeping.{either, Undriven, still, not-off, distinct, started-keeps, halted-keeps}
 use Rattle.servo_rules.proofs.Framed.{leaves}
 use Rattle.servo_rules.proofs.Ends.{tick-ends}
@@ -23,7 +26,7 @@ use Rattle.servo_rules.proofs.Ticking.{ticks}
 
 -- the samples as they were, and no new output
 abbrev Quiet : Servo → Servo → Type 0
-Quiet m n = (n .samples ≡ m .samples) × Undriven (m .run) (n .run)
+Quiet m n = (n .samples ≡ m .samples) × Undriven (m .run .drive) (n .run .drive)
 
 start-quiet : (m : Servo) → Quiet m (start m)
 unfolding start
@@ -31,35 +34,35 @@ start-quiet m = (refl, started-keeps (m .settings .load .way) (position m) (m .s
 
 order-quiet : (c : Order) (m : Servo) → Quiet m (perform c m)
 unfolding resetPosition loaded stopped
-order-quiet ResetPosition m = (refl, still (m .run))
+order-quiet ResetPosition m = (refl, still (m .run .drive))
 order-quiet (LoadTrajectory c) m =
-    either (Quiet m) (startsNow c) (start (loaded c m)) (loaded c m) (start-quiet (loaded c m)) (refl, still (m .run))
+    either (Quiet m) (startsNow c) (start (loaded c m)) (loaded c m) (start-quiet (loaded c m)) (refl, still (m .run .drive))
 order-quiet Start m = start-quiet m
-order-quiet (SetGain t) m = (refl, still (m .run))
+order-quiet (SetGain t) m = (refl, still (m .run .drive))
 order-quiet (Stop a h x) m = (refl, halted-keeps h (position m) x (m .run) .undriven)
-order-quiet ClearBits m = (refl, still (m .run))
+order-quiet ClearBits m = (refl, still (m .run .drive))
 
 frame-quiet : (f : Frame) (alone : Bool) (m : Servo) → Quiet m (execute f alone m)
 frame-quiet f alone m = leaves (Quiet m) f alone m (record {
-  kept = λ s. (refl, still (m .run));
-  renewed = λ d q. (refl, inr (refl, refl));
+  kept = λ s. (refl, still (m .run .drive));
+  renewed = λ d q. (refl, inr (refl, refl, refl));
   performed = λ c d q t. order-quiet c m;
 })
 
 pub between : Between
-between f alone m = by (frame-quiet f alone m .1)
+between f alone m = by (execute f alone m .run .drive) (frame-quiet f alone m .1)
   where
-    by : {A B C : Type 0} → (A × B) ⊎ C → A ⊎ C
-    by (inl h) = inl (h .0)
-    by (inr h) = inr h
+    by : (d : Drive) → Undriven (m .run .drive) d → (d .output ≡ m .run .drive .output) ⊎ ((d .output ≡ pos 0) × (servoOff (d .mode) ≡ true))
+    by d (inl h) = inl (h .0)
+    by d (inr h) = inr (h .0, h .2)
 
 -- what leaves the output, or ends it, leaves a motor undriven
 quiet-silent : (m n : Servo) → Quiet m n → Silent m → Silent n
 quiet-silent m n q s = by (q .1)
   where
-    by : Undriven (m .run) (n .run) → Silent n
+    by : Undriven (m .run .drive) (n .run .drive) → Silent n
     by (inl h) = record {
-      off = λ e. h .0 ∙ s .off (h .1 e);
+      off = λ e. h .0 ∙ s .off (h .2 e);
       unpowered = λ p. h .0 ∙ s .unpowered (λ e. p (ap (λ (x : Samples). x .latched .power) (q .0) ∙ e));
     }
     by (inr h) = record { off = λ e. h .0; unpowered = λ p. h .0 }
@@ -72,7 +75,7 @@ tick-off m s =
       low = λ e k. refl;
       off = λ e k. s .off k;
       pwm = λ q k. absurd (distinct Pwm Off refl (sym q ∙ k));
-      output = λ q y u k. absurd (not-off (m .run .drive .mode) q k);
+      output = λ q t z k. absurd (not-off (m .run .drive .mode) q k);
       trip = λ q k. refl;
     })
 
@@ -84,3 +87,33 @@ driven-only = record {
   sampling = λ x m s. record { off = s .off; unpowered = s .unpowered };
   tick = λ m s. record { off = tick-off m s; unpowered = λ p. ticks m .unpowered p (s .off) };
 }
+
+-- ---- the cut bit
+
+quiet-uncut : (m n : Servo) → Undriven (m .run .drive) (n .run .drive) → Uncut m → Uncut n
+quiet-uncut m n (inl h) u e = h .1 ∙ u (h .3 e)
+quiet-uncut m n (inr h) u e = h .1
+
+tick-uncut : (m : Servo) → Uncut m → Uncut (ticked m)
+unfolding pulsed tripped idled off
+tick-uncut m u =
+    tick-ends (λ (r : Run). servoOff (r .drive .mode) ≡ true → r .drive .cut ≡ false) m (record {
+      low = λ e k. refl;
+      off = λ e k. u k;
+      pwm = λ q k. u k;
+      output = λ q t z k. absurd (false≢true (sym q ∙ k));
+      trip = λ q k. refl;
+    })
+
+pub cut-bit : CutBit
+cut-bit = record {
+  between = λ f alone m. by m (execute f alone m .run .drive) (frame-quiet f alone m .1);
+  power = λ e. refl;
+  frame = λ f alone m. quiet-uncut m (execute f alone m) (frame-quiet f alone m .1);
+  sampling = λ x m u. u;
+  tick = tick-uncut;
+}
+  where
+    by : (m : Servo) (d : Drive) → Undriven (m .run .drive) d → (d .cut ≡ m .run .drive .cut) ⊎ ((d .cut ≡ false) × (servoOff (d .mode) ≡ true))
+    by m d (inl h) = inl (h .1)
+    by m d (inr h) = inr (h .1, h .2)

@@ -26,6 +26,7 @@ clears f alone m d k e =
       pulse = refl;
       output = refl;
       amplifier = refl;
+      cut = refl;
     })
 
 pub always-now : AlwaysNow

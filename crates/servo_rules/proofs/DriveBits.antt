@@ -4,9 +4,9 @@ use mathlib.Core.Logic.{_⊎_, inl, inr}
 use mathlib.Core.Bool.{Bool, true, false, false≢true}
 use Prim.Native.Nat.{ℕ, _<_}
 use native.Mathlib.Omega.{arith}
-use borrow.Author.Tests.{eqb-true, eqb-false, leb-true, leb-false}
+use borrow.Author.Tests.{eqb-true, eqb-false}
 use lib.ListN.{length, getD}
-use lib.Dec.{eqb, leb}
+use lib.Dec.{eqb}
 use lib.IntN.{natAbs}
 use Rattle.base_layout.specs.Bytes.{ofLe, readAt}
 use Rattle.line_receiver.specs.Frames.{Frame}
@@ -14,10 +14,8 @@ use Rattle.module_rules.specs.declared.Fault.the-variants.{Count, Value}
 use Rattle.module_rules.specs.Rules.{Request, malformed, reset, wants, ranged, settled}
 use Rattle.module_rules.proofs.Settled.{settles, cause}
 use Rattle.servo_filter.specs.declared.Gains.{Gains}
-use Rattle.servo_filter.specs.declared.Filtered.{Filtered}
-use Rattle.servo_filter.specs.declared.Filtered.the-variants as Filters
-use Rattle.servo_filter.specs.Filter.{Told, told}
-use Rattle.servo_filter.proofs.Answers.{works}
+use Rattle.servo_filter.specs.Filter.{Told}
+use Rattle.servo_filter.proofs.Answers.{works, Ends, tripped, plain, cut, ends}
 use Rattle.servo_rules.specs.declared.Halt.{Halt}
 use Rattle.servo_rules.specs.declared.Order.{Order}
 use Rattle.servo_rules.specs.declared.Order.the-variants.{ResetPosition, LoadTrajectory, Start, SetGain, Stop, ClearBits}
@@ -29,7 +27,7 @@ use Rattle.servo_rules.specs.Asks.{haltOf, oneHalt, stopCount, stopMeant
 use Rattle.servo_rules.specs.State.{positionAt, position, idled, off}
 use Rattle.servo_rules.specs.Loads.{loaded, startsNow, start}
 use Rattle.servo_rules.specs.Perform.{resetPosition, stopped, can, perform}
-use Rattle.servo_rules.specs.Tick.{tripped, followedAt, pulsed, ticked}
+use Rattle.servo_rules.specs.Tick.{tripped as tripping, followedAt, pulsed, ticked}
 use Rattle.servo_rules.specs.Answers.{servo, request, withCause, execute}
 use Rattle.servo_rules.specs.TickPromises.{followed, ErrorBit, Switches, AmplifierBit}
 use Rattle.servo_rules.proofs.Keeping.{either, started-keeps, halted-keeps}
@@ -69,14 +67,16 @@ order-as (Stop a h x) m = record { error = λ b. halted-keeps h (position m) x (
 order-as ClearBits m = record { error = λ b. absurd (b refl); amplifier = λ b. refl }
 
 -- a filter that trips has seen an error above the limit
-trip-far : (here : ℕ) (g : Gains) (r : Run) → answer here g r ≡ Filters.Off → g .el < natAbs (followedAt here r)
-trip-far here g r q = by (leb (natAbs (followedAt here r)) (g .el)) refl
+trip-far : (here : ℕ) (g : Gains) (r : Run) → answer here g r .trips ≡ true → g .el < natAbs (followedAt here r)
+trip-far here g r q = by (ends g (r .memory) (followedAt here r))
   where
-    by : (t : Bool) → leb (natAbs (followedAt here r)) (g .el) ≡ t → g .el < natAbs (followedAt here r)
-    by true e =
-        let w = works g (r .memory) (followedAt here r) (leb-true _ _ e) in
-        absurd (false≢true (sym (ap (λ (t : Told). t .trips) w) ∙ ap (λ (a : Filtered). told a .trips) q))
-    by false e = leb-false _ _ e
+    not-told : (t : Told) → t .trips ≡ false → answer here g r ≡ t → ⊥
+    not-told t f e = false≢true (sym f ∙ sym (ap (λ (t : Told). t .trips) e) ∙ q)
+
+    by : Ends g (r .memory) (followedAt here r) → g .el < natAbs (followedAt here r)
+    by (tripped h) = h
+    by (plain h l) = absurd (not-told _ refl (works g (r .memory) (followedAt here r) h .plain l))
+    by (cut h l) = absurd (not-told _ refl (works g (r .memory) (followedAt here r) h .cut l))
 
 -- an error bit as it was, or set by such an error
 abbrev Marked : Servo → Run → Type 0
@@ -84,13 +84,13 @@ Marked m r =
     (r .drive .error ≡ m .run .drive .error) ⊎ ((r .drive .error ≡ true) × (m .settings .tuning .gains .el < natAbs (followed m)))
 
 tick-error : (m : Servo) → Marked m (ticked m .run)
-unfolding pulsed tripped idled off
+unfolding pulsed tripping idled off
 tick-error m =
     tick-ends (Marked m) m (record {
       low = λ e. inl refl;
       off = λ e. inl refl;
       pwm = λ q. inl refl;
-      output = λ s y u. inl refl;
+      output = λ s t q. inl refl;
       trip = λ q. inr (refl, trip-far (positionAt (m .samples .waiting) (m .counts)) (m .settings .tuning .gains) (m .run) q);
     })
 
@@ -109,12 +109,12 @@ error-bit = record {
 }
 
 tick-amplifier : (m : Servo) → Amplifier m (ticked m)
-unfolding pulsed tripped idled off
+unfolding pulsed tripping idled off
 tick-amplifier m = tick-ends (λ (s : Run). s .drive .amplifier ≡ m .run .drive .amplifier) m (record {
   low = λ e. refl;
   off = λ e. refl;
   pwm = λ q. refl;
-  output = λ s y u. refl;
+  output = λ s t q. refl;
   trip = λ q. refl;
 })
 

@@ -11,7 +11,6 @@ use Rattle.base_integers.specs.Whole.{difference}
 use Rattle.servo_motion.specs.declared.Profile.{Profile}
 use Rattle.servo_motion.specs.Setpoint.{whole, moved}
 use Rattle.servo_motion.proofs.Moves.{moves}
-use Rattle.servo_filter.specs.declared.Memory.{Memory}
 use Rattle.servo_rules.specs.declared.Mode.{Mode}
 use Rattle.servo_rules.specs.declared.Mode.the-variants.{Off, Pwm, Hold, Velocity, Trapezoid}
 use Rattle.servo_rules.specs.declared.Servo.{Servo}
@@ -58,13 +57,12 @@ module _ (m : Servo) (on : servoOff (ticked m .run .drive .mode) ≡ false) wher
   went : (m .samples .waiting .power ≡ 0 → ⊥) → servoOff (m .run .drive .mode) ≡ false → natAbs (followed m) ≤ m .settings .tuning .gains .el → StillOn m (ticked m)
   went n k h =
       let r = ticks m .runs n k h in
-      let e : ticked m .run .memory .previous ≡ followed m = ap (λ (y : Memory). y .previous) (r .1) in
       record {
-        mode = r .2;
-        goes = goes (ticked m .run .profile) (r .0);
-        holds = λ e. let s = steps (ticked m .run .profile) Hold e (r .0) in (ap (λ (p : Profile). p .setpoint) s, ap (λ (p : Profile). p .speed) s);
-        previous = e ∙ seen (ticked m .run .profile) (r .0);
-        within = subst (λ (z : ℤ). natAbs z ≤ m .settings .tuning .gains .el) (sym e) h;
+        mode = r .mode;
+        goes = goes (ticked m .run .profile) (r .profile);
+        holds = λ e. let s = steps (ticked m .run .profile) Hold e (r .profile) in (ap (λ (p : Profile). p .setpoint) s, ap (λ (p : Profile). p .speed) s);
+        previous = r .previous ∙ seen (ticked m .run .profile) (r .profile);
+        within = subst (λ (z : ℤ). natAbs z ≤ m .settings .tuning .gains .el) (sym (r .previous)) h;
       }
 
   by-error : (m .samples .waiting .power ≡ 0 → ⊥) → servoOff (m .run .drive .mode) ≡ false → (t : Bool) → leb (natAbs (followed m)) (m .settings .tuning .gains .el) ≡ t → StillOn m (ticked m)

@@ -12,6 +12,7 @@ fresh-blank x = record {
   finished = refl;
   error = refl;
   amplifier = refl;
+  cut = refl;
   output = refl;
   pulse = refl;
   speed = refl;

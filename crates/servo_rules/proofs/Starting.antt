@@ -66,9 +66,9 @@ start-now c m = record {
 pub begins : Begins
 unfolding start beginningAt idled toSpeed toPlace
 begins m = record {
-  pulse = λ e. rw e (refl, refl, refl, refl, refl);
-  speed = λ e. rw e (refl, refl, refl, record { setpoint = refl; speed = refl; output = refl; memory = refl });
-  move = λ e. rw e (refl, refl, refl, refl, record { setpoint = refl; speed = refl; output = refl; memory = refl });
+  pulse = λ e. rw e (refl, refl, refl, refl, refl, refl);
+  speed = λ e. rw e (refl, refl, refl, record { setpoint = refl; speed = refl; output = refl; cut = refl; memory = refl });
+  move = λ e. rw e (refl, refl, refl, refl, record { setpoint = refl; speed = refl; output = refl; cut = refl; memory = refl });
   fromOff = λ e. rw e refl;
   fromOn = λ e. rw e refl;
 }

@@ -22,16 +22,17 @@ module _ (a : Bool) (x : ℕ) (m : Servo) where
     setpoint = rw e refl;
     speed = rw e refl;
     output = rw e refl;
+    cut = rw e refl;
     memory = rw e refl;
   }
 
   slows-off : servoOff (m .run .drive .mode) ≡ true → Released (stopped a Smooth x m .run)
   unfolding stopped smooth off idled
-  slows-off e = record { mode = rw e refl; speed = rw e refl; output = rw e refl; pulse = rw e refl; memory = rw e refl }
+  slows-off e = record { mode = rw e refl; speed = rw e refl; output = rw e refl; pulse = rw e refl; cut = rw e refl; memory = rw e refl }
 
   released : Released (stopped a Release x m .run)
   unfolding stopped off idled
-  released = record { mode = refl; speed = refl; output = refl; pulse = refl; memory = refl }
+  released = record { mode = refl; speed = refl; output = refl; pulse = refl; cut = refl; memory = refl }
 
   waits-not : (h : Halt) → (h ≡ Keep → ⊥) → stopped a h x m .settings .load .waits ≡ false
   unfolding stopped
@@ -46,8 +47,8 @@ unfolding stopped holding
 stops a x m = record {
   keep = refl;
   release = released a x m;
-  abrupt = record { mode = refl; setpoint = refl; speed = refl; output = refl; memory = refl };
-  here = record { mode = refl; setpoint = refl; speed = refl; output = refl; memory = refl };
+  abrupt = record { mode = refl; setpoint = refl; speed = refl; output = refl; cut = refl; memory = refl };
+  here = record { mode = refl; setpoint = refl; speed = refl; output = refl; cut = refl; memory = refl };
   slow = slows a x m;
   slowOff = slows-off a x m;
   amplifier = λ h. refl;

@@ -2,26 +2,27 @@
 use mathlib.Core.Path.{_≡_, refl, sym, ap, subst, _∙_}
 use mathlib.Core.Bool.{Bool, true, false, cond, true≢false}
 use Prim.Native.Nat.{ℕ, _≤_, _<_}
-use borrow.Author.Tests.{eq-eqb, ne-eqb, lt-leb, le-leb}
-use lib.IntN.{pos, natAbs}
+use native.Mathlib.Omega.{arith}
+use borrow.Author.Tests.{eq-eqb, ne-eqb, leb-true, leb-false}
+use lib.Dec.{leb}
+use lib.IntN.{ℤ, pos, natAbs}
 use Rattle.servo_filter.specs.declared.Gains.{Gains}
-use Rattle.servo_filter.specs.declared.Filtered.{Filtered}
-use Rattle.servo_filter.specs.declared.Filtered.the-variants as Filters
-use Rattle.servo_filter.specs.Filter.{held, filtered}
+use Rattle.servo_filter.specs.Filter.{held, summed, Told}
+use Rattle.servo_filter.proofs.Answers.{trips, works}
 use Rattle.servo_rules.specs.declared.Mode.{Mode}
 use Rattle.servo_rules.specs.declared.Mode.the-variants.{Off, Pwm, Hold, Velocity, Trapezoid}
 use Rattle.servo_rules.specs.declared.Run.{Run}
 use Rattle.servo_rules.specs.declared.Servo.{Servo}
 use Rattle.servo_rules.specs.State.{positionAt, position, servoOff, withLast, idled, off}
-use Rattle.servo_rules.specs.Tick.{advanced, putOut, tripped, filteredTo, servoed, pulsed, drivenBy, ran, ticked}
+use Rattle.servo_rules.specs.Tick.{advanced, putOut, tripped, workedTo, filteredTo, servoed, pulsed, drivenBy, ran, ticked}
 use Rattle.servo_rules.specs.StopPromises.{Released}
-use Rattle.servo_rules.specs.TickPromises.{followed, remembered, worked, Ticks}
+use Rattle.servo_rules.specs.TickPromises.{followed, reaching, worked, Winds, Runs, Ticks}
 use Rattle.servo_rules.proofs.Keeping.{off-released}
 use Rattle.servo_rules.proofs.Ends.{answer, tick-ends}
 
 pub tripped-released : (r : Run) → Released (tripped (advanced r) r) × (tripped (advanced r) r .drive .error ≡ true)
 unfolding tripped idled off
-tripped-released r = (record { mode = refl; speed = refl; output = refl; pulse = refl; memory = refl }, refl)
+tripped-released r = (record { mode = refl; speed = refl; output = refl; pulse = refl; cut = refl; memory = refl }, refl)
 
 module _ (power here : ℕ) (g : Gains) (r : Run) where
   -- what a tick makes of what runs at power 0, and at any other by the mode
@@ -45,9 +46,9 @@ module _ (power here : ℕ) (g : Gains) (r : Run) where
   by-filter Velocity e = refl
   by-filter Trapezoid e = refl
 
-  answered : (power ≡ 0 → ⊥) → servoOff (r .drive .mode) ≡ false → (a : Filtered) → answer here g r ≡ a
-      → ran power here g r ≡ filteredTo a power (advanced r) r
-  answered n s a e = by-mode n ∙ by-filter (r .drive .mode) s ∙ ap (λ (a : Filtered). filteredTo a power (advanced r) r) e
+  answered : (power ≡ 0 → ⊥) → servoOff (r .drive .mode) ≡ false → (t : Told) → answer here g r ≡ t
+      → ran power here g r ≡ filteredTo t power (advanced r) r
+  answered n s t e = by-mode n ∙ by-filter (r .drive .mode) s ∙ ap (λ (t : Told). filteredTo t power (advanced r) r) e
 
 module _ (m : Servo) where
   -- no output without power 1
@@ -58,21 +59,59 @@ module _ (m : Servo) where
     low = λ e. refl;
     off = h;
     pwm = λ q. rw (ne-eqb _ _ n) refl;
-    output = λ s y u. rw (ne-eqb _ _ n) refl;
+    output = λ s t q. rw (ne-eqb _ _ n) refl;
     trip = λ q. refl;
   })
 
   abbrev place : ℕ
   place = positionAt (m .samples .waiting) (m .counts)
 
-  trips : m .settings .tuning .gains .el < natAbs (followed m) → answer place (m .settings .tuning .gains) (m .run) ≡ Filters.Off
-  unfolding filtered
-  trips h = rw (lt-leb (natAbs (followed m)) (m .settings .tuning .gains .el) h) refl
+  -- what the filter tells within EL, with the integral and the cut bit that it stores
+  abbrev stored : ℤ → Bool → Told
+  stored integral cut =
+      record { trips = false; memory = record { integral = integral; previous = followed m }; output = worked m; cut = cut }
 
-  runs : natAbs (followed m) ≤ m .settings .tuning .gains .el
-      → answer place (m .settings .tuning .gains) (m .run) ≡ Filters.Output (remembered m) (worked m)
-  unfolding filtered
-  runs h = rw (le-leb (natAbs (followed m)) (m .settings .tuning .gains .el) h) refl
+  -- a tick that runs, by what is told
+  module _ (n : m .samples .waiting .power ≡ 0 → ⊥) (k : servoOff (m .run .drive .mode) ≡ false) (integral : ℤ) (cut : Bool)
+      (q : answer place (m .settings .tuning .gains) (m .run) ≡ stored integral cut) where
+    made : ticked m .run ≡ workedTo (stored integral cut) (m .samples .waiting .power) (advanced (m .run)) (m .run)
+    unfolding ticked
+    made = answered (m .samples .waiting .power) place (m .settings .tuning .gains) (m .run) n k (stored integral cut) q
+
+    put-out : m .samples .waiting .power ≡ 1 → ticked m .run .drive .output ≡ worked m
+    unfolding putOut
+    put-out p = ap (λ (s : Run). s .drive .output) made ∙ ap (λ (t : Bool). cond t (worked m) (pos 0)) (eq-eqb _ _ p)
+
+    winds : Winds integral cut (ticked m)
+    winds = (ap (λ (s : Run). s .memory .integral) made, ap (λ (s : Run). s .drive .cut) made)
+
+    going : (natAbs (reaching m) ≤ m .settings .tuning .gains .ol
+        → Winds (summed (m .settings .tuning .gains) (m .run .memory) (followed m)) false (ticked m))
+        → (m .settings .tuning .gains .ol < natAbs (reaching m) → Winds (m .run .memory .integral) true (ticked m))
+        → Runs m (ticked m)
+    going p c = record {
+      profile = ap (λ (s : Run). s .profile) made;
+      previous = ap (λ (s : Run). s .memory .previous) made;
+      mode = ap (λ (s : Run). s .drive .mode) made;
+      error = ap (λ (s : Run). s .drive .error) made;
+      output = put-out;
+      plain = p;
+      cut = c;
+    }
+
+  runs : (m .samples .waiting .power ≡ 0 → ⊥) → servoOff (m .run .drive .mode) ≡ false
+      → natAbs (followed m) ≤ m .settings .tuning .gains .el → Runs m (ticked m)
+  runs n k h = at (leb (natAbs (reaching m)) (m .settings .tuning .gains .ol)) refl
+    where
+      at : (t : Bool) → leb (natAbs (reaching m)) (m .settings .tuning .gains .ol) ≡ t → Runs m (ticked m)
+      at true e =
+          let l = leb-true _ _ e in
+          let q = works _ (m .run .memory) (followed m) h .plain l in
+          going n k _ false q (λ l. winds n k _ false q) (λ z. absurd (omega arith))
+      at false e =
+          let l = leb-false _ _ e in
+          let q = works _ (m .run .memory) (followed m) h .cut l in
+          going n k _ true q (λ z. absurd (omega arith)) (λ l. winds n k _ true q)
 
 pub ticks : Ticks
 unfolding ticked pulsed putOut
@@ -107,16 +146,10 @@ ticks m =
             ap (λ (s : Run). s .drive .mode) e ∙ k,
             ap (λ (s : Run). s .drive .pulse) e,
             λ p. ap (λ (s : Run). s .drive .output) e ∙ ap (λ (t : Bool). cond t (held (g .ol) (r .drive .pulse)) (pos 0)) (eq-eqb _ _ p),
+            ap (λ (s : Run). s .drive .cut) e,
           );
       trip = λ n k h.
           subst (λ (s : Run). Released s × (s .drive .error ≡ true))
-          (sym (answered power here g r n k Filters.Off (trips m h))) (tripped-released r);
-      runs = λ n k h.
-          let e = answered power here g r n k (Filters.Output (remembered m) (worked m)) (runs m h) in (
-            ap (λ (s : Run). s .profile) e,
-            ap (λ (s : Run). s .memory) e,
-            ap (λ (s : Run). s .drive .mode) e,
-            ap (λ (s : Run). s .drive .error) e,
-            λ p. ap (λ (s : Run). s .drive .output) e ∙ ap (λ (t : Bool). cond t (worked m) (pos 0)) (eq-eqb _ _ p),
-          );
+          (sym (answered power here g r n k _ (trips g (r .memory) (followed m) h))) (tripped-released r);
+      runs = runs m;
     }

@@ -50,9 +50,9 @@ done r = doneBy (r .drive .mode) r
 abbrev pub bitAt : ℕ → Bool → ℕ
 bitAt n b = cond b n 0
 
--- 01 Servo, Status bits: 0 move done, 1 cause not 0, 3 power good, 4 position error
+-- 01 Servo, Status bits; 02 P5: 0 move done, 1 cause not 0, 2 the last filter tick was cut, 3 power good, 4 position error
 unfoldable pub statusOf : ℕ → ℕ → Run → ℕ
-statusOf cause power r = bitAt 1 (done r) + causeBit cause + bitAt 8 (good power) + bitAt 16 (r .drive .error)
+statusOf cause power r = bitAt 1 (done r) + causeBit cause + bitAt 4 (r .drive .cut) + bitAt 8 (good power) + bitAt 16 (r .drive .error)
 
 abbrev pub status : Servo → ℕ
 status m = statusOf (m .station .cause) (m .samples .latched .power) (m .run)

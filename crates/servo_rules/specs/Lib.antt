@@ -11,4 +11,5 @@ pub mod Promises
 pub mod LoadPromises
 pub mod StopPromises
 pub mod TickPromises
+pub mod CutPromises
 pub mod RestPromises

@@ -139,9 +139,10 @@ pub record Carries (before m : Servo) : Type 0 where
   pub setpoint : m .run .profile .setpoint ≡ beginning before
   pub speed : m .run .profile .speed ≡ before .run .profile .speed
   pub output : m .run .drive .output ≡ before .run .drive .output
+  pub cut : m .run .drive .cut ≡ before .run .drive .cut
   pub memory : m .run .memory ≡ before .run .memory
 
--- What a start begins, by the load's mode: PWM with no output until the tick, and speed, integral and previous error 0; a profile toward the
+-- What a start begins, by the load's mode: PWM with no output until the tick, and speed, integral, previous error and cut bit 0; a profile toward the
 -- loaded speed with its sign, or toward the loaded position, with the loaded numbers, from the position if the servo was off (01 Start).
 pub record Begun (m : Servo) : Type 0 where
   pub pulse : m .settings .load .way ≡ Pulse
@@ -150,6 +151,7 @@ pub record Begun (m : Servo) : Type 0 where
       × (start m .run .drive .output ≡ pos 0)
       × (start m .run .profile .speed ≡ pos 0)
       × (start m .run .memory ≡ blank)
+      × (start m .run .drive .cut ≡ false)
   pub speed : m .settings .load .way ≡ Speed
       → (start m .run .drive .mode ≡ Velocity)
       × (start m .run .profile .aim ≡ signedBy (m .settings .load .reverse) (m .settings .rates .velocity))

@@ -93,9 +93,9 @@ startable m = m .settings .load .waits && complete m && ready m
 unfoldable pub signedBy : Bool → ℕ → ℤ
 signedBy reverse n = cond reverse (negℤ (pos n)) (pos n)
 
--- 01 Tick: the drive of a servo that is on; its output stays until the tick
+-- 01 Tick, 02 P5: the drive of a servo that is on; its output and its cut bit stay until the tick
 abbrev pub servoing : Mode → Drive → Drive
-servoing mode d = driving mode (pos 0) (d .output) d
+servoing mode d = driving mode (pos 0) (d .output) (d .cut) d
 
 -- 01 Start, Tick: a profile toward a goal speed, and one toward a position; the speed goes on from what it is
 abbrev pub aimed : ℕ → ℤ → ℕ → Profile → Profile

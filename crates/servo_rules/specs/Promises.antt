@@ -1,5 +1,5 @@
 -- What is promised of a servo's frames, answers, power-up and samples, besides what is promised of every module type; Ask-, Byte-,
--- Load-, Stop-, Tick- and RestPromises have the rest. Each is proved under its name, with small letters, in proofs/.
+-- Load-, Stop-, Tick-, Cut- and RestPromises have the rest. Each is proved under its name, with small letters, in proofs/.
 use mathlib.Core.Path.{_≡_}
 use mathlib.Core.Logic.{_↔_}
 use Prim.Native.Nat.{_%_, _^_, _<_}
@@ -27,13 +27,14 @@ use Rattle.servo_rules.specs.Perform.{can, perform}
 use Rattle.servo_rules.specs.Tick.{ticked}
 use Rattle.servo_rules.specs.Answers.{done, bitAt, status, numbers, sizes, outputsOf, servo, withCause, execute, reply}
 
--- The status byte: bit 0 move done, 1 cause not 0, 3 power 1, 4 the error bit, and no other bit (01 Servo, Status bits).
+-- The status byte: bit 0 move done, 1 cause not 0, 2 the cut bit, 3 power 1, 4 the error bit, and no other bit (01 Servo, Status bits; 02 P5).
 pub record Status (m : Servo) : Type 0 where
   pub finished : bit 0 (status m) ≡ bitAt 1 (done (m .run))
   pub refused : bit 1 (status m) ≡ bitAt 1 (not (eqb (m .station .cause) 0))
+  pub cut : bit 2 (status m) ≡ bitAt 1 (m .run .drive .cut)
   pub good : bit 3 (status m) ≡ bitAt 1 (powered m)
   pub error : bit 4 (status m) ≡ bitAt 1 (m .run .drive .error)
-  pub others : (bit 2 (status m) ≡ 0) × (bit 5 (status m) ≡ 0) × (bit 6 (status m) ≡ 0) × (bit 7 (status m) ≡ 0)
+  pub others : (bit 5 (status m) ≡ 0) × (bit 6 (status m) ≡ 0) × (bit 7 (status m) ≡ 0)
   pub small : status m < 32
 
 abbrev pub StatusBits : Type 0
@@ -73,6 +74,7 @@ pub record Blank (m : Servo) : Type 0 where
   pub finished : done (m .run) ≡ true
   pub error : m .run .drive .error ≡ true
   pub amplifier : m .run .drive .amplifier ≡ false
+  pub cut : m .run .drive .cut ≡ false
   pub output : m .run .drive .output ≡ pos 0
   pub pulse : m .run .drive .pulse ≡ pos 0
   pub speed : m .run .profile .speed ≡ pos 0
@@ -175,6 +177,7 @@ pub record Cleared (m n : Servo) : Type 0 where
   pub pulse : n .run .drive .pulse ≡ m .run .drive .pulse
   pub output : n .run .drive .output ≡ m .run .drive .output
   pub amplifier : n .run .drive .amplifier ≡ m .run .drive .amplifier
+  pub cut : n .run .drive .cut ≡ m .run .drive .cut
 
 -- Clear Bits clears the error bit of any servo and changes nothing else (01 Clear Bits).
 abbrev pub Clears : Type 0

@@ -69,7 +69,7 @@ abbrev pub noRun : Run
 noRun = record {
   profile = record { setpoint = 0; speed = pos 0; goal = 0; aim = pos 0; acceleration = 0; top = 0 };
   memory = blank;
-  drive = record { mode = Off; pulse = pos 0; output = pos 0; error = true; amplifier = false };
+  drive = record { mode = Off; pulse = pos 0; output = pos 0; error = true; amplifier = false; cut = false };
 }
 
 abbrev pub fresh : Samples → Servo
@@ -139,18 +139,18 @@ withDrive d r = running (r .profile) (r .memory) d
 abbrev pub resting : ℕ → Profile → Profile
 resting setpoint p = record { setpoint = setpoint; speed = pos 0; goal = p .goal; aim = p .aim; acceleration = p .acceleration; top = p .top }
 
--- a drive in another mode, with a PWM value and an output
-abbrev pub driving : Mode → ℤ → ℤ → Drive → Drive
-driving mode pulse output d = record { mode = mode; pulse = pulse; output = output; error = d .error; amplifier = d .amplifier }
+-- a drive in another mode, with a PWM value, an output and a cut bit
+abbrev pub driving : Mode → ℤ → ℤ → Bool → Drive → Drive
+driving mode pulse output cut d = record { mode = mode; pulse = pulse; output = output; error = d .error; amplifier = d .amplifier; cut = cut }
 
-abbrev pub putting : ℤ → Drive → Drive
-putting output d = record { mode = d .mode; pulse = d .pulse; output = output; error = d .error; amplifier = d .amplifier }
+abbrev pub putting : ℤ → Bool → Drive → Drive
+putting output cut d = driving (d .mode) (d .pulse) output cut d
 
 abbrev pub withError : Bool → Drive → Drive
-withError e d = record { mode = d .mode; pulse = d .pulse; output = d .output; error = e; amplifier = d .amplifier }
+withError e d = record { mode = d .mode; pulse = d .pulse; output = d .output; error = e; amplifier = d .amplifier; cut = d .cut }
 
 abbrev pub withAmplifier : Bool → Drive → Drive
-withAmplifier a d = record { mode = d .mode; pulse = d .pulse; output = d .output; error = d .error; amplifier = a }
+withAmplifier a d = record { mode = d .mode; pulse = d .pulse; output = d .output; error = d .error; amplifier = a; cut = d .cut }
 
 -- what runs, with another error bit, and with another amplifier bit
 abbrev pub erring : Bool → Run → Run
@@ -159,9 +159,10 @@ erring e r = withDrive (withError e (r .drive)) r
 abbrev pub amplified : Bool → Run → Run
 amplified a r = withDrive (withAmplifier a (r .drive)) r
 
--- 01 Tick: off ends with speed, output, integral and previous error 0. A PWM start ends likewise, and its value is put out from the next tick on.
+-- 01 Tick, 02 P5: off ends with speed, output, integral, previous error and cut bit 0. A PWM start ends likewise, and its value is put out from the
+-- next tick on.
 unfoldable pub idled : Mode → ℤ → Run → Run
-idled mode pulse r = running (resting (r .profile .setpoint) (r .profile)) blank (driving mode pulse (pos 0) (r .drive))
+idled mode pulse r = running (resting (r .profile .setpoint) (r .profile)) blank (driving mode pulse (pos 0) false (r .drive))
 
 unfoldable pub off : Run → Run
 off r = idled Off (pos 0) r

@@ -17,20 +17,22 @@ use Rattle.servo_rules.specs.State.{position, setpointAt, servoOff, with
 use Rattle.servo_rules.specs.Perform.{resetPosition, stopped, can}
 use Rattle.servo_rules.specs.LoadPromises.{Ready}
 
--- off, with speed, output, PWM value, integral and previous error 0
+-- off, with speed, output, PWM value, integral, previous error and cut bit 0
 pub record Released (r : Run) : Type 0 where
   pub mode : r .drive .mode ≡ Off
   pub speed : r .profile .speed ≡ pos 0
   pub output : r .drive .output ≡ pos 0
   pub pulse : r .drive .pulse ≡ pos 0
+  pub cut : r .drive .cut ≡ false
   pub memory : r .memory ≡ blank
 
--- holding the position x, and the output as it was
+-- holding the position x, and output and cut bit as they were
 pub record Holds (x : ℕ) (before r : Run) : Type 0 where
   pub mode : r .drive .mode ≡ Hold
   pub setpoint : r .profile .setpoint ≡ setpointAt x
   pub speed : r .profile .speed ≡ pos 0
   pub output : r .drive .output ≡ before .drive .output
+  pub cut : r .drive .cut ≡ before .drive .cut
   pub memory : r .memory ≡ blank
 
 -- on the way to speed 0 by the running acceleration, and all that runs as it was
@@ -41,6 +43,7 @@ pub record Slows (before r : Run) : Type 0 where
   pub setpoint : r .profile .setpoint ≡ before .profile .setpoint
   pub speed : r .profile .speed ≡ before .profile .speed
   pub output : r .drive .output ≡ before .drive .output
+  pub cut : r .drive .cut ≡ before .drive .cut
   pub memory : r .memory ≡ before .memory
 
 -- Each kind of stop: the amplifier bit is the given one and the error bit as it was; any kind of bits 1 to 4 drops a waiting load; without

@@ -1,4 +1,4 @@
--- The servo's tick (document 01, "Tick" and "Filter"): the sample is latched, then power, then the profile, then the filter.
+-- The servo's tick (document 01, "Tick" and "Filter"; document 02, P4 and P5): the sample is latched, then power, then the profile, then the filter.
 use mathlib.Core.Path.{_≡_}
 use Prim.Native.Nat.{ℕ, _<_, _≤_}
 use mathlib.Core.Bool.{true, cond}
@@ -9,8 +9,7 @@ use Rattle.servo_motion.specs.declared.Profile.{Profile}
 use Rattle.servo_motion.specs.Setpoint.{whole}
 use Rattle.servo_motion.specs.Profile.{Ranged, byTrapezoid, byVelocity}
 use Rattle.servo_filter.specs.declared.Gains.{Gains}
-use Rattle.servo_filter.specs.declared.Filtered.{Filtered}
-use Rattle.servo_filter.specs.Filter.{Kept, held, filtered, told}
+use Rattle.servo_filter.specs.Filter.{Kept, held, filtered, Told, told}
 use Rattle.servo_rules.specs.declared.Mode.{Mode}
 use Rattle.servo_rules.specs.declared.Mode.the-variants.{Off, Pwm, Hold, Velocity, Trapezoid}
 use Rattle.servo_rules.specs.declared.Run.{Run}
@@ -36,20 +35,24 @@ putOut power u = cond (good power) u (pos 0)
 unfoldable pub tripped : Profile → Run → Run
 tripped p r = erring true (off (withProfile p r))
 
--- 01 Filter: what the filter's answer says, after the profile's step to p: it trips, or brings its memory and an output
-abbrev pub filteredTo : Filtered → ℕ → Profile → Run → Run
-filteredTo a power p r = cond (told a .trips) (tripped p r) (running p (told a .memory) (putting (putOut power (told a .output)) (r .drive)))
+-- 01 Filter, 02 P5: the filter's memory, output and cut bit, after the profile's step to p; the cut was judged before power 2 takes the output away
+abbrev pub workedTo : Told → ℕ → Profile → Run → Run
+workedTo t power p r = running p (t .memory) (putting (putOut power (t .output)) (t .cut) (r .drive))
+
+-- 01 Filter: what the filter tells, after the profile's step to p: it trips, or has worked
+abbrev pub filteredTo : Told → ℕ → Profile → Run → Run
+filteredTo t power p r = cond (t .trips) (tripped p r) (workedTo t power p r)
 
 -- 01 Filter: the following error, at the new setpoint and the position here
 abbrev pub followedAt : ℕ → Run → ℤ
 followedAt here r = difference (whole (advanced r .setpoint)) here
 
 unfoldable pub servoed : ℕ → ℕ → Gains → Run → Run
-servoed power here g r = filteredTo (filtered g (r .memory) (followedAt here r)) power (advanced r) r
+servoed power here g r = filteredTo (told (filtered g (r .memory) (followedAt here r))) power (advanced r) r
 
--- 01 Filter: PWM puts out the loaded value, held to OL
+-- 01 Filter: PWM puts out the loaded value, held to OL. That is no tick of the filter, and leaves the cut bit (02 P5).
 unfoldable pub pulsed : ℕ → ℕ → Run → Run
-pulsed power ol r = withDrive (putting (putOut power (held ol (r .drive .pulse))) (r .drive)) r
+pulsed power ol r = withDrive (putting (putOut power (held ol (r .drive .pulse))) (r .drive .cut) (r .drive)) r
 
 abbrev pub drivenBy : Mode → ℕ → ℕ → Gains → Run → Run
 drivenBy Off power here g r = r

@@ -9,8 +9,7 @@ use Rattle.base_integers.specs.Whole.{difference}
 use Rattle.line_receiver.specs.Frames.{Frame}
 use Rattle.module_rules.specs.Rules.{reset, wants}
 use Rattle.servo_motion.specs.Setpoint.{whole, moved}
-use Rattle.servo_filter.specs.declared.Memory.{Memory}
-use Rattle.servo_filter.specs.Filter.{held, summed, driven, output}
+use Rattle.servo_filter.specs.Filter.{held, summed, driven, scaled, output}
 use Rattle.servo_rules.specs.declared.Order.{Order}
 use Rattle.servo_rules.specs.declared.Order.the-variants.{ClearBits}
 use Rattle.servo_rules.specs.declared.Sample.{Sample}
@@ -27,12 +26,31 @@ use Rattle.servo_rules.specs.StopPromises.{Released}
 abbrev pub followed : Servo → ℤ
 followed m = followedAt (positionAt (m .samples .waiting) (m .counts)) (m .run)
 
--- the filter's memory after it, and what it works out
-abbrev pub remembered : Servo → Memory
-remembered m = record { integral = summed (m .settings .tuning .gains) (m .run .memory) (followed m); previous = followed m }
+-- the u that the filter works out of it, a 256th of that, and what of it is put out
+abbrev pub drivenTo : Servo → ℤ
+drivenTo m = driven (m .settings .tuning .gains) (m .run .memory) (followed m)
+
+abbrev pub reaching : Servo → ℤ
+reaching m = scaled (drivenTo m)
 
 abbrev pub worked : Servo → ℤ
-worked m = output (m .settings .tuning .gains .ol) (driven (m .settings .tuning .gains) (m .run .memory) (followed m))
+worked m = output (m .settings .tuning .gains .ol) (drivenTo m)
+
+-- n has stored this integral and this cut bit
+abbrev pub Winds : ℤ → Bool → Servo → Type 0
+Winds integral cut n = (n .run .memory .integral ≡ integral) × (n .run .drive .cut ≡ cut)
+
+-- n is m after a tick in which profile and filter ran: the filter's output is put out at power 1; a tick that OL does not cut stores the new integral,
+-- one that it cuts the former one, at whatever power (01 Tick, Filter; 02 P5)
+pub record Runs (m n : Servo) : Type 0 where
+  pub profile : n .run .profile ≡ advanced (m .run)
+  pub previous : n .run .memory .previous ≡ followed m
+  pub mode : n .run .drive .mode ≡ m .run .drive .mode
+  pub error : n .run .drive .error ≡ m .run .drive .error
+  pub output : m .samples .waiting .power ≡ 1 → n .run .drive .output ≡ worked m
+  pub plain : natAbs (reaching m) ≤ m .settings .tuning .gains .ol
+      → Winds (summed (m .settings .tuning .gains) (m .run .memory) (followed m)) false n
+  pub cut : m .settings .tuning .gains .ol < natAbs (reaching m) → Winds (m .run .memory .integral) true n
 
 -- A tick latches what waited and keeps the position before it; station, tuning, rates and load never change in it (01 Tick).
 pub record Ticking (m : Servo) : Type 0 where
@@ -66,18 +84,15 @@ pub record Ticking (m : Servo) : Type 0 where
       × (ticked m .run .drive .mode ≡ Pwm)
       × (ticked m .run .drive .pulse ≡ m .run .drive .pulse)
       × (m .samples .waiting .power ≡ 1 → ticked m .run .drive .output ≡ held (m .settings .tuning .gains .ol) (m .run .drive .pulse))
+      × (ticked m .run .drive .cut ≡ m .run .drive .cut)
   -- a following error above EL sets the error bit and ends in off
   pub trip : (m .samples .waiting .power ≡ 0 → ⊥) → servoOff (m .run .drive .mode) ≡ false
       → m .settings .tuning .gains .el < natAbs (followed m)
       → Released (ticked m .run) × (ticked m .run .drive .error ≡ true)
-  -- with any other the profile makes its step, and the filter its own, which at power 1 is put out
+  -- with any other the profile makes its step, and the filter its own
   pub runs : (m .samples .waiting .power ≡ 0 → ⊥) → servoOff (m .run .drive .mode) ≡ false
       → natAbs (followed m) ≤ m .settings .tuning .gains .el
-      → (ticked m .run .profile ≡ advanced (m .run))
-      × (ticked m .run .memory ≡ remembered m)
-      × (ticked m .run .drive .mode ≡ m .run .drive .mode)
-      × (ticked m .run .drive .error ≡ m .run .drive .error)
-      × (m .samples .waiting .power ≡ 1 → ticked m .run .drive .output ≡ worked m)
+      → Runs m (ticked m)
 
 abbrev pub Ticks : Type 0
 Ticks = (m : Servo) → Ticking m

@@ -82,13 +82,14 @@ pub enum Mode {
     Trapezoid,
 }
 
-// The mode, the PWM value, the motor output, the error bit and the amplifier bit.
+// The mode, the PWM value, the motor output, the error bit, the amplifier bit, and whether the last filter tick was cut.
 pub struct Drive {
     pub mode: Mode,
     pub pulse: i64,
     pub output: i64,
     pub error: bool,
     pub amplifier: bool,
+    pub cut: bool,
 }
 
 // What runs: where the setpoint goes, what the filter remembers, and what drives the motor.

@@ -80,8 +80,8 @@ pub fn resting(p: Profile, setpoint: u64) -> Profile
     }
 }
 
-fn driving(d: Drive, mode: Mode, pulse: i64, output: i64) -> Drive
-    ensures { λ r. ⌜ r ≡ driving mode pulse output d ⌝ }
+fn driving(d: Drive, mode: Mode, pulse: i64, output: i64, cut: bool) -> Drive
+    ensures { λ r. ⌜ r ≡ driving mode pulse output cut d ⌝ }
 {
     Drive {
         mode,
@@ -89,10 +89,11 @@ fn driving(d: Drive, mode: Mode, pulse: i64, output: i64) -> Drive
         output,
         error: d.error,
         amplifier: d.amplifier,
+        cut,
     }
 }
 
-// On: the output stays until the tick.
+// On: output and cut bit stay until the tick.
 pub fn servoing(d: Drive, mode: Mode) -> Drive
     ensures { λ r. ⌜ r ≡ servoing mode d ⌝ }
 {
@@ -102,6 +103,7 @@ pub fn servoing(d: Drive, mode: Mode) -> Drive
         output: d.output,
         error: d.error,
         amplifier: d.amplifier,
+        cut: d.cut,
     }
 }
 
@@ -128,7 +130,7 @@ pub fn amplified(mut r: Run, a: bool) -> Run
     r
 }
 
-// Speed, output, integral and previous error 0.
+// Speed, output, integral, previous error and cut bit 0.
 pub fn idled(r: Run, mode: Mode, pulse: i64) -> Run
     ensures { λ q. ⌜ q ≡ idled mode pulse r ⌝ }
 {
@@ -137,7 +139,7 @@ pub fn idled(r: Run, mode: Mode, pulse: i64) -> Run
     Run {
         profile: resting(p, p.setpoint),
         memory: blank(),
-        drive: driving(d, mode, pulse, 0),
+        drive: driving(d, mode, pulse, 0, false),
     }
 }
 

@@ -190,15 +190,16 @@ pub fn memory_bytes(y: Memory) -> [u8; servo_slot_rules::MEMORY_LEN]
     )
 }
 
-// The mode's number, the two numbers as words and the two bits of a drive.
+// The mode's number, the two numbers as words and the three bits of a drive.
 fn drive_parts_bytes(
     mode: u8,
     pulse: u32,
     output: u32,
     error: bool,
     amplifier: bool,
+    cut: bool,
 ) -> [u8; servo_slot_rules::DRIVE_LEN]
-    ensures { λ r. ⌜ r ≡ mode ∷ le 4 pulse ++ le 4 output ++ bit error ∷ bit amplifier ∷ [] ⌝ }
+    ensures { λ r. ⌜ r ≡ mode ∷ le 4 pulse ++ le 4 output ++ bit error ∷ bit amplifier ∷ bit cut ∷ [] ⌝ }
 {
     [
         mode,
@@ -212,6 +213,7 @@ fn drive_parts_bytes(
         (output / 256 / 256 / 256 % 256) as u8,
         error as u8,
         amplifier as u8,
+        cut as u8,
     ]
 }
 
@@ -221,5 +223,5 @@ pub fn drive_bytes(d: Drive) -> [u8; servo_slot_rules::DRIVE_LEN]
     let mode = d.mode;
     let pulse = base_integers::word(d.pulse);
     let output = base_integers::word(d.output);
-    drive_parts_bytes(mode_byte(mode), pulse, output, d.error, d.amplifier)
+    drive_parts_bytes(mode_byte(mode), pulse, output, d.error, d.amplifier, d.cut)
 }

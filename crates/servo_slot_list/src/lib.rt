@@ -88,8 +88,8 @@ fn does_mode_fit(mode: Mode, power: u8, r: Run) -> bool
     let y = r.memory;
     let d = r.drive;
     match mode {
-        Mode::Off => is_still(p) & is_silent(d) & is_emptied(y) & is_unpulsed(d),
-        Mode::Pwm => is_still(p) & is_emptied(y) & is_live(power, d),
+        Mode::Off => is_still(p) & is_silent(d) & is_emptied(y) & is_unpulsed(d) & !d.cut,
+        Mode::Pwm => is_still(p) & is_emptied(y) & is_live(power, d) & !d.cut,
         Mode::Hold => is_still(p) & is_unpulsed(d) & is_live(power, d),
         Mode::Velocity => is_unpulsed(d) & is_live(power, d),
         Mode::Trapezoid => is_unpulsed(d) & is_live(power, d) & p.is_running(),
@@ -150,6 +150,7 @@ fn is_run_ok(ok: bool, s: &[u8], r: Run) -> bool
         & (s[servo_slot_rules::MODE_AT] <= 4)
         & (s[servo_slot_rules::ERROR_AT] <= 1)
         & (s[servo_slot_rules::AMPLIFIER_AT] <= 1)
+        & (s[servo_slot_rules::CUT_AT] <= 1)
         & does_drive_fit(r.drive)
 }
 

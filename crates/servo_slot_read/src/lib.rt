@@ -186,6 +186,7 @@ pub fn drive_in(s: &[u8]) -> Drive
         output: base_layout::get_whole(s, servo_slot_rules::OUTPUT_AT),
         error: s[servo_slot_rules::ERROR_AT] == 1,
         amplifier: s[servo_slot_rules::AMPLIFIER_AT] == 1,
+        cut: s[servo_slot_rules::CUT_AT] == 1,
     }
 }
 

@@ -24,7 +24,7 @@ use Rattle.servo_rules.specs.declared.Mode.the-variants.{Off, Pwm, Hold, Veloci
 use Rattle.servo_rules.specs.declared.Drive.{Drive}
 use Rattle.servo_rules.specs.declared.Run.{Run}
 use Rattle.servo_rules.specs.declared.Servo.{Servo}
-use Rattle.servo_slot_rules.specs.List.{ratesFit, memoryFits, driveFits, emptied, silent, unpulsed, still, live, modeFits, soundAt, sound}
+use Rattle.servo_slot_rules.specs.List.{ratesFit, memoryFits, driveFits, emptied, silent, unpulsed, uncut, still, live, modeFits, soundAt, sound}
 use Rattle.servo_slot_rules.specs.Slot.{samples, counts, rates, settings, profile, memory, drive, run}
 use Rattle.servo_slot_rules.specs.Promises.{Fits}
 
@@ -33,11 +33,12 @@ pub record Rated (r : Rates) : Type 0 where
   pub acceleration : r .acceleration ≤ fastest
   pub force : r .ramped ≡ true → 1 ≤ r .acceleration
 
--- no speed, and the memory that off leaves
-pub record Idle (speed : ℤ) (y : Memory) : Type 0 where
+-- no speed, the memory that off leaves, and no cut bit
+pub record Idle (speed : ℤ) (y : Memory) (cut : Bool) : Type 0 where
   pub rest : speed ≡ pos 0
   pub integral : y .integral ≡ pos 0
   pub previous : y .previous ≡ pos 0
+  pub uncut : cut ≡ false
 
 -- what every mode but off needs
 pub record Live (power : ℕ) (error : Bool) : Type 0 where
@@ -45,8 +46,8 @@ pub record Live (power : ℕ) (error : Bool) : Type 0 where
   pub alive : power ≡ 0 → ⊥
 
 abbrev pub InMode : Mode → ℕ → Run → Type 0
-InMode Off power r = Idle (r .profile .speed) (r .memory) × (r .drive .output ≡ pos 0) × (r .drive .pulse ≡ pos 0)
-InMode Pwm power r = Idle (r .profile .speed) (r .memory) × Live power (r .drive .error)
+InMode Off power r = Idle (r .profile .speed) (r .memory) (r .drive .cut) × (r .drive .output ≡ pos 0) × (r .drive .pulse ≡ pos 0)
+InMode Pwm power r = Idle (r .profile .speed) (r .memory) (r .drive .cut) × Live power (r .drive .error)
 InMode Hold power r = (r .profile .speed ≡ pos 0) × (r .drive .pulse ≡ pos 0) × Live power (r .drive .error)
 InMode Velocity power r = (r .drive .pulse ≡ pos 0) × Live power (r .drive .error)
 InMode Trapezoid power r = (r .drive .pulse ≡ pos 0) × Live power (r .drive .error) × Running (r .profile)
@@ -129,18 +130,18 @@ drive-good d t =
 pub drive-fits : (d : Drive) → natAbs (d .pulse) ≤ 255 → natAbs (d .output) ≤ 255 → drive .codec .fits d
 unfolding driveFits
 drive-fits d p o = (
-  (tt, (small-fits _ 255 (omega arith) p, (small-fits _ 255 (omega arith) o, (tt, tt)))),
+  (tt, (small-fits _ 255 (omega arith) p, (small-fits _ 255 (omega arith) o, (tt, (tt, tt))))),
   hold-every (leb (natAbs (d .pulse)) 255 ∷ leb (natAbs (d .output)) 255 ∷ []) (le-leb _ _ p, (le-leb _ _ o, tt)),
 )
 
 -- ---- the list
 
 module _ (power : ℕ) (r : Run) where
-  idle-good : still (r .profile) ≡ true → emptied (r .memory) ≡ true → Idle (r .profile .speed) (r .memory)
+  idle-good : still (r .profile) ≡ true → emptied (r .memory) ≡ true → uncut (r .drive) ≡ true → Idle (r .profile .speed) (r .memory) (r .drive .cut)
   unfolding emptied
-  idle-good s e =
+  idle-good s e c =
       let h = every-hold (same (r .memory .integral) (pos 0) ∷ same (r .memory .previous) (pos 0) ∷ []) e in
-      record { rest = same-eq _ _ s; integral = same-eq _ _ (h .0); previous = same-eq _ _ (h .1 .0) }
+      record { rest = same-eq _ _ s; integral = same-eq _ _ (h .0); previous = same-eq _ _ (h .1 .0); uncut = not-true _ c }
 
   live-good : live power (r .drive) ≡ true → Live power (r .drive .error)
   live-good e =
@@ -149,11 +150,11 @@ module _ (power : ℕ) (r : Run) where
 
   mode-good : (k : Mode) → modeFits k power r ≡ true → InMode k power r
   mode-good Off e =
-      let h = every-hold (still (r .profile) ∷ silent (r .drive) ∷ emptied (r .memory) ∷ unpulsed (r .drive) ∷ []) e in
-      (idle-good (h .0) (h .1 .1 .0), same-eq _ _ (h .1 .0), same-eq _ _ (h .1 .1 .1 .0))
+      let h = every-hold (still (r .profile) ∷ silent (r .drive) ∷ emptied (r .memory) ∷ unpulsed (r .drive) ∷ uncut (r .drive) ∷ []) e in
+      (idle-good (h .0) (h .1 .1 .0) (h .1 .1 .1 .1 .0), same-eq _ _ (h .1 .0), same-eq _ _ (h .1 .1 .1 .0))
   mode-good Pwm e =
-      let h = every-hold (still (r .profile) ∷ emptied (r .memory) ∷ live power (r .drive) ∷ []) e in
-      (idle-good (h .0) (h .1 .0), live-good (h .1 .1 .0))
+      let h = every-hold (still (r .profile) ∷ emptied (r .memory) ∷ live power (r .drive) ∷ uncut (r .drive) ∷ []) e in
+      (idle-good (h .0) (h .1 .0) (h .1 .1 .1 .0), live-good (h .1 .1 .0))
   mode-good Hold e =
       let h = every-hold (still (r .profile) ∷ unpulsed (r .drive) ∷ live power (r .drive) ∷ []) e in
       (same-eq _ _ (h .0), same-eq _ _ (h .1 .0), live-good (h .1 .1 .0))
@@ -167,7 +168,7 @@ module _ (power : ℕ) (r : Run) where
   powerless-good : (eqb power 1 || silent (r .drive)) ≡ true → (power ≡ 1 → ⊥) → r .drive .output ≡ pos 0
   powerless-good h n = same-eq _ _ (rw (ne-eqb _ _ n) at h)
 
-  emptied-fits : Idle (r .profile .speed) (r .memory) → emptied (r .memory) ≡ true
+  emptied-fits : Idle (r .profile .speed) (r .memory) (r .drive .cut) → emptied (r .memory) ≡ true
   unfolding emptied
   emptied-fits i =
       hold-every (same (r .memory .integral) (pos 0) ∷ same (r .memory .previous) (pos 0) ∷ [])
@@ -179,11 +180,11 @@ module _ (power : ℕ) (r : Run) where
 
   mode-fits : (k : Mode) → InMode k power r → modeFits k power r ≡ true
   mode-fits Off t =
-      hold-every (still (r .profile) ∷ silent (r .drive) ∷ emptied (r .memory) ∷ unpulsed (r .drive) ∷ [])
-      (eq-same _ _ (t .0 .rest), (eq-same _ _ (t .1), (emptied-fits (t .0), (eq-same _ _ (t .2), tt))))
+      hold-every (still (r .profile) ∷ silent (r .drive) ∷ emptied (r .memory) ∷ unpulsed (r .drive) ∷ uncut (r .drive) ∷ [])
+      (eq-same _ _ (t .0 .rest), (eq-same _ _ (t .1), (emptied-fits (t .0), (eq-same _ _ (t .2), (ap not (t .0 .uncut), tt)))))
   mode-fits Pwm t =
-      hold-every (still (r .profile) ∷ emptied (r .memory) ∷ live power (r .drive) ∷ [])
-      (eq-same _ _ (t .0 .rest), (emptied-fits (t .0), (live-fits (t .1), tt)))
+      hold-every (still (r .profile) ∷ emptied (r .memory) ∷ live power (r .drive) ∷ uncut (r .drive) ∷ [])
+      (eq-same _ _ (t .0 .rest), (emptied-fits (t .0), (live-fits (t .1), (ap not (t .0 .uncut), tt))))
   mode-fits Hold t =
       hold-every (still (r .profile) ∷ unpulsed (r .drive) ∷ live power (r .drive) ∷ [])
       (eq-same _ _ (t .0), (eq-same _ _ (t .1), (live-fits (t .2), tt)))

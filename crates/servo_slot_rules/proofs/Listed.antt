@@ -1,7 +1,7 @@
 -- A slot is valid exactly when it satisfies the written list. Assumes nothing.
 use mathlib.Core.Path.{_≡_, refl}
 use mathlib.Core.List.{List}
-use mathlib.Core.Bool.{true}
+use mathlib.Core.Bool.{true, false, false≢true}
 use Prim.Native.Nat.{ℕ}
 use borrow.Author.Tests.{eqb-true, leb-true}
 use lib.IntN.{pos}
@@ -12,6 +12,7 @@ use Rattle.servo_rules.specs.declared.Mode.{Mode}
 use Rattle.servo_rules.specs.declared.Mode.the-variants.{Off, Pwm, Hold, Velocity, Trapezoid}
 use Rattle.servo_rules.specs.declared.Run.{Run}
 use Rattle.servo_rules.specs.declared.Servo.{Servo}
+use Rattle.servo_rules.specs.State.{servoOff}
 use Rattle.servo_slot_rules.specs.Slot.{slot, decodeOf, okOf}
 use Rattle.servo_slot_rules.specs.Promises.{Fits, Lines, Listed}
 use Rattle.servo_slot_rules.proofs.Good.{Live, InMode, rates-good, good}
@@ -32,6 +33,13 @@ module _ (power : ℕ) (r : Run) where
   is-live Hold n t = t .2
   is-live Velocity n t = t .1
   is-live Trapezoid n t = t .1
+
+  is-uncut : (k : Mode) → servoOff k ≡ true → InMode k power r → r .drive .cut ≡ false
+  is-uncut Off e t = t .0 .uncut
+  is-uncut Pwm e t = t .0 .uncut
+  is-uncut Hold e t = absurd (false≢true e)
+  is-uncut Velocity e t = absurd (false≢true e)
+  is-uncut Trapezoid e t = absurd (false≢true e)
 
 lines : (s : List ℕ) → Bytes s → okOf s ≡ true → Lines s (decodeOf s)
 unfolding okOf decodeOf
@@ -74,11 +82,13 @@ lines s b v =
       output = g .sane .output;
       error = leb-true _ _ (drives .1 .0);
       amplifier = leb-true _ _ (drives .1 .1 .0);
+      cut = leb-true _ _ (drives .1 .1 .1 .0);
       powerless = g .sane .powerless;
       off = λ e. let x = rw e at i in (x .0 .rest, x .1);
       offEmpty = λ e. let x = rw e at i in (x .0 .integral, x .0 .previous);
       pwm = λ e. (rw e at i) .0 .rest;
       pwmEmpty = λ e. let x = rw e at i in (x .0 .integral, x .0 .previous);
+      uncut = λ e. is-uncut _ _ (m .run .drive .mode) e i;
       hold = λ e. (rw e at i) .0;
       trapezoid = λ e. (rw e at i) .2;
       unpulsed = λ k. no-pulse _ _ (m .run .drive .mode) k i;

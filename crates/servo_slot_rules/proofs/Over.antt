@@ -11,14 +11,13 @@ use Rattle.module_rules.specs.Slots.{stationAt}
 use Rattle.module_rules.proofs.Slotting as Slotting
 use Rattle.servo_motion.specs.declared.Profile.{Profile}
 use Rattle.servo_motion.specs.Profile.{stepped, byTrapezoid, byVelocity}
-use Rattle.servo_filter.specs.declared.Filtered.the-variants as Filters
 use Rattle.servo_rules.specs.declared.Sample.{Sample}
 use Rattle.servo_rules.specs.declared.Mode.{Mode}
 use Rattle.servo_rules.specs.declared.Mode.the-variants.{Off, Pwm, Hold, Velocity, Trapezoid}
 use Rattle.servo_rules.specs.declared.Run.{Run}
 use Rattle.servo_rules.specs.declared.Servo.{Servo}
 use Rattle.servo_rules.specs.State.{position, withStation, withRun, sampled, withProfile, idled, off}
-use Rattle.servo_rules.specs.Tick.{advancedBy, advanced, tripped, filteredTo, pulsed, ticked}
+use Rattle.servo_rules.specs.Tick.{advancedBy, advanced, tripped, workedTo, pulsed, ticked}
 use Rattle.servo_rules.proofs.Ends.{tick-ends}
 use Rattle.servo_slot_rules.specs.Slot.{sample, slot, waitingAt, servoSize, encodeOf, decodeOf, okOf}
 use Rattle.servo_slot_rules.specs.Parts.{tickedOver}
@@ -50,7 +49,7 @@ tick-goes m =
       low = λ e. refl;
       off = λ e. refl;
       pwm = λ e. refl;
-      output = λ s y u. ap (λ (p : Profile). filteredTo (Filters.Output y u) (m .samples .waiting .power) p r) steps;
+      output = λ s t q. ap (λ (p : Profile). workedTo t (m .samples .waiting .power) p r) steps;
       trip = λ e. ap (λ (p : Profile). tripped p r) steps;
     })
 

@@ -13,6 +13,7 @@ use Rattle.servo_motion.specs.Profile.{fastest, inRange}
 use Rattle.servo_rules.specs.declared.Mode.{Mode}
 use Rattle.servo_rules.specs.declared.Mode.the-variants.{Off, Pwm, Hold, Velocity, Trapezoid}
 use Rattle.servo_rules.specs.declared.Servo.{Servo}
+use Rattle.servo_rules.specs.State.{servoOff}
 use Rattle.servo_slot_rules.specs.List.{sound}
 use Rattle.servo_slot_rules.specs.Slot.{modeByte, slot, decodeOf, okOf}
 use Rattle.servo_slot_rules.specs.Parts.{frontTests, loadTests, runTests}
@@ -41,8 +42,10 @@ module _ {s : List ℕ} {m : Servo} (l : Lines s m) where
   in-mode Off e =
       let y = l .offEmpty e in
       let x = l .off e in
-      (record { rest = x .0; integral = y .0; previous = y .1 }, x .1, l .unpulsed (mode-apart e refl))
-  in-mode Pwm e = let y = l .pwmEmpty e in (record { rest = l .pwm e; integral = y .0; previous = y .1 }, is-live e refl)
+      (record { rest = x .0; integral = y .0; previous = y .1; uncut = l .uncut (ap servoOff e) }, x .1, l .unpulsed (mode-apart e refl))
+  in-mode Pwm e =
+      let y = l .pwmEmpty e in
+      (record { rest = l .pwm e; integral = y .0; previous = y .1; uncut = l .uncut (ap servoOff e) }, is-live e refl)
   in-mode Hold e = (l .hold e, l .unpulsed (mode-apart e refl), is-live e refl)
   in-mode Velocity e = (l .unpulsed (mode-apart e refl), is-live e refl)
   in-mode Trapezoid e = (l .unpulsed (mode-apart e refl), is-live e refl, l .trapezoid e)
@@ -80,6 +83,7 @@ module _ {s : List ℕ} {m : Servo} (l : Lines s m) where
       and le-leb _ _ (l .mode)
       and le-leb _ _ (l .error)
       and le-leb _ _ (l .amplifier)
+      and le-leb _ _ (l .cut)
       and drive-fits (m .run .drive) (l .pulse) (l .output) .1
       and tt
 

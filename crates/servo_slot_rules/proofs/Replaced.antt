@@ -1,7 +1,7 @@
 -- A servo with one of its parts replaced, one that goes off, and one at power-up are such as a slot can hold. Assumes nothing.
 use mathlib.Core.Path.{_≡_, refl}
 use mathlib.Core.List.{[], _∷_}
-use mathlib.Core.Bool.{true, not, false≢true}
+use mathlib.Core.Bool.{true, false, not, false≢true}
 use Prim.Native.Nat.{ℕ, _^_, _<_, _≤_}
 use native.Mathlib.Omega.{arith}
 use borrow.Author.Tests.{eqb-true, not-true}
@@ -52,8 +52,8 @@ dropped-fits s h = (h .0, (h .1 .0, no-load-fits))
 pub blank-kept : Kept blank
 blank-kept = record { integral = omega arith; previous = omega arith }
 
-pub idle : Idle (pos 0) blank
-idle = record { rest = refl; integral = refl; previous = refl }
+pub idle : Idle (pos 0) blank false
+idle = record { rest = refl; integral = refl; previous = refl; uncut = refl }
 
 pub resting-ranged : (x : ℕ) (p : Profile) → x < 2 ^ 48 → Ranged p → Ranged (resting x p)
 resting-ranged x p h r = record { setpoint = h; speed = omega arith; goal = r .goal; aim = r .aim; acceleration = r .acceleration; top = r .top }

@@ -1,6 +1,6 @@
 -- A tick leaves a servo such as a slot can hold. Assumes nothing.
 use mathlib.Core.Path.{_≡_, refl}
-use mathlib.Core.Bool.{true}
+use mathlib.Core.Bool.{Bool, true}
 use Prim.Native.Nat.{ℕ, _≤_}
 use native.Mathlib.Omega.{arith}
 use borrow.Author.Tests.{eqb-false, ne-eqb}
@@ -9,9 +9,7 @@ use lib.IntN.{ℤ, pos, natAbs}
 use Rattle.servo_motion.proofs.Runs.{runs}
 use Rattle.servo_filter.specs.declared.Gains.{Gains}
 use Rattle.servo_filter.specs.declared.Memory.{Memory}
-use Rattle.servo_filter.specs.declared.Filtered.{Filtered}
-use Rattle.servo_filter.specs.declared.Filtered.the-variants as Filters
-use Rattle.servo_filter.specs.Filter.{Kept, held, filtered, told}
+use Rattle.servo_filter.specs.Filter.{Kept, held, filtered, Told, told}
 use Rattle.servo_filter.specs.Promises.{Ranged}
 use Rattle.servo_filter.proofs.Held.{held-most}
 use Rattle.servo_filter.proofs.Answers.{within, keeps}
@@ -20,7 +18,7 @@ use Rattle.servo_rules.specs.declared.Mode.the-variants.{Off, Pwm, Hold, Veloci
 use Rattle.servo_rules.specs.declared.Run.{Run}
 use Rattle.servo_rules.specs.declared.Servo.{Servo}
 use Rattle.servo_rules.specs.State.{positionAt, good, running, putting, withProfile, erring, idled, off}
-use Rattle.servo_rules.specs.Tick.{advanced, putOut, tripped, filteredTo, followedAt, servoed, pulsed, drivenBy, ran, ticked}
+use Rattle.servo_rules.specs.Tick.{advanced, putOut, tripped, workedTo, followedAt, servoed, pulsed, drivenBy, ran, ticked}
 use Rattle.servo_rules.proofs.Keeping.{by-test, either}
 use Rattle.servo_rules.proofs.Ranges.{advanced-ranged}
 use Rattle.servo_slot_rules.specs.Slot.{gains}
@@ -46,25 +44,26 @@ module _ {before : ℕ} (power here : ℕ) (g : Gains) (h : gains .codec .fits g
   unfolding tripped off idled
   tripped-sane = off-sane power (erring true (withProfile (advanced r) r)) (advanced-ranged r (s .profile))
 
-  -- the mode's own conditions are asked for at any memory and output
-  module _ (k : (y : Memory) (u : ℤ) → InMode (r .drive .mode) power (running (advanced r) y (putting u (r .drive)))) where
-    filtered-sane : (f : Filtered) → Kept (told f .memory) → natAbs (told f .output) ≤ 255 → Sane power (filteredTo f power (advanced r) r)
-    filtered-sane (Filters.Output y u) m l = record {
+  -- the mode's own conditions are asked for at any memory, output and cut bit
+  module _ (k : (y : Memory) (u : ℤ) (c : Bool) → InMode (r .drive .mode) power (running (advanced r) y (putting u c (r .drive)))) where
+    worked-sane : (t : Told) → Kept (t .memory) → natAbs (t .output) ≤ 255 → Sane power (workedTo t power (advanced r) r)
+    worked-sane t m l = record {
       profile = advanced-ranged r (s .profile);
       memory = m;
       pulse = s .pulse;
-      output = put-most power u l;
-      powerless = put-powerless power u;
-      mode = k y (putOut power u);
+      output = put-most power (t .output) l;
+      powerless = put-powerless power (t .output);
+      mode = k (t .memory) (putOut power (t .output)) (t .cut);
     }
-    filtered-sane Filters.Off m l = tripped-sane
 
     servoed-sane : Sane power (servoed power here g r)
     unfolding servoed
     servoed-sane =
         let e : ℤ = followedAt here r in
+        let t : Told = told (filtered g (r .memory) e) in
         let ol = h .1 .1 .1 .1 .0 in
-        filtered-sane (filtered g (r .memory) e) (keeps _ _ e (gains-ranged g h)) (omega (arith, within g (r .memory) e))
+        either (Sane power) (t .trips) (tripped (advanced r) r) (workedTo t power (advanced r) r) tripped-sane
+        (worked-sane t (keeps _ _ e (gains-ranged g h) (s .memory)) (omega (arith, within g (r .memory) e)))
 
   driven-sane : (k : Mode) → r .drive .mode ≡ k → InMode k before r → (power ≡ 0 → ⊥) → Sane power (drivenBy k power here g r)
   unfolding pulsed advanced
@@ -87,10 +86,10 @@ module _ {before : ℕ} (power here : ℕ) (g : Gains) (h : gains .codec .fits g
         powerless = put-powerless power u;
         mode = rw e (t .0, record { clear = t .1 .clear; alive = n });
       }
-  driven-sane Hold e t n = servoed-sane (λ y u. rw e (t .0, t .1, record { clear = t .2 .clear; alive = n }))
-  driven-sane Velocity e t n = servoed-sane (λ y u. rw e (t .0, record { clear = t .1 .clear; alive = n }))
+  driven-sane Hold e t n = servoed-sane (λ y u c. rw e (t .0, t .1, record { clear = t .2 .clear; alive = n }))
+  driven-sane Velocity e t n = servoed-sane (λ y u c. rw e (t .0, record { clear = t .1 .clear; alive = n }))
   driven-sane Trapezoid e t n =
-      servoed-sane (λ y u. rw e (t .0, record { clear = t .1 .clear; alive = n }, runs (r .profile) (s .profile) (t .2)))
+      servoed-sane (λ y u c. rw e (t .0, record { clear = t .1 .clear; alive = n }, runs (r .profile) (s .profile) (t .2)))
 
   ran-sane : Sane power (ran power here g r)
   unfolding ran

@@ -1,4 +1,4 @@
--- What a servo in a slot satisfies beyond the ranges of its bytes (document 01, "Numbers given back", the list for 16).
+-- What a servo in a slot satisfies beyond the ranges of its bytes (document 01, "Numbers given back", the list for 16; document 02, P5).
 use mathlib.Core.Bool.{Bool, not, _&&_, _||_}
 use Prim.Native.Nat.{ℕ}
 use lib.Dec.{eqb, leb}
@@ -18,7 +18,7 @@ use Rattle.servo_rules.specs.declared.Servo.{Servo}
 unfoldable pub ratesFit : Rates → Bool
 ratesFit r = leb (r .velocity) fastest && leb (r .acceleration) fastest && (not (r .ramped) || leb 1 (r .acceleration))
 
--- the integral within 32,767, the previous error within 16,383
+-- the integral within 32,767 whatever IL is, the previous error within 16,383
 unfoldable pub memoryFits : Memory → Bool
 memoryFits y = leb (natAbs (y .integral)) 32767 && leb (natAbs (y .previous)) 16383
 
@@ -36,6 +36,9 @@ silent d = same (d .output) (pos 0)
 abbrev pub unpulsed : Drive → Bool
 unpulsed d = same (d .pulse) (pos 0)
 
+abbrev pub uncut : Drive → Bool
+uncut d = not (d .cut)
+
 abbrev pub still : Profile → Bool
 still p = same (p .speed) (pos 0)
 
@@ -45,8 +48,8 @@ live power d = not (d .error) && not (eqb power 0)
 
 -- each mode's own conditions; a trapezoid goes toward a goal that is not half the range away, and can still stop within the distance left
 abbrev pub modeFits : Mode → ℕ → Run → Bool
-modeFits Off power r = still (r .profile) && silent (r .drive) && emptied (r .memory) && unpulsed (r .drive)
-modeFits Pwm power r = still (r .profile) && emptied (r .memory) && live power (r .drive)
+modeFits Off power r = still (r .profile) && silent (r .drive) && emptied (r .memory) && unpulsed (r .drive) && uncut (r .drive)
+modeFits Pwm power r = still (r .profile) && emptied (r .memory) && live power (r .drive) && uncut (r .drive)
 modeFits Hold power r = still (r .profile) && unpulsed (r .drive) && live power (r .drive)
 modeFits Velocity power r = unpulsed (r .drive) && live power (r .drive)
 modeFits Trapezoid power r = unpulsed (r .drive) && live power (r .drive) && running (r .profile)

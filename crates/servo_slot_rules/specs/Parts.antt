@@ -15,7 +15,7 @@ use Rattle.servo_rules.specs.declared.Run.{Run}
 use Rattle.servo_rules.specs.declared.Servo.{Servo}
 use Rattle.servo_rules.specs.Answers.{typeNumber}
 use Rattle.servo_slot_rules.specs.List.{ratesFit, memoryFits, driveFits}
-use Rattle.servo_slot_rules.specs.Slot.{sample, counts, tuning, rates, load, profile, memory, drive, waitingAt, latchedAt, profileAt, memoryAt, driveAt, powerIn, kpTopAt, kdTopAt, kiTopAt, ilTopAt, elTopAt, pacedAt, rampedAt, waitsAt, wayAt, placedAt, pulsedAt, reverseAt, modeAt, errorAt, amplifierAt, lastAt, speedAt}
+use Rattle.servo_slot_rules.specs.Slot.{sample, counts, tuning, rates, load, profile, memory, drive, waitingAt, latchedAt, profileAt, memoryAt, driveAt, powerIn, kpTopAt, kdTopAt, kiTopAt, ilTopAt, elTopAt, pacedAt, rampedAt, waitsAt, wayAt, placedAt, pulsedAt, reverseAt, modeAt, errorAt, amplifierAt, cutAt, lastAt, speedAt}
 
 -- the bytes before and after the place of the rates, one part after another
 unfoldable pub frontOf : Servo → List ℕ
@@ -80,5 +80,6 @@ runTests r s =
     ∷ leb (getD s modeAt 0) 4
     ∷ leb (getD s errorAt 0) 1
     ∷ leb (getD s amplifierAt 0) 1
+    ∷ leb (getD s cutAt 0) 1
     ∷ driveFits (r .drive)
     ∷ []

@@ -15,10 +15,10 @@ use Rattle.servo_filter.specs.Promises.{Ranged}
 use Rattle.servo_rules.specs.declared.Sample.{Sample}
 use Rattle.servo_rules.specs.declared.Mode.the-variants.{Off, Pwm, Hold, Trapezoid}
 use Rattle.servo_rules.specs.declared.Servo.{Servo}
-use Rattle.servo_rules.specs.State.{started, sampled}
+use Rattle.servo_rules.specs.State.{servoOff, started, sampled}
 use Rattle.servo_rules.specs.Tick.{ticked, Steady}
 use Rattle.servo_rules.specs.Answers.{typeNumber, execute}
-use Rattle.servo_slot_rules.specs.Slot.{sample, slot, pacedAt, rampedAt, waitsAt, wayAt, placedAt, pulsedAt, reverseAt, modeAt, errorAt, amplifierAt, decodeOf, okOf}
+use Rattle.servo_slot_rules.specs.Slot.{sample, slot, pacedAt, rampedAt, waitsAt, wayAt, placedAt, pulsedAt, reverseAt, modeAt, errorAt, amplifierAt, cutAt, decodeOf, okOf}
 
 -- The servos that a slot can hold: every number within its bytes, and the list.
 abbrev pub Fits : Servo → Type 0
@@ -66,14 +66,17 @@ pub record Lines (s : List ℕ) (m : Servo) : Type 0 where
   pub output : natAbs (m .run .drive .output) ≤ 255
   pub error : getD s errorAt 0 ≤ 1
   pub amplifier : getD s amplifierAt 0 ≤ 1
+  pub cut : getD s cutAt 0 ≤ 1
   -- without good power there is no output
   pub powerless : (m .samples .latched .power ≡ 1 → ⊥) → m .run .drive .output ≡ pos 0
   -- off: speed, output, integral, previous error and PWM value are 0
   pub off : m .run .drive .mode ≡ Off → (m .run .profile .speed ≡ pos 0) × (m .run .drive .output ≡ pos 0)
   pub offEmpty : m .run .drive .mode ≡ Off → (m .run .memory .integral ≡ pos 0) × (m .run .memory .previous ≡ pos 0)
-  -- PWM: speed, integral and previous error are 0; holding: the speed is 0
+  -- PWM: speed, integral and previous error are 0
   pub pwm : m .run .drive .mode ≡ Pwm → m .run .profile .speed ≡ pos 0
   pub pwmEmpty : m .run .drive .mode ≡ Pwm → (m .run .memory .integral ≡ pos 0) × (m .run .memory .previous ≡ pos 0)
+  -- neither off nor PWM has a cut bit; holding: the speed is 0
+  pub uncut : servoOff (m .run .drive .mode) ≡ true → m .run .drive .cut ≡ false
   pub hold : m .run .drive .mode ≡ Hold → m .run .profile .speed ≡ pos 0
   -- a trapezoid goes toward a goal that is not half the range away, and can still stop
   pub trapezoid : m .run .drive .mode ≡ Trapezoid → Running (m .run .profile)

@@ -169,11 +169,18 @@ memoryParts y = (y .integral, y .previous)
 abbrev pub memoryOf : ℤ × ℤ → Memory
 memoryOf t = record { integral = t .0; previous = t .1 }
 
-abbrev pub driveParts : Drive → Mode × (ℤ × (ℤ × (Bool × Bool)))
-driveParts d = (d .mode, (d .pulse, (d .output, (d .error, d .amplifier))))
+abbrev pub driveParts : Drive → Mode × (ℤ × (ℤ × (Bool × (Bool × Bool))))
+driveParts d = (d .mode, (d .pulse, (d .output, (d .error, (d .amplifier, d .cut)))))
 
-abbrev pub driveOf : Mode × (ℤ × (ℤ × (Bool × Bool))) → Drive
-driveOf t = record { mode = t .0; pulse = t .1 .0; output = t .1 .1 .0; error = t .1 .1 .1 .0; amplifier = t .1 .1 .1 .1 }
+abbrev pub driveOf : Mode × (ℤ × (ℤ × (Bool × (Bool × Bool)))) → Drive
+driveOf t = record {
+  mode = t .0;
+  pulse = t .1 .0;
+  output = t .1 .1 .0;
+  error = t .1 .1 .1 .0;
+  amplifier = t .1 .1 .1 .1 .0;
+  cut = t .1 .1 .1 .1 .1;
+}
 
 abbrev pub runParts : Run → Profile × (Memory × Drive)
 runParts r = (r .profile, (r .memory, r .drive))
@@ -223,7 +230,7 @@ abbrev pub memory : Shape Memory
 memory = such memoryFits (shaped memoryOf memoryParts (λ t. refl) (λ y. refl) (whole then whole))
 
 abbrev pub drive : Shape Drive
-drive = such driveFits (shaped driveOf driveParts (λ t. refl) (λ d. refl) (mode then whole then whole then flag then flag))
+drive = such driveFits (shaped driveOf driveParts (λ t. refl) (λ d. refl) (mode then whole then whole then flag then flag then flag))
 
 abbrev pub run : Shape Run
 run = shaped runOf runParts (λ t. refl) (λ r. refl) (profile then memory then drive)
@@ -309,6 +316,9 @@ errorAt = modeAt + 9
 
 abbrev pub amplifierAt : ℕ
 amplifierAt = errorAt + 1
+
+abbrev pub cutAt : ℕ
+cutAt = amplifierAt + 1
 
 abbrev pub lastAt : ℕ
 lastAt = countsAt + 4

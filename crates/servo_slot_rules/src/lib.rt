@@ -96,8 +96,10 @@ pub const ERROR_AT: usize = OUTPUT_AT + 4;
 
 pub const AMPLIFIER_AT: usize = ERROR_AT + 1;
 
+pub const CUT_AT: usize = AMPLIFIER_AT + 1;
+
 // How many bytes of a slot a servo has.
-pub const SERVO_LEN: usize = AMPLIFIER_AT + 1;
+pub const SERVO_LEN: usize = CUT_AT + 1;
 
 // The bytes of each part.
 pub const COUNTS_LEN: usize = TUNING_AT - COUNTS_AT;

@@ -1,9 +1,10 @@
 // What a tick makes of what runs in a servo, by value: power, then the profile, then the filter.
 ghost use mathlib.Core.Path.{_≡_};
-ghost use Rattle.servo_rules.specs.State.{putting};
+ghost use Rattle.servo_rules.specs.State.{running, putting};
 ghost use Rattle.servo_rules.specs.Tick.{advanced, putOut, tripped, servoed, pulsed, drivenBy, ran, Steady};
 use servo_filter::Filtered;
 use servo_filter::Gains;
+use servo_filter::Memory;
 use servo_motion::Profile;
 use servo_rules::Drive;
 use servo_rules::Mode;
@@ -32,8 +33,8 @@ fn put_out(power: u8, u: i64) -> i64
     if power == 1 { u } else { 0 }
 }
 
-fn putting(d: Drive, output: i64) -> Drive
-    ensures { λ r. ⌜ r ≡ putting output d ⌝ }
+fn putting(d: Drive, output: i64, cut: bool) -> Drive
+    ensures { λ r. ⌜ r ≡ putting output cut d ⌝ }
 {
     let mode = d.mode;
     Drive {
@@ -42,6 +43,7 @@ fn putting(d: Drive, output: i64) -> Drive
         output,
         error: d.error,
         amplifier: d.amplifier,
+        cut,
     }
 }
 
@@ -52,20 +54,28 @@ fn tripped(r: Run, p: Profile) -> Run
     servo_run::erring(servo_run::off(servo_run::with_profile(r, p)), true)
 }
 
+// After the profile's step to p, with the filter's memory and output; cut is whether that was cut.
+fn followed(power: u8, r: Run, p: Profile, memory: Memory, u: i64, cut: bool) -> Run
+    ensures { λ q. ⌜ q ≡ running p memory (putting (putOut power u) cut (r .drive)) ⌝ }
+{
+    let d = r.drive;
+    Run {
+        profile: p,
+        memory,
+        drive: putting(d, put_out(power, u), cut),
+    }
+}
+
 fn servoed(power: u8, here: u32, g: Gains, r: Run) -> Run
     requires { ⌜ Steady r ⌝ }
     ensures { λ q. ⌜ q ≡ servoed power here g r ⌝ }
 {
     let p = advanced(r);
     let answer = servo_filter::filter(g, r.memory, servo_motion::whole(p.setpoint), here);
-    let Filtered::Output(memory, u) = answer else {
-        return tripped(r, p);
-    };
-    let d = r.drive;
-    Run {
-        profile: p,
-        memory,
-        drive: putting(d, put_out(power, u)),
+    match answer {
+        Filtered::Plain(memory, u) => followed(power, r, p, memory, u, false),
+        Filtered::Cut(memory, u) => followed(power, r, p, memory, u, true),
+        Filtered::Off => tripped(r, p),
     }
 }
 
@@ -75,8 +85,8 @@ fn pulsed(power: u8, ol: u8, mut r: Run) -> Run
     ensures { λ q. ⌜ q ≡ pulsed power ol r ⌝ }
 {
     let d = r.drive;
-    let u = put_out(power, servo_filter::limited(ol, d.pulse));
-    r.drive = putting(d, u);
+    let u = put_out(power, servo_filter::hold(ol as u16, d.pulse));
+    r.drive = putting(d, u, d.cut);
     r
 }
 

@@ -130,6 +130,8 @@ pub struct Servo {
     pub output: i64,
     pub error: bool,
     pub amplifier: bool,
+    /// Whether the last filter tick was cut: there was more to put out than OL.
+    pub cut: bool,
 }
 
 fn two(bytes: &[u8]) -> u16 {
@@ -159,6 +161,15 @@ fn stop_out_of_range(control: u8, not_now: bool, slip: Slip) -> u8 {
         Slip::StopUpperBitsAsCount if upper_bits => WRONG_COUNT,
         Slip::StopNotNowBeforeRange if not_now => NOT_NOW,
         _ => OUT_OF_RANGE,
+    }
+}
+
+/// u in whole numbers of the output, toward zero.
+fn divided(u: i64, slip: Slip) -> i64 {
+    if slip == Slip::ShiftForDivide {
+        u >> 8
+    } else {
+        u / 256
     }
 }
 
@@ -242,6 +253,7 @@ impl Servo {
         }
         self.integral = 0;
         self.previous_error = 0;
+        self.cut &= slip == Slip::OffKeepsCut;
         self.error |= slip == Slip::OffSetsErrorBit;
     }
 
@@ -278,6 +290,7 @@ impl Servo {
             self.integral = 0;
             self.previous_error = 0;
         }
+        self.cut &= slip != Slip::HoldClearsCut;
         Ok(())
     }
 
@@ -302,6 +315,7 @@ impl Servo {
         if slip != Slip::ResetPositionKeepsLoad {
             self.load = Load::default();
         }
+        self.cut &= slip != Slip::ResetPositionClearsCut;
         Ok(())
     }
 
@@ -485,12 +499,12 @@ impl Servo {
             Way::Pwm => self.start_pwm(&load, slip),
             Way::Velocity => {
                 either(load.reverse, Branch::StartsVelocityReversed, Branch::StartsVelocity);
-                self.start_profile(Mode::Velocity, from);
+                self.start_profile(Mode::Velocity, from, slip);
                 self.goal_speed = signed(i64::from(self.velocity), load.reverse);
             }
             Way::Trapezoid => {
                 either(load.reverse, Branch::StartsTrapezoidReversed, Branch::StartsTrapezoid);
-                self.start_profile(Mode::Trapezoid, from);
+                self.start_profile(Mode::Trapezoid, from, slip);
                 self.goal = load.position;
                 self.top = self.velocity;
             }
@@ -516,15 +530,19 @@ impl Servo {
         if slip == Slip::PwmStartKeepsMemory {
             self.previous_error = before.previous_error;
         }
+        if slip == Slip::PwmStartKeepsCut {
+            self.cut = before.cut;
+        }
     }
 
     /// What every profile begins with.
-    fn start_profile(&mut self, mode: Mode, from: i64) {
+    fn start_profile(&mut self, mode: Mode, from: i64, slip: Slip) {
         either(self.servo_off(), Branch::FromServoOff, Branch::FromServoOn);
         self.mode = mode;
         self.setpoint = from;
         self.running_acceleration = self.acceleration;
         self.pwm = 0;
+        self.cut &= slip != Slip::ProfileClearsCut;
     }
 
     fn set_gain(&mut self, data: &[u8], slip: Slip) -> Result<(), u8> {
@@ -567,6 +585,7 @@ impl Servo {
         }
         reach(Branch::GainsStored);
         self.gains = gains;
+        self.cut &= slip != Slip::GainClearsCut;
         Ok(())
     }
 
@@ -662,6 +681,7 @@ impl Servo {
                 if slip == Slip::SmoothWithLaterAcceleration {
                     self.running_acceleration = self.acceleration;
                 }
+                self.cut &= slip != Slip::SmoothClearsCut;
             }
         }
     }
@@ -679,12 +699,14 @@ impl Servo {
         }
     }
 
-    fn pwm_output(&self, slip: Slip) -> i64 {
+    /// A PWM value is held likewise, but that is no filter tick: the cut bit stays clear.
+    fn put_out_pwm(&mut self, slip: Slip) {
         let limit = if slip == Slip::PwmUnlimited { 255 } else { i64::from(self.gains.ol) };
         if self.pwm.abs() > limit {
             reach(Branch::TickPwmHeld);
+            self.cut |= slip == Slip::PwmHeldIsCut;
         }
-        held(self.pwm, limit)
+        self.output = held(self.pwm, limit);
     }
 
     /// One step of the profile: the new speed, and the setpoint moved by it.
@@ -741,15 +763,97 @@ impl Servo {
             return;
         }
         reach(Branch::NoTrip);
-        let limit = i64::from(if slip == Slip::IntegralUnlimited { 32_767 } else { gains.il });
-        either((self.integral + e).abs() > limit, Branch::IntegralHeld, Branch::IntegralFree);
-        self.integral = held(self.integral + e, limit);
-        self.output = self.driven(e, slip);
-        self.previous_error = e;
+        self.follow(e, slip);
     }
 
-    /// The filter's output for an error, once the integral has it.
-    fn driven(&self, e: i64, slip: Slip) -> i64 {
+    /// The filter for an error that does not trip. Where there is more to put out than OL the tick is cut: its output
+    /// stays as it was worked out, but its integral goes back to what it was, which may lie beyond a lowered IL.
+    fn follow(&mut self, e: i64, slip: Slip) {
+        let former = self.integral;
+        let limit = i64::from(if slip == Slip::IntegralUnlimited { 32_767 } else { self.gains.il });
+        either((former + e).abs() > limit, Branch::IntegralHeld, Branch::IntegralFree);
+        self.integral = held(former + e, limit);
+        let u = self.summed(e, slip);
+        let wanted = divided(u, slip);
+        self.put_out(wanted, slip);
+        let cut = self.is_cut(u, wanted, slip);
+        self.note_cut(former, e, u, wanted);
+        if cut && !self.winds_up(e, wanted, slip) {
+            self.integral = if slip == Slip::CutHoldsFormer { held(former, limit) } else { former };
+        }
+        if cut && slip == Slip::CutOutputAnew {
+            self.put_out(divided(self.summed(e, slip), slip), slip);
+        }
+        if !cut || slip != Slip::CutKeepsPrevious {
+            self.previous_error = e;
+        }
+        self.cut = match slip {
+            Slip::CutStays => cut || self.cut,
+            Slip::HighPowerHidesCut => cut && self.latched.power != HIGH,
+            _ => cut,
+        };
+    }
+
+    fn output_limit(&self, slip: Slip) -> i64 {
+        if slip == Slip::OutputTo255 {
+            255
+        } else {
+            self.gains.ol.into()
+        }
+    }
+
+    fn put_out(&mut self, wanted: i64, slip: Slip) {
+        let limit = self.output_limit(slip);
+        either(wanted.abs() > limit, Branch::OutputHeld, Branch::OutputFree);
+        self.output = held(wanted, limit);
+    }
+
+    /// Whether OL cuts something off: what the division loses is nothing of that.
+    fn is_cut(&self, u: i64, wanted: i64, slip: Slip) -> bool {
+        let limit = self.output_limit(slip);
+        match slip {
+            Slip::CutAtLimit => wanted.abs() >= limit,
+            Slip::CutByFraction => u.abs() > 256 * limit,
+            Slip::CutAboveOnly => wanted > limit,
+            _ => wanted.abs() > limit,
+        }
+    }
+
+    /// Whether a slip lets a cut tick keep its new integral.
+    fn winds_up(&self, e: i64, wanted: i64, slip: Slip) -> bool {
+        match slip {
+            Slip::CutWindsUp => true,
+            Slip::CutBackBySide => e.signum() != wanted.signum(),
+            Slip::HighPowerWindsUp => self.latched.power == HIGH,
+            _ => false,
+        }
+    }
+
+    /// Counts what a tick comes to by what there is to put out, the cut bit still that of the tick before.
+    fn note_cut(&self, former: i64, e: i64, u: i64, wanted: i64) {
+        let (il, ol) = (i64::from(self.gains.il), i64::from(self.gains.ol));
+        let past_il = former.abs() > il;
+        let size = wanted.abs();
+        let (cut, uncut) = (size > ol, size <= ol);
+        let places = [
+            (cut && wanted > 0, Branch::CutAbove),
+            (cut && wanted < 0, Branch::CutBelow),
+            (cut && ol == 0, Branch::CutToNothing),
+            (cut && e.signum() * wanted.signum() < 0, Branch::CutAgainstError),
+            (cut && past_il, Branch::CutPastIl),
+            (cut && self.cut, Branch::CutAgain),
+            (cut && self.latched.power == HIGH, Branch::CutAtHighPower),
+            (uncut && size == ol && ol > 0, Branch::UncutAtLimit),
+            (uncut && u.abs() > 256 * ol, Branch::UncutFraction),
+            (uncut && ol == 0, Branch::UncutNothing),
+            (uncut && past_il, Branch::UncutPastIl),
+            (uncut && self.cut, Branch::UncutAfterCut),
+        ];
+        places.iter().filter(|(comes, _)| *comes).for_each(|(_, branch)| reach(*branch));
+    }
+
+    /// u for an error, once the integral has it.
+    fn summed(&self, e: i64, slip: Slip) -> i64 {
         let gains = &self.gains;
         let change = e - self.previous_error;
         let damping = i64::from(gains.kd) * if slip == Slip::DerivativeSubtracted { -change } else { change };
@@ -762,14 +866,11 @@ impl Servo {
         if u < 0 && u % 256 != 0 {
             reach(Branch::UTowardZero);
         }
-        let output = match slip {
-            Slip::SumIn32Bits => i64::from(u as i32) / 256,
-            Slip::ShiftForDivide => u >> 8,
-            _ => u / 256,
-        };
-        let limit = if slip == Slip::OutputTo255 { 255 } else { i64::from(gains.ol) };
-        either(output.abs() > limit, Branch::OutputHeld, Branch::OutputFree);
-        held(output, limit)
+        if slip == Slip::SumIn32Bits {
+            i64::from(u as i32)
+        } else {
+            u
+        }
     }
 
     fn move_done(&self, slip: Slip) -> bool {
@@ -828,6 +929,7 @@ impl Device for Servo {
             output: 0,
             error: true,
             amplifier: false,
+            cut: false,
         }
     }
 
@@ -864,6 +966,7 @@ impl Device for Servo {
                 if slip != Slip::ClearBitsNeedsServo || !self.servo_off() {
                     self.error = false;
                 }
+                self.cut &= slip != Slip::ClearBitsClearsCut;
                 Ok(())
             }
             (0, _) => {
@@ -906,6 +1009,7 @@ impl Device for Servo {
         }
         self.error = slip != Slip::ResetClearsErrorBit;
         self.amplifier = before.amplifier && slip == Slip::ResetKeepsAmplifier;
+        self.cut = before.cut && slip == Slip::ResetKeepsCut;
     }
 
     fn item(&self, bit: usize, slip: Slip) -> Vec<u8> {
@@ -933,7 +1037,8 @@ impl Device for Servo {
         let good = self.latched.power == GOOD || (self.latched.power == HIGH && slip == Slip::HighPowerIsGood);
         either(good, Branch::PowerGood, Branch::PowerNotGood);
         either(self.error, Branch::ErrorBitSet, Branch::ErrorBitClear);
-        u8::from(self.move_done(slip)) | u8::from(good) << 3 | u8::from(self.error) << 4
+        let cut = either(self.cut, Branch::CutBitSet, Branch::CutBitClear) && slip != Slip::CutNotShown;
+        u8::from(self.move_done(slip)) | u8::from(cut) << 2 | u8::from(good) << 3 | u8::from(self.error) << 4
     }
 
     fn tick(&mut self, slip: Slip) {
@@ -963,7 +1068,7 @@ impl Device for Servo {
         });
         match self.mode {
             Mode::Off => {}
-            Mode::Pwm => self.output = self.pwm_output(slip),
+            Mode::Pwm => self.put_out_pwm(slip),
             Mode::Holding | Mode::Velocity | Mode::Trapezoid => {
                 let before = self.setpoint;
                 self.profile(slip);

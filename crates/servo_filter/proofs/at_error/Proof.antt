@@ -10,7 +10,7 @@ use mir.Syntax.{w64}
 use mir.Val.{SFits, toZ, ofZ}
 use mir.ValLaws.{toZ-ofZ}
 use Rattle.base_integers.proofs.Sizes.{abs-add, fits, fits-quot, back}
-use Rattle.servo_filter.specs.Filter.{drive, summed, driven, output, filtered}
+use Rattle.servo_filter.specs.Filter.{drive, summed, driven, scaled, limited, filtered}
 use Rattle.servo_filter.proofs.Held.{held-most}
 use Rattle.servo_filter.proofs.at_error.Statement.{statement}
 use Rattle.servo_filter.proofs.at_error.Tie as tie
@@ -83,16 +83,20 @@ scaled-requires c κs =
     let fit : SFits w64 (c .drive .result) = record { sfits = c .drive .ok } in
     rw (toZ-ofZ w64 _ fit) (fits-quot (c .drive .result) 256 fit)
 
+-- the step's answer, and the former integral
+answer-is : (c : tie.After-limit)
+    → let s = start (c .before .before .before .before) in
+    c .limit .result ≡ limited (s .args .g .ol) (scaled (driven (s .args .g) (s .args .m) (s .args .e)))
+answer-is c = rw (scaled-is (c .before), drive-is (c .before .before)) at (c .limit .ensures)
+
 returns-2 : tie.Need-returns-2
 unfolding filtered
 returns-2 c =
-    let a = c .before .before .before .before in
+    let a = c .before .before .before .before .before .before in
     let s = start a in
     let l = e-most (a .before .before .before) in
-    let out : toZ w64 (ofZ w64 (c .limited .result)) ≡ output (s .args .g .ol) (driven (s .args .g) (s .args .m) (s .args .e)) =
-    toZ-ofZ w64 _ (record { sfits = c .limited .ok })
-    ∙ (rw (scaled-is (c .before), drive-is (c .before .before)) at (c .limited .ensures)) in
-    rw (e-is s, integral-now a, out, le-leb (natAbs (s .args .e)) (s .args .g .el) l)
+    rw (le-leb (natAbs (s .args .e)) (s .args .g .el) l)
+    (rw (answer-is (c .before .before), integral-now a, integral-is s, e-is s) at (c .answered .ensures))
 
 pub at-error-spec : {M : Type 1} → statement M
 at-error-spec =
@@ -105,5 +109,6 @@ at-error-spec =
     (λ c κs. search needs)
     drive-requires
     scaled-requires
+    (λ c κs. search needs)
     (λ c κs. search needs)
     returns-2)

@@ -1,5 +1,5 @@
 -- `servo_moves::answered` meets its contract: an output is small, and off leaves a blank memory. Assumes nothing.
-use mathlib.Core.Path.{refl, ap}
+use mathlib.Core.Path.{ap}
 use native.Mathlib.Omega.{arith}
 use borrow.Author.Needs.{needs}
 use lib.IntN.{natAbs}
@@ -16,8 +16,11 @@ write-requires c κs =
     let h = c .before .before .before .pre in
     rw (back w64 (c .before .f .given .0 .1 .0) (omega arith)) (omega arith)
 
-returns-2 : tie.Need-returns-2
-returns-2 c = rw (c .before .before .enum-told .given .1) refl
+write-requires-2 : tie.Need-write-requires-2
+write-requires-2 c κs =
+    let e = ap (λ (f : Filtered). natAbs (told f .output)) (c .before .f2 .given .1) in
+    let h = c .before .before .before .pre in
+    rw (back w64 (c .before .f2 .given .0 .1 .0) (omega arith)) (omega arith)
 
 pub answered-spec : {M : Type 1} → statement M
 answered-spec =
@@ -26,7 +29,13 @@ answered-spec =
     (λ c. search needs)
     write-requires
     (λ c. search needs)
+    write-requires-2
     (λ c. search needs)
     (λ c κs. search needs)
     (λ c. search needs)
-    returns-2)
+    (λ c. search needs)
+    (λ c κs. search needs)
+    (λ c κs. search needs)
+    (λ c. search needs)
+    (λ c. search needs)
+    (λ c. search needs))

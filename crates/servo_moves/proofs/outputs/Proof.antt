@@ -17,7 +17,7 @@ abbrev μ-loop : tie.MeasureT-loop
 μ-loop g setpoint positions m₀ i₀ t6 m i = length positions - i
 
 loop-holds : tie.Need-loop-holds Inv-loop μ-loop
-loop-holds c = (omega arith, record { integral = omega arith; previous = omega arith }, c .before .pre)
+loop-holds c = (omega arith, c .before .pre .1, c .before .pre .0)
 
 answered-requires : tie.Need-answered-requires Inv-loop μ-loop
 answered-requires c κs =
@@ -29,7 +29,7 @@ loop-again : tie.Need-loop-again Inv-loop μ-loop
 loop-again c =
     let l = c .before .before .before .before .loop in
     let g = c .before .before .before .before .before .before .args .g in
-    (omega arith, rw (c .answered .ensures, c .before .filter .ensures) (keeps g (l .m) _ (l .inv .2)), l .inv .2)
+    (omega arith, rw (c .answered .ensures, c .before .filter .ensures) (keeps g (l .m) _ (l .inv .2) (l .inv .1)), l .inv .2)
 
 pub outputs-spec : {M : Type 1} → statement M
 outputs-spec =

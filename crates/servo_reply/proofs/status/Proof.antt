@@ -14,24 +14,41 @@ done-most c = rw (c .bit-at .ensures) (bit-most 1 (c .before .is-done .result))
 cause-most : (c : tie.After-cause-bit) → c .cause-bit .result ≤ 2
 cause-most c = rw (c .cause-bit .ensures) (cause-bit-most (c .before .before .before .args .cause))
 
-power-most : (c : tie.After-bit-at2) → c .bit-at2 .result ≤ 8
-power-most c = rw (c .bit-at2 .ensures) (bit-most 8 (eqb (c .before .before .before .before .args .power) 1))
+cut-most : (c : tie.After-bit-at2) → c .bit-at2 .result ≤ 4
+cut-most c = rw (c .bit-at2 .ensures) (bit-most 4 (c .before .before .before .before .args .r .drive .cut))
 
-error-most : (c : tie.After-bit-at3) → c .bit-at3 .result ≤ 16
-error-most c = rw (c .bit-at3 .ensures) (bit-most 16 (c .before .before .before .before .before .args .r .drive .error))
+power-most : (c : tie.After-bit-at3) → c .bit-at3 .result ≤ 8
+power-most c = rw (c .bit-at3 .ensures) (bit-most 8 (eqb (c .before .before .before .before .before .args .power) 1))
+
+error-most : (c : tie.After-bit-at4) → c .bit-at4 .result ≤ 16
+error-most c = rw (c .bit-at4 .ensures) (bit-most 16 (c .before .before .before .before .before .before .args .r .drive .error))
 
 add-result : tie.Need-add-result
 add-result c = omega (arith, done-most (c .before), cause-most c)
 
 add-result-2 : tie.Need-add-result-2
-add-result-2 c = omega (arith, done-most (c .before .before), cause-most (c .before), power-most c)
+add-result-2 c = omega (arith, done-most (c .before .before), cause-most (c .before), cut-most c)
 
 add-result-3 : tie.Need-add-result-3
-add-result-3 c = omega (arith, done-most (c .before .before .before), cause-most (c .before .before), power-most (c .before), error-most c)
+add-result-3 c = omega (arith, done-most (c .before .before .before), cause-most (c .before .before), cut-most (c .before), power-most c)
+
+add-result-4 : tie.Need-add-result-4
+add-result-4 c =
+    let b = c .before .before in
+    omega (arith, done-most (b .before .before), cause-most (b .before), cut-most b, power-most (c .before), error-most c)
 
 returns : tie.Need-returns
 unfolding statusOf
-returns c = let b = c .before .before in rw (c .bit-at3 .ensures, c .before .bit-at2 .ensures, b .cause-bit .ensures, b .before .bit-at .ensures, b .before .before .is-done .ensures)
+returns c =
+    let b = c .before .before in
+    rw (
+      c .bit-at4 .ensures,
+      c .before .bit-at3 .ensures,
+      b .bit-at2 .ensures,
+      b .before .cause-bit .ensures,
+      b .before .before .bit-at .ensures,
+      b .before .before .before .is-done .ensures,
+    )
 
 pub status-spec : {M : Type 1} → statement M
 status-spec =
@@ -45,4 +62,6 @@ status-spec =
     add-result-2
     (λ c κs. search needs)
     add-result-3
+    (λ c κs. search needs)
+    add-result-4
     returns)

@@ -4,10 +4,20 @@ use Rattle.servo_slot_list.proofs.does_mode_fit.Statement.{statement}
 use Rattle.servo_slot_list.proofs.does_mode_fit.Tie as tie
 
 returns : tie.Need-returns
-returns c = rw (c .before .before .before .before .enum-told .given .1, c .is-unpulsed .ensures, c .before .is-emptied .ensures, c .before .before .is-silent .ensures, c .before .before .before .is-still .ensures)
+returns c =
+    let a = c .before in
+    rw (
+      a .before .before .before .before .enum-told .given .1,
+      a .is-unpulsed .ensures,
+      a .before .is-emptied .ensures,
+      a .before .before .is-silent .ensures,
+      a .before .before .before .is-still .ensures,
+    )
 
 returns-2 : tie.Need-returns-2
-returns-2 c = rw (c .before .before .before .enum-told2 .given .1, c .is-live .ensures, c .before .is-emptied2 .ensures, c .before .before .is-still2 .ensures)
+returns-2 c =
+    let a = c .before in
+    rw (a .before .before .before .enum-told2 .given .1, a .is-live .ensures, a .before .is-emptied2 .ensures, a .before .before .is-still2 .ensures)
 
 returns-3 : tie.Need-returns-3
 returns-3 c = rw (c .before .before .before .enum-told3 .given .1, c .is-live2 .ensures, c .before .is-unpulsed2 .ensures, c .before .before .is-still3 .ensures)

@@ -7,7 +7,14 @@ use Rattle.servo_slot_read.proofs.drive_in.Statement.{statement}
 use Rattle.servo_slot_read.proofs.drive_in.Tie as tie
 
 returns : tie.Need-returns
-returns c = rw (toZ-ofZ w64 _ (record { sfits = c .before .before .get-whole2 .ok }) ∙ c .before .before .get-whole2 .ensures, toZ-ofZ w64 _ (record { sfits = c .before .before .before .get-whole .ok }) ∙ c .before .before .before .get-whole .ensures, c .before .before .before .before .mode-in .ensures)
+returns c =
+    let output = c .before .before .before in
+    let pulse = output .before in
+    rw (
+      toZ-ofZ w64 _ (record { sfits = output .get-whole2 .ok }) ∙ output .get-whole2 .ensures,
+      toZ-ofZ w64 _ (record { sfits = pulse .get-whole .ok }) ∙ pulse .get-whole .ensures,
+      pulse .before .mode-in .ensures,
+    )
 
 pub drive-in-spec : {M : Type 1} → statement M
 drive-in-spec =
@@ -17,6 +24,7 @@ drive-in-spec =
     (λ c κs. search needs)
     (λ c κs. search needs)
     (λ c κs. search needs)
+    (λ c. search needs)
     (λ c. search needs)
     (λ c. search needs)
     returns)

@@ -15,15 +15,15 @@ use Rattle.servo_tick.proofs.pulsed.Tie as tie
 pulse-is : (s : tie.Start) → toZ w64 (ofZ w64 (s .args .r .drive .pulse)) ≡ s .args .r .drive .pulse
 pulse-is s = back w64 _ (omega (arith, s .pre .pulse))
 
-limited-is : (c : tie.After-limited)
+held-is : (c : tie.After-hold)
     → let a = c .before .before .before .args in
-    toZ w64 (ofZ w64 (c .limited .result)) ≡ held (a .ol) (a .r .drive .pulse)
-limited-is c = toZ-ofZ w64 _ (record { sfits = c .limited .ok }) ∙ (rw (pulse-is (c .before .before .before)) at (c .limited .ensures))
+    toZ w64 (ofZ w64 (c .hold .result)) ≡ held (a .ol) (a .r .drive .pulse)
+held-is c = toZ-ofZ w64 _ (record { sfits = c .hold .ok }) ∙ (rw (pulse-is (c .before .before .before)) at (c .hold .ensures))
 
 put-is : (c : tie.After-put-out)
     → let a = c .before .before .before .before .args in
     toZ w64 (ofZ w64 (c .put-out .result)) ≡ putOut (a .power) (held (a .ol) (a .r .drive .pulse))
-put-is c = toZ-ofZ w64 _ (record { sfits = c .put-out .ok }) ∙ (rw (limited-is (c .before)) at (c .put-out .ensures))
+put-is c = toZ-ofZ w64 _ (record { sfits = c .put-out .ok }) ∙ (rw (held-is (c .before)) at (c .put-out .ensures))
 
 returns : tie.Need-returns
 unfolding pulsed
