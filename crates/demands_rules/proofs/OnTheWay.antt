@@ -100,7 +100,7 @@ module _ (f : Frame) (calm : Disturbs f → ⊥) (m : Servo) where
   order-keeps (LoadTrajectory c) (w, e) = subst (λ (c : Carried). Same m (perform (LoadTrajectory c) m)) (sym e) (load-keeps w)
   order-keeps Start k = absurd (calm (inr (inr (inl (k .0)))))
   order-keeps (SetGain t) k = (refl, refl)
-  order-keeps (Stop a h x) (c, e, y, l, b) = halts c h a x (subst (λ (h : Halt). BitOf h (haltBits (control f))) (sym e) (halt-bits (control f)))
+  order-keeps (Stop a h x) (c, e, y, l, b, w) = halts c h a x (subst (λ (h : Halt). BitOf h (haltBits (control f))) (sym e) (halt-bits (control f)))
   order-keeps ClearBits k = (refl, refl)
 
   settled-keeps : (q : Request Order) → Known f q → Same m (settled Answers.servo q m)

@@ -278,7 +278,7 @@ module _ (net : List ℕ) (cs : List Call) (i : ℕ) where
       order-told Start (c, n0) q d o = start-told (d, c, n0) q o
       order-told (SetGain g) k q d o =
           alike-told (withCause 0 (perform (SetGain g) m)) o refl refl (spared Drops (spares f k)) (alike m (withCause 0 (perform (SetGain g) m)) refl refl refl refl)
-      order-told (Stop a h x) (c, e, y, l, b) q d o = stop-told a x c h e y l o
+      order-told (Stop a h x) (c, e, y, l, b, w) q d o = stop-told a x c h e y l o
       order-told ClearBits k q d o =
           alike-told (withCause 0 (perform ClearBits m)) o refl refl (spared Drops (spares f k)) (alike m (withCause 0 (perform ClearBits m)) refl refl refl refl)
 

@@ -134,7 +134,7 @@ rouses f ResetPosition k o = absurd o
 rouses f (LoadTrajectory c) (w, e) o = inl (w .0, ap startsNow (sym e) ∙ o)
 rouses f Start (c, n) o = inr (inl c)
 rouses f (SetGain t) k o = absurd o
-rouses f (Stop a h x) (c, e, y, n, b) o = inr (inr (c, at o))
+rouses f (Stop a h x) (c, e, y, n, b, w) o = inr (inr (c, at o))
   where
     bits : (j : Halt) → h ≡ j → BitOf j (haltBits (getD (f .content) 0 0))
     bits j q = subst (λ (j : Halt). BitOf j (haltBits (getD (f .content) 0 0))) (sym e ∙ q) (halt-bits (getD (f .content) 0 0))

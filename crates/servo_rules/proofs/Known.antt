@@ -14,7 +14,7 @@ use Rattle.servo_rules.specs.declared.Halt.the-variants.{Keep, Release, 
 use Rattle.servo_rules.specs.declared.Order.{Order}
 use Rattle.servo_rules.specs.declared.Order.the-variants.{ResetPosition, LoadTrajectory, Start, SetGain, Stop, ClearBits}
 use Rattle.servo_rules.specs.Carried.{isSet, needed, carriedIn}
-use Rattle.servo_rules.specs.Asks.{loadMeant, gainMeant, haltOf, stopCount, stopMeant}
+use Rattle.servo_rules.specs.Asks.{loadMeant, gainMeant, haltOf, oneHalt, stopCount, stopMeant}
 use Rattle.servo_rules.specs.Answers.{servo, request}
 use Rattle.servo_rules.proofs.Asks.{own-means}
 
@@ -23,7 +23,7 @@ abbrev pub spared : ℕ → Bool
 spared c = not (eqb c 0 || eqb c 4 || eqb c 5 || eqb c 7 || eqb c 15)
 
 -- the first data byte
-abbrev first : Frame → ℕ
+abbrev pub first : Frame → ℕ
 first f = getD (f .content) 0 0
 
 -- what is known of a frame by what it asks
@@ -41,6 +41,7 @@ Known f (wants (Stop a h x)) =
     × (x ≡ ofLe (readAt 4 1 (f .content)))
     × (length (f .content) ≡ stopCount (first f))
     × (a ≡ isSet 0 (first f))
+    × (oneHalt (first f) ≡ true)
 Known f (wants ClearBits) = spared (f .code) ≡ true
 
 pub known : (f : Frame) (alone : Bool) → Known f (request f alone)
@@ -58,7 +59,7 @@ known f alone = asks servo (Known f) f alone (record {
     load = λ c n g. ((c, n), refl);
     start = λ c n g. (c, n);
     gain = λ c n g. ap spared c;
-    stop = λ c n g. (c, refl, refl, n, refl);
+    stop = λ c n g. (c, refl, refl, n, refl, g);
     clearBits = λ c n g. ap spared c;
   });
 })

@@ -1,15 +1,17 @@
 -- What the filter remembers between ticks, and through those that are cut. Assumes nothing.
 use mathlib.Core.Path.{_≡_, refl, sym, ap, subst, _∙_}
 use mathlib.Core.Logic.{_⊎_, inl, inr}
-use mathlib.Core.Bool.{Bool, true, false, false≢true}
+use mathlib.Core.Bool.{Bool, true, false, true≢false, false≢true}
 use Prim.Native.Nat.{ℕ}
-use lib.ListN.{getD}
+use native.Mathlib.Omega.{arith}
 use lib.IntN.{pos}
 use Rattle.line_receiver.specs.Frames.{Frame}
-use Rattle.module_rules.specs.Rules.{wants}
-use Rattle.module_rules.proofs.Settled.{cause}
+use Rattle.module_rules.specs.declared.Fault.{Fault}
+use Rattle.module_rules.specs.declared.Fault.the-variants.{Unknown, Count, Value}
+use Rattle.module_rules.specs.Rules.{Request, malformed, set, reset, wants, faultCause}
+use Rattle.module_rules.proofs.Settled.{settles, cause}
 use Rattle.servo_filter.proofs.Answers.{cut-leaves}
-use Rattle.servo_filter.specs.Filter.{Told}
+use Rattle.servo_filter.specs.Filter.{blank, Told}
 use Rattle.servo_rules.specs.declared.Carried.{Carried}
 use Rattle.servo_rules.specs.declared.Halt.{Halt}
 use Rattle.servo_rules.specs.declared.Halt.the-variants.{Keep, Release, Abrupt, Smooth, Here}
@@ -21,15 +23,18 @@ use Rattle.servo_rules.specs.declared.Settings.{Settings}
 use Rattle.servo_rules.specs.declared.Run.{Run}
 use Rattle.servo_rules.specs.declared.Servo.{Servo}
 use Rattle.servo_rules.specs.Carried.{isSet, carriedIn}
+use Rattle.servo_rules.specs.Asks.{oneHalt}
 use Rattle.servo_rules.specs.State.{positionAt, position, servoOff, idled, off}
 use Rattle.servo_rules.specs.Loads.{wayOf, loadOf, loaded, startsNow, toSpeed, toPlace, startedBy, start}
-use Rattle.servo_rules.specs.Perform.{resetPosition, smooth, haltedBy, stopped, perform}
+use Rattle.servo_rules.specs.Perform.{resetPosition, holding, smooth, haltedBy, stopped, can, perform}
 use Rattle.servo_rules.specs.Tick.{followedAt, tripped, pulsed, ticked}
-use Rattle.servo_rules.specs.Answers.{servo, execute}
+use Rattle.servo_rules.specs.Answers.{servo, request, execute}
 use Rattle.servo_rules.specs.CutPromises.{BlanksByStop, Blanks, Remembers}
 use Rattle.servo_rules.proofs.Keeping.{by-test}
 use Rattle.servo_rules.proofs.Loading.{ways}
-use Rattle.servo_rules.proofs.Known.{Known, known, BitOf, haltBits, halt-bits}
+use Rattle.servo_rules.proofs.Bounds.{one-halt}
+use Rattle.servo_rules.proofs.Starting.{begins}
+use Rattle.servo_rules.proofs.Known.{spared, first, Known, known, BitOf, haltBits, halt-bits}
 use Rattle.servo_rules.proofs.Apart.{apart}
 use Rattle.servo_rules.proofs.Framed.{leaves}
 use Rattle.servo_rules.proofs.Ends.{tick-ends}
@@ -100,13 +105,13 @@ blanks : (f : Frame) (c : Order) (m : Servo) → Known f (wants c) → Blanking 
 unfolding carriedIn
 blanks f ResetPosition m k o = absurd o
 blanks f (LoadTrajectory c) m (w, e) o =
-    inl (w .0, ap startsNow (sym e) ∙ o .0, pulse-bit (getD (f .content) 0 0) (ap (λ (c : Carried). wayOf (c .control)) (sym e) ∙ o .1))
+    inl (w .0, ap startsNow (sym e) ∙ o .0, pulse-bit (first f) (ap (λ (c : Carried). wayOf (c .control)) (sym e) ∙ o .1))
 blanks f Start m (c, n) o = inr (inl (c, o))
 blanks f (SetGain t) m k o = absurd o
-blanks f (Stop a h x) m (c, e, y, n, b) o = inr (inr (inl (c, at o)))
+blanks f (Stop a h x) m (c, e, y, n, b, w) o = inr (inr (inl (c, at o)))
   where
-    bits : (j : Halt) → h ≡ j → BitOf j (haltBits (getD (f .content) 0 0))
-    bits j q = subst (λ (j : Halt). BitOf j (haltBits (getD (f .content) 0 0))) (sym e ∙ q) (halt-bits (getD (f .content) 0 0))
+    bits : (j : Halt) → h ≡ j → BitOf j (haltBits (first f))
+    bits j q = subst (λ (j : Halt). BitOf j (haltBits (first f))) (sym e ∙ q) (halt-bits (first f))
 
     at : Blanking (Stop a h x) m → BlanksByStop m f
     at (inl (inl q)) = inl (bits Release q)
@@ -127,6 +132,99 @@ frame-same f alone m n = leaves (Same m) f alone m (record {
     done : {k : Servo} → execute f alone m ≡ k → k .station .cause ≡ 0 → execute f alone m .station .cause ≡ 0
     done e z = ap (λ (k : Servo). k .station .cause) e ∙ z
 
+-- ---- and the other way round
+
+-- a frame of another code, or that any type takes, is none of these
+no-other : (m : Servo) (f : Frame) (n : ℕ) → f .code ≡ n → (n ≡ 4 → ⊥) → (n ≡ 5 → ⊥) → (n ≡ 7 → ⊥) → (n ≡ 15 → ⊥) → Blanks m f → ⊥
+no-other m f n e a b c d (inl x) = a (sym e ∙ x .0)
+no-other m f n e a b c d (inr (inl x)) = b (sym e ∙ x .0)
+no-other m f n e a b c d (inr (inr (inl x))) = c (sym e ∙ x .0)
+no-other m f n e a b c d (inr (inr (inr x))) = d (sym e ∙ x)
+
+not-spared : (m : Servo) (f : Frame) → spared (f .code) ≡ true → Blanks m f → ⊥
+not-spared m f s (inl x) = true≢false (sym s ∙ ap spared (x .0))
+not-spared m f s (inr (inl x)) = true≢false (sym s ∙ ap spared (x .0))
+not-spared m f s (inr (inr (inl x))) = true≢false (sym s ∙ ap spared (x .0))
+not-spared m f s (inr (inr (inr x))) = true≢false (sym s ∙ ap spared x)
+
+-- each by its own code
+load-blanks : (m : Servo) (f : Frame) → f .code ≡ 4 → Blanks m f → (isSet 7 (first f) ≡ true) × (isSet 4 (first f) ≡ false)
+load-blanks m f e (inl x) = (x .1, x .2)
+load-blanks m f e (inr (inl x)) = absurd (omega (arith, sym e ∙ x .0))
+load-blanks m f e (inr (inr (inl x))) = absurd (omega (arith, sym e ∙ x .0))
+load-blanks m f e (inr (inr (inr x))) = absurd (omega (arith, sym e ∙ x))
+
+start-blanks : (m : Servo) (f : Frame) → f .code ≡ 5 → Blanks m f → m .settings .load .way ≡ Pulse
+start-blanks m f e (inl x) = absurd (omega (arith, sym e ∙ x .0))
+start-blanks m f e (inr (inl x)) = x .1
+start-blanks m f e (inr (inr (inl x))) = absurd (omega (arith, sym e ∙ x .0))
+start-blanks m f e (inr (inr (inr x))) = absurd (omega (arith, sym e ∙ x))
+
+stop-blanks : (m : Servo) (f : Frame) → f .code ≡ 7 → Blanks m f → BlanksByStop m f
+stop-blanks m f e (inl x) = absurd (omega (arith, sym e ∙ x .0))
+stop-blanks m f e (inr (inl x)) = absurd (omega (arith, sym e ∙ x .0))
+stop-blanks m f e (inr (inr (inl x))) = x .1
+stop-blanks m f e (inr (inr (inr x))) = absurd (omega (arith, sym e ∙ x))
+
+pulse-blank : (m : Servo) → m .settings .load .way ≡ Pulse → start m .run .memory ≡ blank
+pulse-blank m e = begins m .pulse e .4
+
+-- of two kinds of Stop one only
+smooth-only : (m : Servo) (f : Frame) → oneHalt (first f) ≡ true → isSet 3 (first f) ≡ true → BlanksByStop m f → servoOff (m .run .drive .mode) ≡ true
+smooth-only m f w s (inl x) = absurd (false≢true (sym (one-halt (first f) w .single 1 3 (omega arith) (omega arith) (omega arith) x) ∙ s))
+smooth-only m f w s (inr (inl x)) = absurd (false≢true (sym (one-halt (first f) w .single 2 3 (omega arith) (omega arith) (omega arith) x) ∙ s))
+smooth-only m f w s (inr (inr (inl x))) = absurd (false≢true (sym (one-halt (first f) w .single 3 4 (omega arith) (omega arith) (omega arith) s) ∙ x))
+smooth-only m f w s (inr (inr (inr x))) = x .1
+
+keeps-none : (m : Servo) (f : Frame) → BitOf Keep (haltBits (first f)) → BlanksByStop m f → ⊥
+keeps-none m f b (inl x) = true≢false (sym x ∙ b .0)
+keeps-none m f b (inr (inl x)) = true≢false (sym x ∙ b .1)
+keeps-none m f b (inr (inr (inl x))) = true≢false (sym x ∙ b .3)
+keeps-none m f b (inr (inr (inr x))) = true≢false (sym (x .0) ∙ b .2)
+
+halt-blank : (h : Halt) (here x : ℕ) (m : Servo) (f : Frame) → BitOf h (haltBits (first f)) → oneHalt (first f) ≡ true → BlanksByStop m f
+    → haltedBy h here x (m .run) .memory ≡ blank
+unfolding holding smooth off idled
+halt-blank Keep here x m f b w o = absurd (keeps-none m f b o)
+halt-blank Release here x m f b w o = refl
+halt-blank Abrupt here x m f b w o = refl
+halt-blank Smooth here x m f b w o = rw (smooth-only m f w b o) refl
+halt-blank Here here x m f b w o = refl
+
+order-blank : (c : Order) (m : Servo) (f : Frame) → Known f (wants c) → Blanks m f → perform c m .run .memory ≡ blank
+unfolding carriedIn loaded loadOf stopped
+order-blank ResetPosition m f k o = absurd (no-other m f 0 k (λ e. omega arith) (λ e. omega arith) (λ e. omega arith) (λ e. omega arith) o)
+order-blank (LoadTrajectory c) m f (w, e) o =
+    let b = load-blanks m f (w .0) o in
+    let s : startsNow c ≡ true = ap startsNow e ∙ b .0 in
+    let p : wayOf (c .control) ≡ Pulse = ap (λ (c : Carried). wayOf (c .control)) e ∙ ways (first f) .0 (b .1) in
+    rw s (pulse-blank (loaded c m) p)
+order-blank Start m f (c, n) o = pulse-blank m (start-blanks m f c o)
+order-blank (SetGain t) m f k o = absurd (not-spared m f k o)
+order-blank (Stop a h x) m f (c, e, y, n, b, w) o =
+    halt-blank h (position m) x m f (subst (λ (h : Halt). BitOf h (haltBits (first f))) (sym e) (halt-bits (first f))) w (stop-blanks m f c o)
+order-blank ClearBits m f k o = absurd (not-spared m f k o)
+
+fault-not-0 : (x : Fault) → faultCause x ≡ 0 → ⊥
+fault-not-0 Unknown e = omega arith
+fault-not-0 Count e = omega arith
+fault-not-0 Value e = omega arith
+
+frame-blank : (f : Frame) (alone : Bool) (m : Servo) → f .damaged ≡ false → execute f alone m .station .cause ≡ 0 → Blanks m f → execute f alone m .run .memory ≡ blank
+frame-blank f alone m d z o = by (request f alone) refl (known f alone)
+  where
+    by : (q : Request Order) → request f alone ≡ q → Known f q → execute f alone m .run .memory ≡ blank
+    by (malformed x) e k = absurd (fault-not-0 x (sym (ap (λ (k : Servo). k .station .cause) (settles servo f alone m d e)) ∙ z))
+    by (set s) e k = absurd (not-spared m f k o)
+    by reset e k = ap (λ (k : Servo). k .run .memory) (settles servo f alone m d e)
+    by (wants c) e k = at (can c m) refl
+      where
+        at : (t : Bool) → can c m ≡ t → execute f alone m .run .memory ≡ blank
+        at true t = ap (λ (k : Servo). k .run .memory) (cause servo apart f alone m .executed c d e t) ∙ order-blank c m f k o
+        at false t =
+            let three = ap (λ (k : Servo). k .station .cause) (cause servo apart f alone m .notNow c d e t) in
+            absurd (omega arith)
+
 -- a tick that is cut
 tick-same : (m : Servo) → ticked m .run .drive .cut ≡ true → ticked m .run .memory .integral ≡ m .run .memory .integral
 unfolding pulsed tripped idled off
@@ -143,4 +241,4 @@ tick-same m =
     })
 
 pub remembers : Remembers
-remembers = record { frame = frame-same; cut = tick-same }
+remembers = record { blanked = frame-blank; frame = frame-same; cut = tick-same }

@@ -5,6 +5,7 @@ use mathlib.Core.Logic.{_⊎_}
 use mathlib.Core.Bool.{Bool, true, false}
 use lib.ListN.{getD}
 use Rattle.line_receiver.specs.Frames.{Frame}
+use Rattle.servo_filter.specs.Filter.{blank}
 use Rattle.servo_rules.specs.declared.Way.the-variants.{Pulse}
 use Rattle.servo_rules.specs.declared.Sample.{Sample}
 use Rattle.servo_rules.specs.declared.Servo.{Servo}
@@ -44,8 +45,13 @@ Blanks m f =
     ⊎ (((f .code ≡ 7) × BlanksByStop m f)
     ⊎ (f .code ≡ 15)))
 
--- No frame but an executed one of these changes what the filter remembers, and a tick that is cut leaves the integral.
+-- An executed one of these blanks what the filter remembers, no other frame changes it, and a tick that is cut leaves the integral.
 pub record Remembers : Type 0 where
+  pub blanked : (f : Frame) (alone : Bool) (m : Servo)
+      → f .damaged ≡ false
+      → execute f alone m .station .cause ≡ 0
+      → Blanks m f
+      → execute f alone m .run .memory ≡ blank
   pub frame : (f : Frame) (alone : Bool) (m : Servo)
       → (f .damaged ≡ false → execute f alone m .station .cause ≡ 0 → Blanks m f → ⊥)
       → execute f alone m .run .memory ≡ m .run .memory
