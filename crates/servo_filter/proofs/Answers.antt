@@ -1,4 +1,4 @@
--- What the answers say: Trips, Works, OnlyTheIntegral, WindsUpNoMore, Lowered, Within and Keeps. Assumes nothing.
+-- What the answers say: Trips, Works, OnlyTheIntegral, WindsUpNoMore, Pushed, Lowered, Within and Keeps. Assumes nothing.
 use mathlib.Core.Path.{_≡_, refl, ap, sym, _∙_}
 use mathlib.Core.Bool.{Bool, true, false, true≢false}
 use mathlib.Core.List.{List, [], _∷_}
@@ -10,7 +10,7 @@ use lib.IntN.{ℤ, natAbs, _+ℤ_}
 use Rattle.servo_filter.specs.declared.Gains.{Gains}
 use Rattle.servo_filter.specs.declared.Memory.{Memory}
 use Rattle.servo_filter.specs.Filter.{Kept, held, drive, scaled, driven, summed, output, limited, answered, filtered, Told, told, Tick, toldAt, after}
-use Rattle.servo_filter.specs.Promises.{Trips, Works, base, AsTheBase, OnlyTheIntegral, AllCut, WindsUpNoMore, Lowered, Within, Keeps}
+use Rattle.servo_filter.specs.Promises.{Trips, Works, base, AsTheBase, OnlyTheIntegral, AllCut, WindsUpNoMore, woundBy, Pushed, Lowered, Within, Keeps}
 use Rattle.servo_filter.proofs.Held.{held-most}
 use Rattle.servo_filter.proofs.Limiting.{Lies, inside, above, below, lies}
 
@@ -98,6 +98,10 @@ pub winds-up-no-more : WindsUpNoMore
 winds-up-no-more ts m h =
     let e = cut-ticks-leave ts m h in
     (e, λ t. ap (λ (z : ℤ). held (t .gains .il) (z +ℤ t .error)) e)
+
+pub pushed : Pushed
+unfolding filtered limited held drive after AllCut woundBy
+pushed = record { cut = (refl, (refl, (refl, tt))); stays = refl; before = refl }
 
 pub lowered : Lowered
 unfolding filtered limited held drive

@@ -4,6 +4,7 @@ use mathlib.Core.Bool.{true, false, cond}
 use mathlib.Core.List.{List, [], _∷_}
 use Prim.Native.Nat.{ℕ, _≤_, _<_, min}
 use lib.Dec.{leb}
+use lib.ListN.{replicate}
 use lib.IntN.{ℤ, pos, negℤ, natAbs, _+ℤ_, _-ℤ_, _*ℤ_}
 use Rattle.servo_filter.specs.declared.Gains.{Gains}
 use Rattle.servo_filter.specs.declared.Memory.{Memory}
@@ -78,6 +79,21 @@ integrating il ol = record { kp = 0; kd = 0; ki = 256; il = il; ol = ol; el = 16
 
 abbrev pub wound : ℕ → Memory
 wound n = record { integral = pos n; previous = pos 0 }
+
+-- the memory after these ticks by the base's filter
+unfoldable pub woundBy : List Tick → Memory → Memory
+woundBy [] m = m
+woundBy (t ∷ ts) m = woundBy ts (base (t .gains) m (t .error) .memory)
+
+-- three ticks against a block, 6 counts off, with OL 10
+abbrev pub block : List Tick
+block = replicate 3 (record { gains = integrating 32767 10; error = pos 6 })
+
+-- From an integral of 6 all three are cut and leave 6, where the base's filter wound up to 24.
+pub record Pushed : Type 0 where
+  pub cut : AllCut block (wound 6)
+  pub stays : after block (wound 6) .integral ≡ pos 6
+  pub before : woundBy block (wound 6) .integral ≡ pos 24
 
 -- IL lowered to 10 at an integral of 100: a cut tick leaves 100, and only a tick that is not cut holds it to 10, so that 10 is put out at an error of -5.
 pub record Lowered : Type 0 where
