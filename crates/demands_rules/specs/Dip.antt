@@ -80,12 +80,15 @@ EnabledWasSent =
 abbrev pub History : Type 0
 History = List (Event AnySample)
 
--- the bytes of a frame for a servo alone on the line, and a tick that finds this power
+-- the bytes of a frame for a servo alone on the line, and a tick that finds this power, at this count or at 0
 abbrev pub sending : ℕ → List ℕ → History
 sending code ds = sent (clean (written 0 code ds)) ∷ []
 
+abbrev pub tickAtCount : ℕ → ℕ → History
+tickAtCount power raw = sampled 0 (servo, record { raw = raw; power = power; ad = 0 }) ∷ ticked ∷ []
+
 abbrev pub tickAt : ℕ → History
-tickAt power = sampled 0 (servo, record { raw = 0; power = power; ad = 0 }) ∷ ticked ∷ []
+tickAt power = tickAtCount power 0
 
 -- the amplifier switched on, or off, and PWM 100 started; Set Gain with OL 255
 abbrev pub switchedOn : History

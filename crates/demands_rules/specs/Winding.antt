@@ -11,16 +11,15 @@ use Rattle.chain_rules.specs.Chain.{flat}
 use Rattle.servo_rules.specs.declared.Servo.{Servo}
 use Rattle.servo_rules.specs.Answers.{typeNumber}
 use Rattle.servo_rules.specs.CutPromises.{Blanks}
-use Rattle.types_rules.specs.Table.{servo}
 use Rattle.types_rules.specs.Types.{kind}
 use Rattle.net_rules.specs.Calls.{setUp}
 use Rattle.api_rules.specs.Promises.{ValidRecord}
-use Rattle.demands_history_rules.specs.Events.{sampled, ticked, taking, run}
+use Rattle.demands_history_rules.specs.Events.{taking, run}
 use Rattle.demands_history_rules.specs.Calls.{Call, tick, AllHanded, leftBy}
 use Rattle.demands_rules.specs.Motion.{At}
 use Rattle.demands_rules.specs.Place.{Stands, Executed}
 use Rattle.demands_rules.specs.Meaning.{gives, Holds}
-use Rattle.demands_rules.specs.Dip.{History, sending, tickAt, pulsing, drivenAfter}
+use Rattle.demands_rules.specs.Dip.{History, sending, tickAtCount, tickAt, pulsing, drivenAfter}
 
 -- The mill's promise, from any valid record: through any calls, however many ticks are among them, if each of those ticks leaves the cut bit at place i
 -- and no frame is executed there that blanks the filter's memory, the integral after them is what it was before. Samples, polls, gains set anew, moves
@@ -35,10 +34,7 @@ WindsUpNoMore =
 
 -- ---- a carriage against a block, by the tick, computed
 
--- a tick at this power that finds the carriage so many counts behind where it is held, and one so many ahead
-abbrev pub tickAtCount : ℕ → ℕ → History
-tickAtCount power raw = sampled 0 (servo, record { raw = raw; power = power; ad = 0 }) ∷ ticked ∷ []
-
+-- a tick at power 1 that finds the carriage so many counts behind where it is held, and one so many ahead
 abbrev pub behind : ℕ → History
 behind n = tickAtCount 1 (2 ^ 32 - n)
 
