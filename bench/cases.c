@@ -20,6 +20,10 @@ static const struct move steepest = {2559, FASTEST, FASTEST}; /* 27 halvings the
 static uint8_t room[NMC_ROOM_LEN];
 static uint8_t last_byte;
 
+/* The list that each tick of a case takes. */
+static uint8_t samples[NMC_MOST_MODULES * NMC_SAMPLE_LEN];
+static size_t samples_len;
+
 static void need(int holds)
 {
     if (!holds) {
@@ -64,16 +68,26 @@ static void send_up_to_last(const struct implementation *at, uint8_t address, ui
     last_byte = frame[written - 1];
 }
 
-/* Modules addressed 1, 2, ..., all leaders of one group. */
+/* Modules addressed 1, 2, ..., all leaders of one group; nothing is measured anywhere. */
 static void address_all(const struct implementation *at, uint8_t type, size_t chain)
 {
     uint8_t types[NMC_MOST_MODULES];
     memset(types, type, sizeof types);
     need(at->setup(types, chain) == NMC_DONE);
+    samples_len = chain * NMC_SAMPLE_LEN;
     for (size_t place = 0; place < chain; place++) {
+        if (type == NMC_TYPE_SERVO)
+            nmc_put_servo_sample(samples, place, 0, 0, 0);
+        else
+            nmc_put_io_sample(samples, place, 0, 0, 0, 0, 0);
         const uint8_t data[2] = {(uint8_t)(place + 1), GROUP & 0x7F};
         need(send(at, 0, 1, data, sizeof data) == 2);
     }
+}
+
+static void tick_once(const struct implementation *at)
+{
+    need(at->tick(samples, samples_len) == NMC_DONE);
 }
 
 /* Servos with power, gains that follow and room for an error. */
@@ -81,9 +95,9 @@ static void ready_servos(const struct implementation *at)
 {
     const uint8_t gains[15] = {100, 0, 50, 0, 10, 0, 0xE8, 3, 0xFF, 0, 0xFF, 0x3F, 1, 0, 1};
     address_all(at, NMC_TYPE_SERVO, NMC_MOST_MODULES);
-    for (uint32_t place = 0; place < NMC_MOST_MODULES; place++)
-        need(at->servo_sample(place, 0, 1, 0) == NMC_DONE);
-    need(at->tick() == NMC_DONE);
+    for (size_t place = 0; place < NMC_MOST_MODULES; place++)
+        nmc_put_servo_sample(samples, place, 0, 1, 0);
+    tick_once(at);
     send(at, GROUP, 6, gains, sizeof gains);
     send(at, GROUP, 11, NULL, 0);
 }
@@ -112,7 +126,7 @@ static void start_all(const struct implementation *at, uint8_t control, const st
 static void tick_times(const struct implementation *at, unsigned times)
 {
     while (times-- > 0)
-        need(at->tick() == NMC_DONE);
+        tick_once(at);
 }
 
 /* ---- cases */
@@ -225,21 +239,6 @@ static void take_last(const struct implementation *at)
     need(at->byte(0, last_byte, room, sizeof room, &written) == NMC_FRAME && written >= NMC_REPLY_LEN);
 }
 
-static void tick_once(const struct implementation *at)
-{
-    need(at->tick() == NMC_DONE);
-}
-
-static void sample_servo(const struct implementation *at)
-{
-    need(at->servo_sample(7, 0, 1, 0) == NMC_DONE);
-}
-
-static void sample_io(const struct implementation *at)
-{
-    need(at->io_sample(7, 0x123, 4, 5, 6, 789) == NMC_DONE);
-}
-
 static void take_outputs(const struct implementation *at)
 {
     uint8_t outputs[NMC_OUTPUTS_LEN];
@@ -293,8 +292,6 @@ const struct bench_case cases[] = {
     {"tick, 32 I/O", "tick", prepare_io, tick_once, NOTHING_BACK, 1000},
     {"tick, 1 servo", "tick", prepare_one_servo, tick_once, NOTHING_BACK, 1000},
     {"tick, 1 I/O", "tick", prepare_one_io, tick_once, NOTHING_BACK, 1000},
-    {"servo_sample, one of 32 moving", "servo_sample", prepare_moving, sample_servo, NOTHING_BACK, 1000},
-    {"io_sample, one of 32", "io_sample", prepare_io, sample_io, NOTHING_BACK, 1000},
     {"outputs, one of 32 servos moving", "outputs", prepare_moving, take_outputs, NOTHING_BACK, 1000},
     {"outputs, one of 32 I/O", "outputs", prepare_io, take_outputs, NOTHING_BACK, 1000},
     {"write_frame, 13 data bytes", "write_frame", prepare_one_servo, write_once, NOTHING_BACK, 1000},

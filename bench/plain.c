@@ -1,6 +1,6 @@
 /*
- * Document 01 with P1, P4 and P5 of 02 in plain C11. It shares nothing with
- * the library, so that the two can be held against each other.
+ * Document 01 with P1, P4, P5 and P11 of 02 in plain C11. It shares nothing
+ * with the library, so that the two can be held against each other.
  */
 #include "plain.h"
 
@@ -16,7 +16,8 @@ enum {
     SHORT_ROOM = 15,
     BAD_FRAME = 17,
     BAD_LENGTH = 18,
-    BAD_SUM = 19
+    BAD_SUM = 19,
+    BAD_LIST = 20
 };
 enum { SERVO = 0, IO = 2 };
 enum { HEADER = 0xAA, ITEMS = 8, READING_LEN = 33, OUTPUTS_LEN = 8, TWELVE_BITS = 0xFFF };
@@ -192,9 +193,8 @@ static void idle_servo(struct plain_servo *s, enum plain_mode mode, int32_t pwm)
 
 static void power_up_servo(struct plain_servo *s)
 {
-    struct plain_servo_sample waiting = s->waiting, latched = s->latched;
+    struct plain_servo_sample latched = s->latched;
     memset(s, 0, sizeof *s);
-    s->waiting = waiting;
     s->latched = latched;
     s->offset = latched.raw;
     s->gains.sm = 1;
@@ -222,10 +222,10 @@ static void filter(struct plain_servo *s)
     s->output = s->latched.power == POWER_GOOD ? (int32_t)output : 0;
 }
 
-static void tick_servo(struct plain_servo *s)
+static void tick_servo(struct plain_servo *s, const uint8_t *sample)
 {
     s->last_position = position(s);
-    s->latched = s->waiting;
+    s->latched = (struct plain_servo_sample){.power = sample[1], .ad = sample[2], .raw = get32(sample + 3)};
     if (s->latched.power == POWER_LOW) {
         /* the amplifier bit stays, so the enable line comes back with power */
         idle_servo(s, PLAIN_OFF, 0);
@@ -488,11 +488,16 @@ static void servo_items(const struct plain_servo *s, uint32_t items[ITEMS])
 
 static void power_up_io(struct plain_io *io)
 {
-    struct plain_io_sample waiting = io->waiting, latched = io->latched;
+    struct plain_io_sample latched = io->latched;
     memset(io, 0, sizeof *io);
-    io->waiting = waiting;
     io->latched = latched;
     io->direction = TWELVE_BITS;
+}
+
+static void tick_io(struct plain_io *io, const uint8_t *sample)
+{
+    io->latched = (struct plain_io_sample){
+        .inputs = get16(sample + 1), .ad = {sample[3], sample[4], sample[5]}, .counter = get32(sample + 6)};
 }
 
 /* Inputs read as sampled, outputs as their register has them. */
@@ -737,9 +742,9 @@ static bool station_holds(const struct plain_station *s)
 
 static bool io_holds(const struct plain_io *io)
 {
-    return io->waiting.inputs <= TWELVE_BITS && io->latched.inputs <= TWELVE_BITS &&
-           io->direction <= TWELVE_BITS && io->output <= TWELVE_BITS &&
-           io->synch_output <= TWELVE_BITS && io->captured_inputs <= TWELVE_BITS;
+    return io->latched.inputs <= TWELVE_BITS && io->direction <= TWELVE_BITS &&
+           io->output <= TWELVE_BITS && io->synch_output <= TWELVE_BITS &&
+           io->captured_inputs <= TWELVE_BITS;
 }
 
 static bool gains_hold(const struct plain_gains *g)
@@ -758,8 +763,7 @@ static bool load_holds(const struct plain_load *l, const struct plain_rates *r)
 
 static bool ranges_hold(const struct plain_servo *s)
 {
-    return s->waiting.power <= POWER_HIGH && s->latched.power <= POWER_HIGH &&
-           within(s->speed, FASTEST) && within(s->goal_speed, FASTEST) &&
+    return s->latched.power <= POWER_HIGH && within(s->speed, FASTEST) && within(s->goal_speed, FASTEST) &&
            s->acceleration <= FASTEST && s->top_speed <= FASTEST &&
            within(s->integral, MOST_GAIN) && within(s->previous_error, MOST_ERROR) &&
            s->mode <= PLAIN_TRAPEZOID && within(s->pwm, MOST_OUTPUT) &&
@@ -886,41 +890,37 @@ uint32_t PLAIN(byte)(struct plain_network *net, uint32_t mark, uint8_t byte, uin
     return PLAIN(byte_by_place)(net, mark, byte, room, room_len, written, NULL);
 }
 
-uint32_t PLAIN(servo_sample)(struct plain_network *net, uint32_t place, uint32_t raw, uint32_t power,
-                             uint8_t ad)
+static bool in_range(uint8_t type, const uint8_t *sample)
 {
-    REFUSE_SPOILED(net);
-    if (place >= net->chain || net->modules[place].type != SERVO)
-        return BAD_PLACE;
-    if (power > POWER_HIGH)
-        return BAD_FIELD;
-    net->modules[place].as.servo.waiting =
-        (struct plain_servo_sample){.raw = raw, .power = (uint8_t)power, .ad = ad};
+    return type == SERVO ? sample[1] <= POWER_HIGH : get16(sample + 1) <= TWELVE_BITS;
+}
+
+/* Every type is tested before any field. */
+static uint32_t refuse_list(const struct plain_network *net, const uint8_t *samples, size_t samples_len)
+{
+    if (samples_len != (size_t)PLAIN_SAMPLE_LEN * net->chain)
+        return BAD_LIST;
+    for (int place = 0; place < net->chain; place++)
+        if (samples[PLAIN_SAMPLE_LEN * place] != net->modules[place].type)
+            return BAD_PLACE;
+    for (int place = 0; place < net->chain; place++)
+        if (!in_range(net->modules[place].type, samples + PLAIN_SAMPLE_LEN * place))
+            return BAD_FIELD;
     return DONE;
 }
 
-uint32_t PLAIN(io_sample)(struct plain_network *net, uint32_t place, uint32_t inputs, uint8_t ad1,
-                          uint8_t ad2, uint8_t ad3, uint32_t counter)
+uint32_t PLAIN(tick)(struct plain_network *net, const uint8_t *samples, size_t samples_len)
 {
     REFUSE_SPOILED(net);
-    if (place >= net->chain || net->modules[place].type != IO)
-        return BAD_PLACE;
-    if (inputs > TWELVE_BITS)
-        return BAD_FIELD;
-    net->modules[place].as.io.waiting = (struct plain_io_sample){
-        .inputs = (uint16_t)inputs, .ad = {ad1, ad2, ad3}, .counter = counter};
-    return DONE;
-}
-
-uint32_t PLAIN(tick)(struct plain_network *net)
-{
-    REFUSE_SPOILED(net);
-    for (int place = 0; place < net->chain; place++) {
+    uint32_t refusal = refuse_list(net, samples, samples_len);
+    if (refusal != DONE)
+        return refusal;
+    for (int place = 0; place < net->chain; place++, samples += PLAIN_SAMPLE_LEN) {
         struct plain_module *m = &net->modules[place];
         if (m->type == SERVO)
-            tick_servo(&m->as.servo);
+            tick_servo(&m->as.servo, samples);
         else
-            m->as.io.latched = m->as.io.waiting;
+            tick_io(&m->as.io, samples);
     }
     return DONE;
 }

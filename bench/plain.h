@@ -1,5 +1,5 @@
 /*
- * Document 01 with P1, P4 and P5 of 02 in plain C, to measure the library
+ * Document 01 with P1, P4, P5 and P11 of 02 in plain C, to measure the library
  * against: the same calls and the same answers on a network of typed structs.
  * plain.c is compiled twice: as it stands (plain_...) it believes the network
  * that it is lent, with PLAIN_CHECKS (checked_...) it tests the list for
@@ -11,7 +11,7 @@
 #include <stddef.h>
 #include <stdint.h>
 
-enum { PLAIN_MOST_MODULES = 32, PLAIN_MOST_DATA = 15, PLAIN_ROOM_LEN = 608 };
+enum { PLAIN_MOST_MODULES = 32, PLAIN_MOST_DATA = 15, PLAIN_ROOM_LEN = 608, PLAIN_SAMPLE_LEN = 10 };
 
 /* Flags are bytes of 0 or 1, so that a spoiled network can be told. */
 typedef uint8_t plain_flag;
@@ -36,7 +36,7 @@ struct plain_io_sample {
 };
 
 struct plain_io {
-    struct plain_io_sample waiting, latched;
+    struct plain_io_sample latched;
     uint16_t direction, output; /* a direction bit of 1 is an input */
     uint8_t pwm[2];
     uint16_t synch_output;
@@ -73,7 +73,7 @@ struct plain_load {
 enum plain_mode { PLAIN_OFF, PLAIN_PWM, PLAIN_HOLDING, PLAIN_VELOCITY, PLAIN_TRAPEZOID };
 
 struct plain_servo {
-    struct plain_servo_sample waiting, latched;
+    struct plain_servo_sample latched;
     uint32_t offset, last_position;
     struct plain_gains gains;
     struct plain_rates rates;
@@ -111,11 +111,7 @@ struct plain_network {
     uint32_t NAMED(byte_by_place)(struct plain_network *net, uint32_t mark, uint8_t byte,         \
                                   uint8_t *room, size_t room_len, size_t *written,                \
                                   uint8_t *lengths);                                              \
-    uint32_t NAMED(servo_sample)(struct plain_network *net, uint32_t place, uint32_t raw,         \
-                                 uint32_t power, uint8_t ad);                                     \
-    uint32_t NAMED(io_sample)(struct plain_network *net, uint32_t place, uint32_t inputs,         \
-                              uint8_t ad1, uint8_t ad2, uint8_t ad3, uint32_t counter);           \
-    uint32_t NAMED(tick)(struct plain_network *net);                                              \
+    uint32_t NAMED(tick)(struct plain_network *net, const uint8_t *samples, size_t samples_len);  \
     uint32_t NAMED(outputs)(const struct plain_network *net, uint32_t place, uint8_t *outputs);   \
     uint32_t NAMED(write_frame)(uint32_t address, uint32_t code, const uint8_t *data,             \
                                 size_t data_len, uint8_t *room, size_t room_len,                  \

@@ -3,6 +3,7 @@
 
 #include <stdbool.h>
 #include <stdio.h>
+#include <string.h>
 
 enum { MODULE, LINE_BYTE, SERVO_SAMPLE, IO_SAMPLE, TICK, KINDS };
 
@@ -10,16 +11,9 @@ static const uint8_t body_len[KINDS] = {1, 2, 7, 10, 0};
 
 static struct plain_network net;
 static uint8_t types[PLAIN_MOST_MODULES];
+static uint8_t samples[PLAIN_MOST_MODULES * PLAIN_SAMPLE_LEN]; /* the latest of each place, 0 until one comes */
 static size_t chain;
 static bool running; /* a record of another kind has come, so no module may */
-
-static uint32_t number_at(const uint8_t *at, int bytes)
-{
-    uint32_t x = 0;
-    while (bytes-- > 0)
-        x = x << 8 | at[bytes];
-    return x;
-}
 
 static void print_replies(const uint8_t *room, const uint8_t *lengths)
 {
@@ -55,7 +49,19 @@ static bool take_module(uint8_t type)
 {
     if (running || chain == PLAIN_MOST_MODULES || (type != 0 && type != 2))
         return false;
+    samples[PLAIN_SAMPLE_LEN * chain] = type;
     types[chain++] = type;
+    return true;
+}
+
+/* A sample's record has its place, and then what stands behind the type in a tick's list. */
+static bool take_sample(uint8_t kind, const uint8_t *b)
+{
+    uint8_t type = kind == SERVO_SAMPLE ? 0 : 2;
+    bool in_range = kind == SERVO_SAMPLE ? b[1] <= 2 : b[2] < 16;
+    if (b[0] >= chain || types[b[0]] != type || !in_range)
+        return false;
+    memcpy(samples + PLAIN_SAMPLE_LEN * b[0] + 1, b + 1, body_len[kind] - 1u);
     return true;
 }
 
@@ -70,11 +76,10 @@ static bool take_record(uint8_t kind, const uint8_t *b)
     case LINE_BYTE:
         return take_line_byte(b);
     case SERVO_SAMPLE:
-        return PLAIN(servo_sample)(&net, b[0], number_at(b + 3, 4), b[1], b[2]) == 0;
     case IO_SAMPLE:
-        return PLAIN(io_sample)(&net, b[0], number_at(b + 1, 2), b[3], b[4], b[5], number_at(b + 6, 4)) == 0;
+        return take_sample(kind, b);
     default:
-        return PLAIN(tick)(&net) == 0;
+        return PLAIN(tick)(&net, samples, PLAIN_SAMPLE_LEN * chain) == 0;
     }
 }
 

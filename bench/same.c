@@ -2,7 +2,8 @@
  * Holds plain C to the library, so that what is measured against it is the
  * same document: over long histories, led to where modules hear and execute,
  * both builds and the library must give the same numbers, replies, causes and
- * outputs, and servos must remember the same; and over spoiled records the
+ * outputs, latch the same samples, and servos must remember the same; a tick
+ * whose list is spoiled must change nothing; and over spoiled records the
  * library and the build that checks must refuse the same ones.
  */
 #include "plain.h"
@@ -14,11 +15,12 @@
 #include <string.h>
 
 enum { HISTORIES = 1500, STEPS = 500, FASTEST = 83886080, SLOTS_AT = 20, SLOT_LEN = (NMC_NET_LEN - SLOTS_AT) / NMC_MOST_MODULES };
-enum { CAUSE_AT = 5, INTEGRAL_AT = 87, PREVIOUS_AT = 91, CUT_AT = 106, CAUSES = 6, LEAST_TIMES = 1000 };
+enum { CAUSE_AT = 5, LATCHED_AT = 8, INTEGRAL_AT = 81, PREVIOUS_AT = 85, CUT_AT = 100, SERVO_LEN = 101 };
+enum { CAUSES = 6, NUMBERS = 21, LEAST_TIMES = 1000 };
 
 static uint64_t dice;
 static uint32_t history, step;
-static unsigned long calls, frames, frames_with[CAUSES], moving_ticks, spoiled, refused;
+static unsigned long calls, frames, frames_with[CAUSES], ticks_with[NUMBERS], moving_ticks, spoiled, refused;
 
 /* What histories must come to where an output is at its limit. */
 enum at_limit {
@@ -51,6 +53,9 @@ static unsigned long times_at_limit[WAYS_AT_LIMIT];
 /* The library's record and the structs, as three.c keeps them. */
 static uint8_t *record;
 static struct plain_network *plain, *checked;
+
+/* What the board has measured last at each place: the list of the next tick. */
+static uint8_t samples[NMC_MOST_MODULES * NMC_SAMPLE_LEN];
 
 /* splitmix64. No expression throws twice, so that histories are the same with every compiler. */
 static uint64_t throw_dice(void)
@@ -86,6 +91,15 @@ static void need(bool holds, const char *what, unsigned which)
     exit(1);
 }
 
+/* The same of something that one alone must do. */
+static void need_alone(bool holds, const char *what, unsigned which)
+{
+    if (holds)
+        return;
+    printf("history %u, step %u: %s: %s\n", (unsigned)history, (unsigned)step, implementations[which].name, what);
+    exit(1);
+}
+
 /* ---- each call at all three */
 
 /* Which cause a module keeps shows in its record alone: replies tell only that there is one. */
@@ -106,21 +120,33 @@ static uint32_t number_at(const uint8_t *s, int at, int bytes)
     return x;
 }
 
-static bool remembers(const struct plain_servo *s, const uint8_t *slot)
+static bool servo_remembers(const struct plain_servo *s, const uint8_t *slot)
 {
-    return (uint32_t)s->integral == number_at(slot, INTEGRAL_AT, 4) &&
+    return s->latched.power == slot[LATCHED_AT] && s->latched.ad == slot[LATCHED_AT + 1] &&
+           s->latched.raw == number_at(slot, LATCHED_AT + 2, 4) &&
+           (uint32_t)s->integral == number_at(slot, INTEGRAL_AT, 4) &&
            (uint32_t)s->previous_error == number_at(slot, PREVIOUS_AT, 4) && s->cut == slot[CUT_AT];
 }
 
-/* What a filter remembers shows later or never, and the cut bit in a reply that may not be asked for. */
+static bool io_remembers(const struct plain_io *io, const uint8_t *slot)
+{
+    return io->latched.inputs == number_at(slot, LATCHED_AT, 2) &&
+           memcmp(io->latched.ad, slot + LATCHED_AT + 2, sizeof io->latched.ad) == 0 &&
+           io->latched.counter == number_at(slot, LATCHED_AT + 5, 4);
+}
+
+static bool remembers(const struct plain_module *m, const uint8_t *slot)
+{
+    return m->type == NMC_TYPE_SERVO ? servo_remembers(&m->as.servo, slot) : io_remembers(&m->as.io, slot);
+}
+
+/* Samples and what a filter remembers show later or never, and the cut bit in a reply that may not be asked for. */
 static void memories_of_all(void)
 {
     for (int place = 0; place < plain->chain; place++) {
         const uint8_t *slot = record + SLOTS_AT + SLOT_LEN * place;
-        if (slot[0] != NMC_TYPE_SERVO)
-            continue;
-        need(remembers(&plain->modules[place].as.servo, slot), "memory", PLAIN_C);
-        need(remembers(&checked->modules[place].as.servo, slot), "memory", CHECKED_C);
+        need(remembers(&plain->modules[place], slot), "memory", PLAIN_C);
+        need(remembers(&checked->modules[place], slot), "memory", CHECKED_C);
     }
 }
 
@@ -161,15 +187,24 @@ static void count_at_limit(bool was_cut, const struct plain_servo *s)
     times_at_limit[CUT_ENDS] += was_cut && !s->cut && s->mode >= PLAIN_HOLDING;
 }
 
+/* A tick's number, the same at all. */
+static uint32_t tick_with(const uint8_t *list, size_t len)
+{
+    uint32_t number = implementations[LIBRARY].tick(list, len);
+    calls++;
+    for (unsigned i = 1; i < IMPLEMENTATIONS; i++)
+        need(implementations[i].tick(list, len) == number, "tick's number", i);
+    ticks_with[number]++;
+    return number;
+}
+
 static void tick_all(void)
 {
     bool were_cut[NMC_MOST_MODULES];
     for (int place = 0; place < plain->chain; place++)
         were_cut[place] = plain->modules[place].type == NMC_TYPE_SERVO && plain->modules[place].as.servo.cut;
-    uint32_t number = implementations[LIBRARY].tick();
-    calls++;
-    for (unsigned i = 1; i < IMPLEMENTATIONS; i++)
-        need(implementations[i].tick() == number, "tick's number", i);
+    uint32_t number = tick_with(samples, (size_t)plain->chain * NMC_SAMPLE_LEN);
+    need_alone(number == NMC_DONE, "a good list is refused", LIBRARY);
     memories_of_all();
     for (int place = 0; place < plain->chain; place++) {
         const struct plain_servo *s = &plain->modules[place].as.servo;
@@ -178,23 +213,6 @@ static void tick_all(void)
         moving_ticks += s->speed != 0;
         count_at_limit(were_cut[place], s);
     }
-}
-
-static void servo_sample_at_all(uint32_t place, uint32_t raw, uint32_t power, uint8_t ad)
-{
-    uint32_t number = implementations[LIBRARY].servo_sample(place, raw, power, ad);
-    calls++;
-    for (unsigned i = 1; i < IMPLEMENTATIONS; i++)
-        need(implementations[i].servo_sample(place, raw, power, ad) == number, "sample's number", i);
-}
-
-static void io_sample_at_all(uint32_t place, uint32_t inputs, uint32_t counter)
-{
-    uint8_t a = (uint8_t)counter, b = (uint8_t)(counter >> 3), c = (uint8_t)(counter >> 7);
-    uint32_t number = implementations[LIBRARY].io_sample(place, inputs, a, b, c, counter);
-    calls++;
-    for (unsigned i = 1; i < IMPLEMENTATIONS; i++)
-        need(implementations[i].io_sample(place, inputs, a, b, c, counter) == number, "sample's number", i);
 }
 
 static uint32_t outputs_of_all(uint32_t place)
@@ -416,21 +434,66 @@ static uint32_t some_error(const struct plain_servo *s)
     return percent(50) ? error : 0 - error;
 }
 
-static void some_sample(void)
+static void put_some_io_sample(uint32_t place)
 {
-    uint32_t place = below(plain->chain + percent(2));
-    if (place == plain->chain || plain->modules[place].type == NMC_TYPE_IO || percent(1)) {
-        uint32_t inputs = below(percent(2) ? 8192 : 4096);
-        io_sample_at_all(place, inputs, (uint32_t)throw_dice());
+    uint32_t inputs = below(4096), counter = (uint32_t)throw_dice();
+    uint8_t ad1 = (uint8_t)counter, ad2 = (uint8_t)(counter >> 3), ad3 = (uint8_t)(counter >> 7);
+    nmc_put_io_sample(samples, place, inputs, ad1, ad2, ad3, counter);
+}
+
+/* The board measures something at a place. */
+static void measure(void)
+{
+    uint32_t place = below(plain->chain);
+    if (plain->modules[place].type == NMC_TYPE_IO) {
+        put_some_io_sample(place);
         return;
     }
     const struct plain_servo *s = &plain->modules[place].as.servo;
     uint32_t error = percent(30) ? error_to_limit(s) : some_error(s);
     uint32_t ahead = s->setpoint + (uint32_t)(s->speed / 65536);
     uint32_t base = s->mode < PLAIN_HOLDING ? s->latched.raw - s->offset : ahead;
-    uint32_t power = percent(92) ? 1 : percent(50) ? 2 : below(4);
+    uint32_t power = percent(94) ? 1 : percent(84) ? 2 : 0;
     uint32_t raw = percent(99) ? base - error + s->offset : (uint32_t)throw_dice();
-    servo_sample_at_all(place, raw, power, some_byte());
+    nmc_put_servo_sample(samples, place, raw, power, some_byte());
+    if (percent(20)) /* bytes that are not looked at */
+        memset(samples + place * NMC_SAMPLE_LEN + 7, some_byte(), 3);
+}
+
+/* A byte of a list by which its tick is refused, or nearly: a type, a power, the upper byte of inputs. */
+static void spoil_sample(uint8_t *list)
+{
+    static const uint8_t types[] = {0, 1, 2, 3, 7, 0xFF};
+    static const uint8_t powers[] = {2, 3, 4, 0x80, 0xFF}, inputs[] = {15, 16, 17, 0x80, 0xFF};
+    uint8_t *sample = list + NMC_SAMPLE_LEN * below(plain->chain);
+    if (percent(50))
+        sample[0] = types[below(sizeof types)];
+    else if (sample[0] == NMC_TYPE_SERVO)
+        sample[1] = powers[below(sizeof powers)];
+    else
+        sample[2] = inputs[below(sizeof inputs)];
+}
+
+/* A tick whose list is mostly refused, and then changes nothing. */
+static void try_spoiled_list(void)
+{
+    static uint8_t list[sizeof samples + 2 * NMC_SAMPLE_LEN];
+    static uint8_t before[IMPLEMENTATIONS][sizeof(struct plain_network) + NMC_NET_LEN];
+    size_t right = (size_t)plain->chain * NMC_SAMPLE_LEN, len = right;
+    memcpy(list, samples, sizeof samples);
+    for (unsigned i = 0; i < IMPLEMENTATIONS; i++)
+        memcpy(before[i], implementations[i].network, implementations[i].network_len);
+    for (uint32_t times = below(4); times > 0; times--)
+        spoil_sample(list);
+    if (percent(30))
+        len = percent(50) ? below((uint32_t)right) : right + 1 + below(2 * NMC_SAMPLE_LEN);
+    if (tick_with(list, len) == NMC_DONE) {
+        memories_of_all();
+        return;
+    }
+    for (unsigned i = 0; i < IMPLEMENTATIONS; i++)
+        need_alone(memcmp(before[i], implementations[i].network, implementations[i].network_len) == 0,
+                   "a refused tick changed the network", i);
 }
 
 /* All addressed, powered and tuned, so that what follows can move. */
@@ -440,7 +503,7 @@ static void bring_up(void)
     for (uint32_t place = 0; place < plain->chain; place++) {
         uint8_t addresses[2] = {(uint8_t)(place + 1), percent(50) ? 0x7F : 0xFF};
         if (plain->modules[place].type == NMC_TYPE_SERVO)
-            servo_sample_at_all(place, (uint32_t)throw_dice(), 1, 0);
+            nmc_put_servo_sample(samples, place, (uint32_t)throw_dice(), 1, 0);
         send_command(0, 1, addresses, 2);
     }
     tick_all();
@@ -454,7 +517,7 @@ static void follow(uint32_t ticks)
         for (uint32_t place = 0; place < plain->chain; place++) {
             const struct plain_servo *s = &plain->modules[place].as.servo;
             if (plain->modules[place].type == NMC_TYPE_SERVO && s->mode >= PLAIN_HOLDING)
-                servo_sample_at_all(place, s->setpoint + s->offset + below(3), 1, 0);
+                nmc_put_servo_sample(samples, place, s->setpoint + s->offset + below(3), 1, 0);
         }
         tick_all();
         send_command(0xFF, 14, NULL, 0);
@@ -490,8 +553,10 @@ static void take_step(void)
     uint8_t byte = some_byte();
     if (kind < 45)
         send_some_frame();
+    else if (kind < 63)
+        measure();
     else if (kind < 65)
-        some_sample();
+        try_spoiled_list();
     else if (kind < 85)
         tick_all();
     else if (kind < 87)
@@ -508,72 +573,66 @@ static void take_step(void)
 
 /* ---- records, spoiled or not, as docs/RECORD.md lays them out */
 
-static struct plain_io_sample io_sample_in(const uint8_t *s)
-{
-    return (struct plain_io_sample){
-        .inputs = (uint16_t)number_at(s, 0, 2), .ad = {s[2], s[3], s[4]}, .counter = number_at(s, 5, 4)};
-}
-
 static struct plain_io io_in(const uint8_t *s)
 {
-    return (struct plain_io){.waiting = io_sample_in(s + 8),
-                             .latched = io_sample_in(s + 17),
-                             .direction = (uint16_t)number_at(s, 26, 2),
-                             .output = (uint16_t)number_at(s, 28, 2),
-                             .pwm = {s[30], s[31]},
-                             .synch_output = (uint16_t)number_at(s, 32, 2),
-                             .synch_pwm = {s[34], s[35]},
-                             .timer_mode = s[36],
-                             .captured_inputs = (uint16_t)number_at(s, 37, 2),
-                             .captured_counter = number_at(s, 39, 4)};
+    return (struct plain_io){.latched = {.inputs = (uint16_t)number_at(s, 8, 2),
+                                         .ad = {s[10], s[11], s[12]},
+                                         .counter = number_at(s, 13, 4)},
+                             .direction = (uint16_t)number_at(s, 17, 2),
+                             .output = (uint16_t)number_at(s, 19, 2),
+                             .pwm = {s[21], s[22]},
+                             .synch_output = (uint16_t)number_at(s, 23, 2),
+                             .synch_pwm = {s[25], s[26]},
+                             .timer_mode = s[27],
+                             .captured_inputs = (uint16_t)number_at(s, 28, 2),
+                             .captured_counter = number_at(s, 30, 4)};
 }
 
 static struct plain_gains gains_in(const uint8_t *s)
 {
-    return (struct plain_gains){.kp = (uint16_t)number_at(s, 28, 2),
-                                .kd = (uint16_t)number_at(s, 30, 2),
-                                .ki = (uint16_t)number_at(s, 32, 2),
-                                .il = (uint16_t)number_at(s, 34, 2),
-                                .ol = s[36],
-                                .el = (uint16_t)number_at(s, 37, 2),
-                                .cl = s[39],
-                                .sm = s[40]};
+    return (struct plain_gains){.kp = (uint16_t)number_at(s, 22, 2),
+                                .kd = (uint16_t)number_at(s, 24, 2),
+                                .ki = (uint16_t)number_at(s, 26, 2),
+                                .il = (uint16_t)number_at(s, 28, 2),
+                                .ol = s[30],
+                                .el = (uint16_t)number_at(s, 31, 2),
+                                .cl = s[33],
+                                .sm = s[34]};
 }
 
 static struct plain_load load_in(const uint8_t *s)
 {
-    return (struct plain_load){.waits = s[51],
-                               .way = s[52],
-                               .has_position = s[53],
-                               .position = number_at(s, 54, 4),
-                               .has_pwm = s[58],
-                               .pwm = s[59],
-                               .reverse = s[60]};
+    return (struct plain_load){.waits = s[45],
+                               .way = s[46],
+                               .has_position = s[47],
+                               .position = number_at(s, 48, 4),
+                               .has_pwm = s[52],
+                               .pwm = s[53],
+                               .reverse = s[54]};
 }
 
 static struct plain_servo servo_in(const uint8_t *s)
 {
-    return (struct plain_servo){.waiting = {number_at(s, 8, 4), s[12], s[13]},
-                                .latched = {number_at(s, 14, 4), s[18], s[19]},
-                                .offset = number_at(s, 20, 4),
-                                .last_position = number_at(s, 24, 4),
+    return (struct plain_servo){.latched = {.power = s[8], .ad = s[9], .raw = number_at(s, 10, 4)},
+                                .offset = number_at(s, 14, 4),
+                                .last_position = number_at(s, 18, 4),
                                 .gains = gains_in(s),
-                                .rates = {number_at(s, 41, 4), number_at(s, 45, 4), s[49], s[50]},
+                                .rates = {number_at(s, 35, 4), number_at(s, 39, 4), s[43], s[44]},
                                 .load = load_in(s),
-                                .fraction = (uint16_t)number_at(s, 61, 2),
-                                .setpoint = number_at(s, 63, 4),
-                                .speed = (int32_t)number_at(s, 67, 4),
-                                .goal = number_at(s, 71, 4),
-                                .goal_speed = (int32_t)number_at(s, 75, 4),
-                                .acceleration = number_at(s, 79, 4),
-                                .top_speed = number_at(s, 83, 4),
+                                .fraction = (uint16_t)number_at(s, 55, 2),
+                                .setpoint = number_at(s, 57, 4),
+                                .speed = (int32_t)number_at(s, 61, 4),
+                                .goal = number_at(s, 65, 4),
+                                .goal_speed = (int32_t)number_at(s, 69, 4),
+                                .acceleration = number_at(s, 73, 4),
+                                .top_speed = number_at(s, 77, 4),
                                 .integral = (int32_t)number_at(s, INTEGRAL_AT, 4),
                                 .previous_error = (int32_t)number_at(s, PREVIOUS_AT, 4),
-                                .mode = s[95],
-                                .pwm = (int32_t)number_at(s, 96, 4),
-                                .output = (int32_t)number_at(s, 100, 4),
-                                .error = s[104],
-                                .amplifier = s[105],
+                                .mode = s[89],
+                                .pwm = (int32_t)number_at(s, 90, 4),
+                                .output = (int32_t)number_at(s, 94, 4),
+                                .error = s[98],
+                                .amplifier = s[99],
                                 .cut = s[CUT_AT]};
 }
 
@@ -599,41 +658,43 @@ static void network_in(const uint8_t *r, struct plain_network *net)
 }
 
 /* A servo that holds, from the one end of the error's range to the other at the highest gains: u is then past 32 bits. */
-static void swing(uint8_t *slot)
+static void swing(uint32_t place, uint8_t *slot)
 {
     uint32_t sign = percent(50) ? 1 : 0 - UINT32_C(1);
     if (slot[0] != NMC_TYPE_SERVO)
         return;
-    memcpy(slot + 28, "\xFF\x7F\xFF\x7F\xFF\x7F\xFF\x7F\xFF\xFF\x3F", 11);
-    put32(slot + 8, number_at(slot, 20, 4) + number_at(slot, 63, 4) - sign * (16383 - below(3)));
-    put32(slot + 67, 0);
-    put32(slot + 87, sign * (32767 - below(3)));
-    put32(slot + 91, 0 - sign * (16383 - below(3)));
-    put32(slot + 96, 0);
-    slot[12] = slot[18] = 1;
-    slot[95] = PLAIN_HOLDING;
-    slot[104] = 0;
+    memcpy(slot + 22, "\xFF\x7F\xFF\x7F\xFF\x7F\xFF\x7F\xFF\xFF\x3F", 11);
+    uint32_t raw = number_at(slot, 14, 4) + number_at(slot, 57, 4) - sign * (16383 - below(3));
+    nmc_put_servo_sample(samples, place, raw, 1, 0);
+    put32(slot + 61, 0);
+    put32(slot + INTEGRAL_AT, sign * (32767 - below(3)));
+    put32(slot + PREVIOUS_AT, 0 - sign * (16383 - below(3)));
+    put32(slot + 90, 0);
+    slot[LATCHED_AT] = 1;
+    slot[89] = PLAIN_HOLDING;
+    slot[98] = 0;
 }
 
 /* A byte or a number of the record put to an edge of what the list asks, or next to what it was. */
 static void spoil_record(void)
 {
-    static const uint8_t words[] = {41, 45, 61, 63, 67, 71, 75, 79, 83, 87, 91, 96, 100};
+    static const uint8_t words[] = {35, 39, 55, 57, 61, 65, 69, 73, 77, 81, 85, 90, 94};
     static const uint32_t edges[] = {0, 1, 255, 256, 16383, 16384, 32767, 32768, FASTEST, FASTEST + 1};
-    uint8_t *slot = record + SLOTS_AT + SLOT_LEN * below(plain->chain);
+    uint32_t place = below(plain->chain);
+    uint8_t *slot = record + SLOTS_AT + SLOT_LEN * place;
     uint32_t kind = below(13);
     if (kind == 12) {
         slot[CUT_AT] = (uint8_t)(1 + percent(10));
     } else if (kind == 11) {
-        put32(slot + 71, number_at(slot, 63, 4) + UINT32_C(0x7FFFFFFF) + below(3));
+        put32(slot + 65, number_at(slot, 57, 4) + UINT32_C(0x7FFFFFFF) + below(3));
     } else if (kind == 10) {
-        swing(slot);
+        swing(place, slot);
     } else if (kind < 2) {
         uint8_t byte = some_byte();
         record[below(SLOTS_AT)] = byte;
     } else if (kind < 6) {
         uint8_t byte = percent(50) ? (uint8_t)below(7) : some_byte();
-        slot[below(107)] = byte;
+        slot[below(SERVO_LEN)] = byte;
     } else {
         int at = words[below(sizeof words)];
         uint32_t edge = edges[below(10)];
@@ -641,13 +702,26 @@ static void spoil_record(void)
     }
 }
 
+/* A module that has become one of the other type, or new, has measured nothing. */
+static void list_for_spoiled(void)
+{
+    for (int place = 0; place < plain->chain; place++) {
+        uint8_t *sample = samples + NMC_SAMPLE_LEN * place;
+        if (sample[0] == plain->modules[place].type)
+            continue;
+        memset(sample, 0, NMC_SAMPLE_LEN);
+        sample[0] = plain->modules[place].type;
+    }
+}
+
 /* The list on a record that was spoiled, and a tick and a reply where it still passes; then all as it was. */
 static void try_spoiled(void)
 {
-    static uint8_t old_record[NMC_NET_LEN];
+    static uint8_t old_record[NMC_NET_LEN], old_samples[sizeof samples];
     static struct plain_network old_plain, old_checked;
     uint8_t outputs[NMC_OUTPUTS_LEN];
     memcpy(old_record, record, sizeof old_record);
+    memcpy(old_samples, samples, sizeof old_samples);
     old_plain = *plain;
     old_checked = *checked;
     for (uint32_t times = 1 + below(2); times > 0; times--)
@@ -657,8 +731,11 @@ static void try_spoiled(void)
     spoiled++;
     uint32_t number = implementations[LIBRARY].outputs(0, outputs);
     need(implementations[CHECKED_C].outputs(0, outputs) == number, "refusal of a spoiled record", CHECKED_C);
+    uint32_t tick = implementations[LIBRARY].tick(samples, 0);
+    need(implementations[CHECKED_C].tick(samples, 0) == tick, "refusal of no list with a spoiled record", CHECKED_C);
     refused += number == NMC_BAD_RECORD;
     if (number != NMC_BAD_RECORD) {
+        list_for_spoiled();
         tick_all();
         for (uint32_t place = 0; place < plain->chain; place++)
             outputs_of_all(place);
@@ -667,6 +744,7 @@ static void try_spoiled(void)
         send_some_frame();
     }
     memcpy(record, old_record, sizeof old_record);
+    memcpy(samples, old_samples, sizeof old_samples);
     *plain = old_plain;
     *checked = old_checked;
 }
@@ -677,8 +755,9 @@ static void run_history(void)
     static const uint8_t servos[] = {0, 50, 70, 100};
     uint32_t chain = percent(10) ? NMC_MOST_MODULES : 1 + below(6);
     uint32_t share = servos[below(4)];
+    memset(samples, 0, sizeof samples);
     for (uint32_t i = 0; i < chain; i++)
-        types[i] = percent(share) ? NMC_TYPE_SERVO : NMC_TYPE_IO;
+        samples[i * NMC_SAMPLE_LEN] = types[i] = percent(share) ? NMC_TYPE_SERVO : NMC_TYPE_IO;
     for (unsigned i = 0; i < IMPLEMENTATIONS; i++)
         need(implementations[i].setup(types, chain) == NMC_DONE, "setup's number", i);
     if (percent(90))
@@ -716,14 +795,22 @@ int main(void)
             printf("cause %u came up %lu times only\n", cause, frames_with[cause]);
             return 1;
         }
+    static const uint32_t numbers[] = {NMC_DONE, NMC_BAD_LIST, NMC_BAD_PLACE, NMC_BAD_FIELD};
+    for (unsigned i = 0; i < sizeof numbers / sizeof *numbers; i++)
+        if (ticks_with[numbers[i]] < LEAST_TIMES) {
+            printf("ticks with number %u: %lu times only\n", (unsigned)numbers[i], ticks_with[numbers[i]]);
+            return 1;
+        }
     for (unsigned way = 0; way < WAYS_AT_LIMIT; way++)
         if (times_at_limit[way] < LEAST_TIMES) {
             printf("%s: %lu times only\n", ways_at_limit[way], times_at_limit[way]);
             return 1;
         }
     printf("%lu calls, %lu frames ended, by cause %lu %lu %lu %lu %lu %lu, %lu ticks of a moving servo, %lu cut; "
+           "%lu lists refused for their length, %lu for a type, %lu for a field; "
            "%lu spoiled records, %lu refused: all the same\n",
            calls, frames, frames_with[0], frames_with[1], frames_with[2], frames_with[3], frames_with[4],
-           frames_with[5], moving_ticks, times_at_limit[CUT], spoiled, refused);
+           frames_with[5], moving_ticks, times_at_limit[CUT], ticks_with[NMC_BAD_LIST], ticks_with[NMC_BAD_PLACE],
+           ticks_with[NMC_BAD_FIELD], spoiled, refused);
     return 0;
 }

@@ -15,20 +15,9 @@ static uint32_t library_byte(uint32_t mark, uint8_t byte, uint8_t *room, size_t 
     return nmc_byte(record, sizeof record, mark, byte, room, room_len, written);
 }
 
-static uint32_t library_servo_sample(uint32_t place, uint32_t raw, uint32_t power, uint8_t ad)
+static uint32_t library_tick(const uint8_t *samples, size_t samples_len)
 {
-    return nmc_servo_sample(record, sizeof record, place, raw, power, ad);
-}
-
-static uint32_t library_io_sample(uint32_t place, uint32_t inputs, uint8_t ad1, uint8_t ad2, uint8_t ad3,
-                                  uint32_t counter)
-{
-    return nmc_io_sample(record, sizeof record, place, inputs, ad1, ad2, ad3, counter);
-}
-
-static uint32_t library_tick(void)
-{
-    return nmc_tick(record, sizeof record);
+    return nmc_tick(record, sizeof record, samples, samples_len);
 }
 
 static uint32_t library_outputs(uint32_t place, uint8_t *outputs)
@@ -47,19 +36,9 @@ static uint32_t library_outputs(uint32_t place, uint8_t *outputs)
     {                                                                                              \
         return BUILD##_byte(&NET, mark, byte, room, room_len, written);                            \
     }                                                                                              \
-    static uint32_t BUILD##_servo_sample_it(uint32_t place, uint32_t raw, uint32_t power,          \
-                                            uint8_t ad)                                            \
+    static uint32_t BUILD##_tick_it(const uint8_t *samples, size_t samples_len)                    \
     {                                                                                              \
-        return BUILD##_servo_sample(&NET, place, raw, power, ad);                                  \
-    }                                                                                              \
-    static uint32_t BUILD##_io_sample_it(uint32_t place, uint32_t inputs, uint8_t ad1, uint8_t ad2, \
-                                         uint8_t ad3, uint32_t counter)                            \
-    {                                                                                              \
-        return BUILD##_io_sample(&NET, place, inputs, ad1, ad2, ad3, counter);                     \
-    }                                                                                              \
-    static uint32_t BUILD##_tick_it(void)                                                          \
-    {                                                                                              \
-        return BUILD##_tick(&NET);                                                                 \
+        return BUILD##_tick(&NET, samples, samples_len);                                           \
     }                                                                                              \
     static uint32_t BUILD##_outputs_it(uint32_t place, uint8_t *outputs)                           \
     {                                                                                              \
@@ -70,12 +49,10 @@ ON_STRUCTS(plain, plain_net)
 ON_STRUCTS(checked, checked_net)
 
 const struct implementation implementations[IMPLEMENTATIONS] = {
-    {"library", "nmc_", library_setup, library_byte, library_servo_sample, library_io_sample, library_tick,
-     library_outputs, nmc_write_frame, nmc_read_status, record, sizeof record, 19},
-    {"plain C", "plain_", plain_setup_it, plain_byte_it, plain_servo_sample_it, plain_io_sample_it,
-     plain_tick_it, plain_outputs_it, plain_write_frame, plain_read_status, &plain_net, sizeof plain_net,
-     sizeof plain_net.receiver},
-    {"C with checks", "checked_", checked_setup_it, checked_byte_it, checked_servo_sample_it,
-     checked_io_sample_it, checked_tick_it, checked_outputs_it, checked_write_frame, checked_read_status,
-     &checked_net, sizeof checked_net, sizeof checked_net.receiver},
+    {"library", "nmc_", library_setup, library_byte, library_tick, library_outputs, nmc_write_frame,
+     nmc_read_status, record, sizeof record, 19},
+    {"plain C", "plain_", plain_setup_it, plain_byte_it, plain_tick_it, plain_outputs_it, plain_write_frame,
+     plain_read_status, &plain_net, sizeof plain_net, sizeof plain_net.receiver},
+    {"C with checks", "checked_", checked_setup_it, checked_byte_it, checked_tick_it, checked_outputs_it,
+     checked_write_frame, checked_read_status, &checked_net, sizeof checked_net, sizeof checked_net.receiver},
 };

@@ -11,10 +11,7 @@ struct implementation {
     const char *prefix; /* of its calls' symbols */
     uint32_t (*setup)(const uint8_t *types, size_t chain);
     uint32_t (*byte)(uint32_t mark, uint8_t byte, uint8_t *room, size_t room_len, size_t *written);
-    uint32_t (*servo_sample)(uint32_t place, uint32_t raw, uint32_t power, uint8_t ad);
-    uint32_t (*io_sample)(uint32_t place, uint32_t inputs, uint8_t ad1, uint8_t ad2, uint8_t ad3,
-                          uint32_t counter);
-    uint32_t (*tick)(void);
+    uint32_t (*tick)(const uint8_t *samples, size_t samples_len);
     uint32_t (*outputs)(uint32_t place, uint8_t *outputs);
     uint32_t (*write_frame)(uint32_t address, uint32_t code, const uint8_t *data, size_t data_len,
                             uint8_t *room, size_t room_len, size_t *written);

@@ -129,17 +129,30 @@ static void send(const char *words, uint8_t address, enum code code, const uint8
 
 /* ------------------------------------------------------------- the board's pins */
 
-static void sample(uint32_t place, uint32_t inputs, uint8_t ad1, uint8_t ad2, uint8_t ad3, uint32_t counter)
+/* What the board's ports, converters and counters hold for each place. */
+struct pins {
+    uint32_t inputs;
+    uint8_t ad1, ad2, ad3;
+    uint32_t counter;
+};
+static struct pins pins[MODULES];
+
+static void measure(uint32_t place, uint32_t inputs, uint8_t ad1, uint8_t ad2, uint8_t ad3, uint32_t counter)
 {
-    check(nmc_io_sample(net, sizeof net, place, inputs, ad1, ad2, ad3, counter) == NMC_DONE,
-          "a sample was refused");
+    pins[place] = (struct pins){inputs, ad1, ad2, ad3, counter};
     printf("  board measures at place %lu: inputs 0x%03lX, A/D %02X %02X %02X, counter 0x%lX\n",
            (unsigned long)place, (unsigned long)inputs, ad1, ad2, ad3, (unsigned long)counter);
 }
 
+/* What the board's timer interrupt does, at the control rate: a sample of every place, and the tick. */
 static void tick(void)
 {
-    check(nmc_tick(net, sizeof net) == NMC_DONE, "a tick was refused");
+    uint8_t samples[MODULES * NMC_SAMPLE_LEN];
+    for (size_t place = 0; place < MODULES; place++) {
+        const struct pins *p = &pins[place];
+        nmc_put_io_sample(samples, place, p->inputs, p->ad1, p->ad2, p->ad3, p->counter);
+    }
+    check(nmc_tick(net, sizeof net, samples, sizeof samples) == NMC_DONE, "a tick was refused");
     printf("  board ticks\n");
 }
 
@@ -214,7 +227,7 @@ static void directions_and_outputs(void)
     expect_driven(2, 0x000, 0x000, 0, 0);
 
     printf("\nOutputs read what they are set to, inputs what the last tick brought.\n");
-    sample(0, 0x3FF, 0x10, 0x11, 0x12, 0x1000);
+    measure(0, 0x3FF, 0x10, 0x11, 0x12, 0x1000);
     SEND("Read Status, before the tick", 1, READ_STATUS, ITEM_INPUTS, ITEM_INPUTS);
     expect("inputs", 0, 0x0A5);
     tick();
@@ -234,12 +247,12 @@ static void both_at_once(void)
     expect_driven(1, 0xFFF, 0xF0F, 3, 4);
 
     printf("\nBoth capture inputs and counter with one frame. Later ticks leave the captures.\n");
-    sample(0, 0x800, 0x20, 0x21, 0x22, 0x2000);
-    sample(1, 0x123, 0x30, 0x31, 0x32, 0x3000);
+    measure(0, 0x800, 0x20, 0x21, 0x22, 0x2000);
+    measure(1, 0x123, 0x30, 0x31, 0x32, 0x3000);
     tick();
     send("Synch Input", 0x81, SYNCH_INPUT, none, 0, 0);
-    sample(0, 0x000, 0x40, 0x41, 0x42, 0x2001);
-    sample(1, 0x000, 0x50, 0x51, 0x52, 0x3001);
+    measure(0, 0x000, 0x40, 0x41, 0x42, 0x2001);
+    measure(1, 0x000, 0x50, 0x51, 0x52, 0x3001);
     tick();
     SEND("Read Status", 1, READ_STATUS, ITEMS_CAPTURED, ITEMS_CAPTURED);
     expect("captured inputs", 6, 0x80F);

@@ -96,10 +96,11 @@ static void start(void)
 static void tick(enum power power, int motors)
 {
     static const char *const names[] = {"low", "good", "high"};
+    uint8_t samples[DRIVES * NMC_SAMPLE_LEN];
     int driven = 0;
     for (uint32_t place = 0; place < DRIVES; place++)
-        check(nmc_servo_sample(net, sizeof net, place, motor_at[place], power, 0) == NMC_DONE, "sample");
-    check(nmc_tick(net, sizeof net) == NMC_DONE, "tick");
+        nmc_put_servo_sample(samples, place, motor_at[place], power, 0);
+    check(nmc_tick(net, sizeof net, samples, sizeof samples) == NMC_DONE, "tick");
     printf("%4u  %-4s  ", ++ticks, names[power]);
     for (uint32_t place = 0; place < DRIVES; place++) {
         uint8_t outputs[NMC_OUTPUTS_LEN];

@@ -9,25 +9,32 @@
 
 enum { TOO_MANY = NMC_MOST_MODULES + 1 };
 
+/* A tick's list for three modules. */
+enum { CHAIN = 3, LIST_LEN = CHAIN * NMC_SAMPLE_LEN };
+
 /* Places in the record (docs/RECORD.md); a board needs none of them, here they are spoiled. */
 enum { COUNT_AT = 19, SLOTS_AT = 20, SLOT_LEN = (NMC_NET_LEN - SLOTS_AT) / NMC_MOST_MODULES };
 
 static uint8_t net[NMC_NET_LEN], net_before[NMC_NET_LEN];
 static uint8_t room[NMC_ROOM_LEN], room_before[NMC_ROOM_LEN];
+static uint8_t samples[LIST_LEN + NMC_SAMPLE_LEN], samples_before[sizeof samples];
 static uint8_t outputs[NMC_OUTPUTS_LEN], outputs_before[NMC_OUTPUTS_LEN];
 static uint8_t reading[NMC_READING_LEN], cause;
 static uint8_t types[TOO_MANY];
 static size_t written;
 static int surprises;
 
-/* A sound network of I/O modules with a servo at place 1, and something in everything that is lent. */
+/* A sound network of I/O modules with a servo at place 1, a sound list, and something in all else that is lent. */
 static void prepare(void)
 {
     memset(net, 0x5A, sizeof net);
     memset(types, NMC_TYPE_IO, sizeof types);
     types[1] = NMC_TYPE_SERVO;
-    if (nmc_setup(net, sizeof net, types, 3) != NMC_DONE)
+    if (nmc_setup(net, sizeof net, types, CHAIN) != NMC_DONE)
         surprises++;
+    for (size_t place = 0; place <= CHAIN; place++)
+        nmc_put_io_sample(samples, place, 4095, 1, 2, 3, 4);
+    nmc_put_servo_sample(samples, 1, 5, 2, 6);
     memset(room, 0xC3, sizeof room);
     memset(outputs, 0x3C, sizeof outputs);
 }
@@ -36,6 +43,7 @@ static void remember(void)
 {
     memcpy(net_before, net, sizeof net);
     memcpy(room_before, room, sizeof room);
+    memcpy(samples_before, samples, sizeof samples);
     memcpy(outputs_before, outputs, sizeof outputs);
     memset(reading, 0x99, sizeof reading);
     cause = 77;
@@ -59,6 +67,8 @@ static void refused(const char *words, uint32_t number, uint32_t given)
         verdict = "  surprise: the record changed";
     else if (memcmp(room, room_before, sizeof room) != 0)
         verdict = "  surprise: the room changed";
+    else if (memcmp(samples, samples_before, sizeof samples) != 0)
+        verdict = "  surprise: the list changed";
     else if (memcmp(outputs, outputs_before, sizeof outputs) != 0)
         verdict = "  surprise: the outputs changed";
     else if (cause != 77)
@@ -85,13 +95,14 @@ static void cleared(int holds)
 
 static void record(void)
 {
-    REFUSED("record one byte short", NMC_BAD_RECORD, nmc_tick(net, NMC_NET_LEN - 1));
+    REFUSED("record one byte short", NMC_BAD_RECORD,
+            nmc_tick(net, NMC_NET_LEN - 1, samples, LIST_LEN));
     REFUSED("setup of a record one byte short", NMC_BAD_RECORD,
             nmc_setup(net, NMC_NET_LEN - 1, types, 3));
     prepare();
     net[COUNT_AT] = 33; /* number of modules */
     remember();
-    refused("record with 33 modules", NMC_BAD_RECORD, nmc_tick(net, sizeof net));
+    refused("record with 33 modules", NMC_BAD_RECORD, nmc_tick(net, sizeof net, samples, LIST_LEN));
     prepare();
     net[SLOTS_AT] = 1; /* type of place 0 */
     remember();
@@ -99,9 +110,10 @@ static void record(void)
             nmc_byte(net, sizeof net, 0, 0xAA, room, sizeof room, &written));
     cleared(written == 0);
     prepare();
-    net[SLOTS_AT + SLOT_LEN + 100] = 1; /* motor output of the servo, which is off */
+    net[SLOTS_AT + SLOT_LEN + 94] = 1; /* motor output of the servo, which is off */
     remember();
-    refused("record that drives a motor in off", NMC_BAD_RECORD, nmc_tick(net, sizeof net));
+    refused("record that drives a motor in off", NMC_BAD_RECORD,
+            nmc_tick(net, sizeof net, samples, LIST_LEN));
 }
 
 static void setup(void)
@@ -114,22 +126,48 @@ static void setup(void)
     refused("third module of type 1", NMC_BAD_TYPE, nmc_setup(net, sizeof net, types, 3));
 }
 
+/* A tick with the list as it has been changed. */
+static void tick_refused(const char *words, uint32_t number)
+{
+    remember();
+    refused(words, number, nmc_tick(net, sizeof net, samples, LIST_LEN));
+}
+
+static void lists(void)
+{
+    REFUSED("empty list", NMC_BAD_LIST, nmc_tick(net, sizeof net, samples, 0));
+    REFUSED("list of two samples for three modules", NMC_BAD_LIST,
+            nmc_tick(net, sizeof net, samples, LIST_LEN - NMC_SAMPLE_LEN));
+    REFUSED("list one byte short", NMC_BAD_LIST, nmc_tick(net, sizeof net, samples, LIST_LEN - 1));
+    REFUSED("list one byte long", NMC_BAD_LIST, nmc_tick(net, sizeof net, samples, LIST_LEN + 1));
+    REFUSED("list of four samples for three modules", NMC_BAD_LIST,
+            nmc_tick(net, sizeof net, samples, LIST_LEN + NMC_SAMPLE_LEN));
+    prepare();
+    nmc_put_servo_sample(samples, 0, 0, 1, 0);
+    tick_refused("servo sample for an I/O module", NMC_BAD_PLACE);
+    prepare();
+    nmc_put_io_sample(samples, 1, 0, 0, 0, 0, 0);
+    tick_refused("I/O sample for a servo", NMC_BAD_PLACE);
+    prepare();
+    samples[2 * NMC_SAMPLE_LEN] = 7;
+    tick_refused("sample of type 7", NMC_BAD_PLACE);
+    prepare();
+    nmc_put_io_sample(samples, 2, 4096, 0, 0, 0, 0);
+    tick_refused("inputs 4096", NMC_BAD_FIELD);
+    prepare();
+    nmc_put_servo_sample(samples, 1, 0, 3, 0);
+    tick_refused("power 3", NMC_BAD_FIELD);
+    prepare();
+    nmc_put_servo_sample(samples, 1, 0, 256 + 1, 0);
+    tick_refused("power 257, which is put as 255", NMC_BAD_FIELD);
+}
+
 static void line_and_pins(void)
 {
-    REFUSED("sample for place 3 of three modules", NMC_BAD_PLACE,
-            nmc_io_sample(net, sizeof net, 3, 0, 0, 0, 0, 0));
-    REFUSED("servo sample for place 3 of three modules", NMC_BAD_PLACE,
-            nmc_servo_sample(net, sizeof net, 3, 0, 1, 0));
-    REFUSED("servo sample for an I/O module", NMC_BAD_PLACE,
-            nmc_servo_sample(net, sizeof net, 0, 0, 1, 0));
-    REFUSED("I/O sample for a servo", NMC_BAD_PLACE,
-            nmc_io_sample(net, sizeof net, 1, 0, 0, 0, 0, 0));
     REFUSED("outputs of place 3 of three modules", NMC_BAD_PLACE,
             nmc_outputs(net, sizeof net, 3, outputs));
     REFUSED("cause of place 3 of three modules", NMC_BAD_PLACE,
             nmc_cause(net, sizeof net, 3, &cause));
-    REFUSED("inputs 4096", NMC_BAD_FIELD, nmc_io_sample(net, sizeof net, 0, 4096, 0, 0, 0, 0));
-    REFUSED("power 3", NMC_BAD_FIELD, nmc_servo_sample(net, sizeof net, 1, 0, 3, 0));
     REFUSED("mark 2", NMC_BAD_FIELD,
             nmc_byte(net, sizeof net, 2, 0xAA, room, sizeof room, &written));
     cleared(written == 0);
@@ -177,9 +215,19 @@ static void two_reasons(void)
     REFUSED("mark 2 and no room", NMC_BAD_FIELD,
             nmc_byte(net, sizeof net, 2, 0xAA, room, 0, &written));
     cleared(written == 0);
-    REFUSED("place 3 and inputs 4096", NMC_BAD_PLACE,
-            nmc_io_sample(net, sizeof net, 3, 4096, 0, 0, 0, 0));
-    REFUSED("I/O module and power 3", NMC_BAD_PLACE, nmc_servo_sample(net, sizeof net, 0, 0, 3, 0));
+    prepare();
+    net[COUNT_AT] = 0;
+    remember();
+    refused("spoiled record and an empty list", NMC_BAD_RECORD, nmc_tick(net, sizeof net, samples, 0));
+    prepare();
+    nmc_put_servo_sample(samples, 0, 0, 1, 0);
+    remember();
+    refused("list one byte short, with a servo sample for an I/O module", NMC_BAD_LIST,
+            nmc_tick(net, sizeof net, samples, LIST_LEN - 1));
+    prepare();
+    nmc_put_io_sample(samples, 0, 4096, 0, 0, 0, 0);
+    nmc_put_servo_sample(samples, 2, 0, 1, 0);
+    tick_refused("inputs 4096 at place 0, and a servo sample for the I/O module at 2", NMC_BAD_PLACE);
     REFUSED("address 256 and no room", NMC_BAD_FRAME,
             nmc_write_frame(256, 14, types, 0, room, 0, &written));
     cleared(written == 0);
@@ -189,6 +237,7 @@ int main(void)
 {
     record();
     setup();
+    lists();
     line_and_pins();
     host();
     two_reasons();

@@ -3,7 +3,7 @@
  *
  * The network lives in a record of NMC_NET_LEN bytes that the board keeps and
  * lends to each call. Set it up once, hand over every line byte as it comes,
- * hand over samples as they are measured, and tick at the control rate.
+ * and tick at the control rate with what every module has measured.
  *
  * Each call gives back one of the numbers below. A refused call (11 and above)
  * leaves everything lent as it was, but for *written, which is then 0, and the
@@ -24,9 +24,9 @@ extern "C" {
 #endif
 
 /* Each landing raises it and says in CHANGELOG.md what is new. */
-#define NMC_VERSION "1.7.0"
+#define NMC_VERSION "1.8.0"
 #define NMC_VERSION_MAJOR 1
-#define NMC_VERSION_MINOR 7
+#define NMC_VERSION_MINOR 8
 #define NMC_VERSION_PATCH 0
 
 #define NMC_MOST_MODULES 32u  /* in one chain */
@@ -34,6 +34,7 @@ extern "C" {
 #define NMC_ROOM_LEN 608u     /* room for all replies that one byte can draw */
 #define NMC_FRAME_LEN 19u     /* the longest frame */
 #define NMC_REPLY_LEN 19u     /* the longest reply of one module */
+#define NMC_SAMPLE_LEN 10u    /* what one module measures, in a tick's list */
 #define NMC_OUTPUTS_LEN 8u    /* what one module drives */
 #define NMC_READING_LEN 33u   /* a reply taken apart */
 
@@ -47,13 +48,14 @@ enum nmc_number {
     NMC_DAMAGED = 2,     /* byte: a damaged frame ended */
     NMC_BAD_CHAIN = 11,  /* setup: not 1 to 32 modules */
     NMC_BAD_TYPE = 12,   /* setup, status reader: no such module type */
-    NMC_BAD_PLACE = 13,  /* no such place, or a sample for another type */
-    NMC_BAD_FIELD = 14,  /* mark not 0 or 1, or a sample out of range */
+    NMC_BAD_PLACE = 13,  /* no such place; tick: a sample of another type */
+    NMC_BAD_FIELD = 14,  /* mark not 0 or 1; tick: a sample out of range */
     NMC_SHORT_ROOM = 15, /* room too short */
     NMC_BAD_RECORD = 16, /* record of another length, or spoiled */
     NMC_BAD_FRAME = 17,  /* writer: address, code or data too large */
     NMC_BAD_LENGTH = 18, /* status reader: not as long as type and items ask */
-    NMC_BAD_SUM = 19     /* status reader: wrong checksum */
+    NMC_BAD_SUM = 19,    /* status reader: wrong checksum */
+    NMC_BAD_LIST = 20    /* tick: not one sample for each module */
 };
 
 /*
@@ -88,25 +90,63 @@ uint32_t nmc_byte(uint8_t *net, size_t net_len, uint32_t mark, uint8_t byte, uin
                   size_t room_len, size_t *written);
 
 /*
- * What a servo measures: the raw count of its encoder, motor power (0 low,
- * 1 good, 2 high) and an A/D byte. It waits for the next tick; until then the
- * servo shows the sample before it.
+ * Puts what the servo at a place measures into a tick's list, which must reach
+ * that far: the raw count of its encoder, motor power (0 low, 1 good, 2 high)
+ * and an A/D byte. A power above 255 is put as 255, so that the tick refuses it
+ * as it does any above 2.
  */
-uint32_t nmc_servo_sample(uint8_t *net, size_t net_len, uint32_t place, uint32_t raw,
-                          uint32_t power, uint8_t ad);
+static inline void nmc_put_servo_sample(uint8_t *samples, size_t place, uint32_t raw,
+                                        uint32_t power, uint8_t ad)
+{
+    uint8_t *at = samples + place * NMC_SAMPLE_LEN;
+    at[0] = NMC_TYPE_SERVO;
+    at[1] = (uint8_t)(power > 255 ? 255 : power);
+    at[2] = ad;
+    at[3] = (uint8_t)raw;
+    at[4] = (uint8_t)(raw >> 8);
+    at[5] = (uint8_t)(raw >> 16);
+    at[6] = (uint8_t)(raw >> 24);
+    at[7] = at[8] = at[9] = 0;
+}
 
 /*
- * What an I/O module measures: twelve input bits (0 to 4095), three A/D bytes
- * and the counter. It waits for the next tick, too.
+ * The same for an I/O module: twelve input bits (0 to 4095), three A/D bytes
+ * and the counter. Inputs above 65535 are put as 65535, so that the tick
+ * refuses them as it does any above 4095.
  */
-uint32_t nmc_io_sample(uint8_t *net, size_t net_len, uint32_t place, uint32_t inputs, uint8_t ad1,
-                       uint8_t ad2, uint8_t ad3, uint32_t counter);
+static inline void nmc_put_io_sample(uint8_t *samples, size_t place, uint32_t inputs, uint8_t ad1,
+                                     uint8_t ad2, uint8_t ad3, uint32_t counter)
+{
+    uint8_t *at = samples + place * NMC_SAMPLE_LEN;
+    uint32_t bits = inputs > 65535 ? 65535 : inputs;
+    at[0] = NMC_TYPE_IO;
+    at[1] = (uint8_t)bits;
+    at[2] = (uint8_t)(bits >> 8);
+    at[3] = ad1;
+    at[4] = ad2;
+    at[5] = ad3;
+    at[6] = (uint8_t)counter;
+    at[7] = (uint8_t)(counter >> 8);
+    at[8] = (uint8_t)(counter >> 16);
+    at[9] = (uint8_t)(counter >> 24);
+}
 
 /*
- * One tick for all modules: waiting samples take effect, and servos move their
- * setpoints and work out their motor outputs.
+ * One tick for all modules: each latches its sample, which it shows until the
+ * next tick, and servos move their setpoints and work out their motor outputs.
+ *
+ * samples has NMC_SAMPLE_LEN bytes for each place, place 0 first, and nothing
+ * besides. The two functions above fill a place's ten: the module's type, then
+ * of a servo power, A/D and the raw count (4 bytes), of an I/O module inputs
+ * (2), A/D 1, 2, 3 and the counter (4), numbers least significant byte first.
+ * Bytes 7 to 9 of a servo's ten are not looked at; let them be 0, since a later
+ * version will give byte 7 a meaning.
+ *
+ * Refused is first a list of another length (20), then one with any type that
+ * is not its module's (13), then one with any power above 2 or inputs above
+ * 4095 (14). A refused tick is none: all keep what they have latched.
  */
-uint32_t nmc_tick(uint8_t *net, size_t net_len);
+uint32_t nmc_tick(uint8_t *net, size_t net_len, const uint8_t *samples, size_t samples_len);
 
 /*
  * What the board is to drive for a module, in NMC_OUTPUTS_LEN bytes. Servo:

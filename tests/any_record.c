@@ -17,7 +17,7 @@
 #include <sys/mman.h>
 #include <unistd.h>
 
-enum { SLOT = 128, FIRST_SLOT = 20, COUNT = 19, NUMBERS = 20 };
+enum { SLOT = 128, FIRST_SLOT = 20, COUNT = 19, NUMBERS = 21 };
 
 static int fenced;
 static unsigned long calls, surprises, given[NUMBERS];
@@ -166,30 +166,48 @@ static void call_byte(struct lent *net, uint8_t byte)
     give_back(&room);
 }
 
-static void call_samples(struct lent *net)
+/* A sample for a module of this type, all of it in range. */
+static void put_sample(uint8_t *samples, size_t place, uint8_t type)
 {
-    uint32_t numbers =
-        BIT(NMC_DONE) | BIT(NMC_BAD_PLACE) | BIT(NMC_BAD_FIELD) | BIT(NMC_BAD_RECORD);
-    uint32_t place = PICK(0, 1, below(34), below(34), 0x80000000u, 0xFFFFFFFFu);
     uint32_t count = (uint32_t)throw_dice();
-    uint32_t power = PICK(0, 1, 1, 2, 3, 0xFFFFFFFFu);
-    uint32_t inputs = PICK(0, below(4096), 4095, 4096, 0xFFFFFFFFu);
-    remember(net);
-    uint32_t number = nmc_servo_sample(net->bytes, net->len, place, count, power, 0x5A);
-    documented("servo sample", number, numbers);
-    record_after("servo sample", net, number);
-    remember(net);
-    number = nmc_io_sample(net->bytes, net->len, place, inputs, 1, 2, 3, count);
-    documented("I/O sample", number, numbers);
-    record_after("I/O sample", net, number);
+    if (type == NMC_TYPE_SERVO) {
+        nmc_put_servo_sample(samples, place, count, PICK(0, 1, 1, 1, 2), 0x5A);
+        any_bytes(samples + place * NMC_SAMPLE_LEN + 7, 3); /* not looked at */
+    } else {
+        nmc_put_io_sample(samples, place, PICK(0, below(4096), 4095), 1, 2, 3, count);
+    }
+}
+
+/* A list for the chain that the record tells of, or nearly. */
+static struct lent lend_list(const struct lent *net)
+{
+    uint32_t chain = net->len > COUNT ? net->bytes[COUNT] : below(34);
+    uint32_t right = chain * NMC_SAMPLE_LEN;
+    uint32_t other = PICK(0, 1, right > 0 ? right - 1 : 0, right + 1, right + 10, below(400));
+    struct lent list = lend(below(6) ? right : other);
+    size_t places = list.len / NMC_SAMPLE_LEN;
+    for (size_t place = 0; place < places; place++) {
+        size_t slot = FIRST_SLOT + SLOT * place;
+        put_sample(list.bytes, place, slot < net->len ? net->bytes[slot] : 0);
+    }
+    for (uint32_t times = places > 0 ? PICK(0, 0, 1, 2) : 0; times > 0; times--)
+        any_bytes(list.bytes + NMC_SAMPLE_LEN * below((uint32_t)places) + below(3), 1);
+    return list;
 }
 
 static void call_tick(struct lent *net)
 {
+    struct lent list = lend_list(net);
     remember(net);
-    uint32_t number = nmc_tick(net->bytes, net->len);
-    documented("tick", number, BIT(NMC_DONE) | BIT(NMC_BAD_RECORD));
+    remember(&list);
+    uint32_t number = nmc_tick(net->bytes, net->len, list.bytes, list.len);
+    documented("tick", number,
+               BIT(NMC_DONE) | BIT(NMC_BAD_PLACE) | BIT(NMC_BAD_FIELD) | BIT(NMC_BAD_RECORD) |
+                   BIT(NMC_BAD_LIST));
     record_after("tick", net, number);
+    if (!unchanged_from(&list, 0))
+        surprise("tick", "the list changed", number);
+    give_back(&list);
 }
 
 /* A call that tells something of a place in so many bytes: outputs and cause are of one kind. */
@@ -255,7 +273,7 @@ static void every_call(struct lent *net)
 {
     call_outputs(net);
     call_tick(net);
-    call_samples(net);
+    call_tick(net);
     call_frame(net);
     call_tick(net);
     call_outputs(net);
@@ -325,8 +343,8 @@ static void put_within(uint8_t *at, uint32_t most, int may_be_negative)
 /* Whatever the slot holds, its fields brought into their ranges: docs/RECORD.md. */
 static void range_servo(uint8_t *slot)
 {
-    static const uint8_t flags[] = {3, 4, 49, 50, 51, 53, 58, 60, 104, 105, 106};
-    static const uint8_t high_bytes[] = {29, 31, 33, 35};
+    static const uint8_t flags[] = {3, 4, 43, 44, 45, 47, 52, 54, 98, 99, 100};
+    static const uint8_t high_bytes[] = {23, 25, 27, 29};
     const uint32_t rate = 83886080u;
     for (size_t i = 0; i < sizeof flags; i++)
         slot[flags[i]] &= 1;
@@ -334,31 +352,30 @@ static void range_servo(uint8_t *slot)
         slot[high_bytes[i]] &= 0x7F;
     slot[0] = NMC_TYPE_SERVO;
     slot[5] &= 3;
-    slot[12] %= 3;
-    slot[18] = (uint8_t)PICK(0, 1, 1, 1, 1, 2);
-    slot[38] &= 0x3F;
-    put_within(slot + 41, rate, 0);
-    put_within(slot + 45, rate - 1, 0);
-    slot[45] |= 1; /* a loaded acceleration is not 0 */
-    slot[52] %= 3;
-    slot[95] = slot[18] == 0 ? 0 : (uint8_t)below(5);
-    put_within(slot + 67, slot[95] >= 3 ? rate : 0, 1);
-    put_within(slot + 75, rate, 1);
-    put_within(slot + 79, rate, 0);
-    put_within(slot + 83, rate, 0);
-    put_within(slot + 87, slot[95] >= 2 ? 32767 : 0, 1);
-    put_within(slot + 91, slot[95] >= 2 ? 16383 : 0, 1);
-    put_within(slot + 96, slot[95] == 1 ? 255 : 0, 1);
-    put_within(slot + 100, slot[95] != 0 && slot[18] == 1 ? 255 : 0, 1);
-    if (slot[95] != 0)
-        slot[104] = 0;
-    if (slot[95] < 2)
-        slot[106] = 0;
+    slot[8] = (uint8_t)PICK(0, 1, 1, 1, 1, 2);
+    slot[32] &= 0x3F;
+    put_within(slot + 35, rate, 0);
+    put_within(slot + 39, rate - 1, 0);
+    slot[39] |= 1; /* a loaded acceleration is not 0 */
+    slot[46] %= 3;
+    slot[89] = slot[8] == 0 ? 0 : (uint8_t)below(5);
+    put_within(slot + 61, slot[89] >= 3 ? rate : 0, 1);
+    put_within(slot + 69, rate, 1);
+    put_within(slot + 73, rate, 0);
+    put_within(slot + 77, rate, 0);
+    put_within(slot + 81, slot[89] >= 2 ? 32767 : 0, 1);
+    put_within(slot + 85, slot[89] >= 2 ? 16383 : 0, 1);
+    put_within(slot + 90, slot[89] == 1 ? 255 : 0, 1);
+    put_within(slot + 94, slot[89] != 0 && slot[8] == 1 ? 255 : 0, 1);
+    if (slot[89] != 0)
+        slot[98] = 0;
+    if (slot[89] < 2)
+        slot[100] = 0;
 }
 
 static void range_io(uint8_t *slot)
 {
-    static const uint8_t high_bytes[] = {9, 18, 27, 29, 33, 38};
+    static const uint8_t high_bytes[] = {9, 18, 20, 24, 29};
     slot[0] = NMC_TYPE_IO;
     slot[3] &= 1;
     slot[4] &= 1;
@@ -391,9 +408,10 @@ static void range_record(struct lent *net)
 static void reach_record(struct lent *net)
 {
     uint8_t types[NMC_MOST_MODULES], frame[NMC_FRAME_LEN], data[15], room[NMC_ROOM_LEN];
+    uint8_t samples[NMC_MOST_MODULES * NMC_SAMPLE_LEN] = {0};
     size_t chain = PICK(1, 2, 3, 32), frame_len, written;
     for (size_t i = 0; i < chain; i++)
-        types[i] = (uint8_t)(2 * below(2));
+        samples[i * NMC_SAMPLE_LEN] = types[i] = (uint8_t)(2 * below(2));
     if (nmc_setup(net->bytes, net->len, types, chain) != NMC_DONE)
         surprise("setup", "of a good chain", NMC_DONE);
     for (int frames = 0; frames < 12; frames++) {
@@ -405,8 +423,10 @@ static void reach_record(struct lent *net)
         nmc_write_frame(address, code, data, below(16), frame, sizeof frame, &frame_len);
         for (size_t i = 0; i < frame_len; i++)
             nmc_byte(net->bytes, net->len, 0, frame[i], room, sizeof room, &written);
-        nmc_servo_sample(net->bytes, net->len, (uint32_t)place, below(100), 1, 0);
-        nmc_tick(net->bytes, net->len);
+        if (types[place] == NMC_TYPE_SERVO)
+            nmc_put_servo_sample(samples, place, below(100), 1, 0);
+        if (nmc_tick(net->bytes, net->len, samples, chain * NMC_SAMPLE_LEN) != NMC_DONE)
+            surprise("tick", "with a good list", NMC_DONE);
     }
 }
 

@@ -19,8 +19,6 @@
 enum call {
     SETUP,
     BYTE,
-    SERVO_SAMPLE,
-    IO_SAMPLE,
     TICK,
     OUTPUTS,
     CAUSE,
@@ -30,8 +28,8 @@ enum call {
 };
 
 static const char *const names[CALLS] = {
-    "nmc_setup",   "nmc_byte",  "nmc_servo_sample", "nmc_io_sample",   "nmc_tick",
-    "nmc_outputs", "nmc_cause", "nmc_write_frame",  "nmc_read_status",
+    "nmc_setup", "nmc_byte",        "nmc_tick",        "nmc_outputs",
+    "nmc_cause", "nmc_write_frame", "nmc_read_status",
 };
 
 /* The numbers that a call may give, as bits. */
@@ -40,10 +38,8 @@ static const uint32_t documented[CALLS] = {
     [SETUP] = BIT(NMC_DONE) | BIT(NMC_BAD_CHAIN) | BIT(NMC_BAD_TYPE) | BIT(NMC_BAD_RECORD),
     [BYTE] = BIT(NMC_DONE) | BIT(NMC_FRAME) | BIT(NMC_DAMAGED) | BIT(NMC_BAD_FIELD) |
              BIT(NMC_SHORT_ROOM) | BIT(NMC_BAD_RECORD),
-    [SERVO_SAMPLE] =
-        BIT(NMC_DONE) | BIT(NMC_BAD_PLACE) | BIT(NMC_BAD_FIELD) | BIT(NMC_BAD_RECORD),
-    [IO_SAMPLE] = BIT(NMC_DONE) | BIT(NMC_BAD_PLACE) | BIT(NMC_BAD_FIELD) | BIT(NMC_BAD_RECORD),
-    [TICK] = BIT(NMC_DONE) | BIT(NMC_BAD_RECORD),
+    [TICK] = BIT(NMC_DONE) | BIT(NMC_BAD_PLACE) | BIT(NMC_BAD_FIELD) | BIT(NMC_BAD_RECORD) |
+             BIT(NMC_BAD_LIST),
     [OUTPUTS] = BIT(NMC_DONE) | BIT(NMC_BAD_PLACE) | BIT(NMC_BAD_RECORD),
     [CAUSE] = BIT(NMC_DONE) | BIT(NMC_BAD_PLACE) | BIT(NMC_BAD_RECORD),
     [WRITE_FRAME] = BIT(NMC_DONE) | BIT(NMC_BAD_FRAME) | BIT(NMC_SHORT_ROOM),
@@ -58,10 +54,11 @@ static uint32_t given[CALLS]; /* the numbers that came, as bits */
 
 /* What the next call is lent and told. */
 static uint8_t net[NMC_NET_LEN + 1], room[NMC_ROOM_LEN], types[NMC_MOST_MODULES + 1], data[16];
+static uint8_t samples[(NMC_MOST_MODULES + 1) * NMC_SAMPLE_LEN];
 static uint8_t outputs[NMC_OUTPUTS_LEN], frame[NMC_FRAME_LEN], reply[NMC_REPLY_LEN + 1];
 static uint8_t reading[NMC_READING_LEN], cause, line_byte, items;
-static size_t net_len, room_len, chain, data_len, frame_room, reply_len, written;
-static uint32_t mark, place, power, inputs, count, address, code, type, number;
+static size_t net_len, room_len, samples_len, chain, data_len, frame_room, reply_len, written;
+static uint32_t mark, place, address, code, type, number;
 
 static enum call wanted;
 
@@ -81,14 +78,8 @@ static void inside(void)
     case BYTE:
         number = nmc_byte(net, net_len, mark, line_byte, room, room_len, &written);
         break;
-    case SERVO_SAMPLE:
-        number = nmc_servo_sample(net, net_len, place, count, power, data[0]);
-        break;
-    case IO_SAMPLE:
-        number = nmc_io_sample(net, net_len, place, inputs, data[0], data[1], data[2], count);
-        break;
     case TICK:
-        number = nmc_tick(net, net_len);
+        number = nmc_tick(net, net_len, samples, samples_len);
         break;
     case OUTPUTS:
         number = nmc_outputs(net, net_len, place, outputs);
@@ -145,6 +136,10 @@ static uint32_t set_up(void)
 {
     net_len = NMC_NET_LEN;
     room_len = NMC_ROOM_LEN;
+    samples_len = chain * NMC_SAMPLE_LEN;
+    memset(samples, 0, sizeof samples);
+    for (size_t i = 0; i < chain && i < NMC_MOST_MODULES; i++)
+        samples[i * NMC_SAMPLE_LEN] = types[i];
     return run(SETUP);
 }
 
@@ -199,24 +194,21 @@ static uint32_t number_at(const uint8_t *at, int bytes)
     return x;
 }
 
+/* A bad sample is left to the tick. */
 static void take_record(int kind, const uint8_t *b)
 {
-    place = b[0];
     switch (kind) {
     case LINE_BYTE:
         take_byte(b[0], b[1]);
         break;
     case OF_SERVO:
-        power = b[1];
-        data[0] = b[2];
-        count = number_at(b + 3, 4);
-        run(SERVO_SAMPLE);
+        if (b[0] < chain)
+            nmc_put_servo_sample(samples, b[0], number_at(b + 3, 4), b[1], b[2]);
         break;
     case OF_IO:
-        inputs = number_at(b + 1, 2);
-        memcpy(data, b + 3, 3);
-        count = number_at(b + 6, 4);
-        run(IO_SAMPLE);
+        if (b[0] < chain)
+            nmc_put_io_sample(samples, b[0], number_at(b + 1, 2), b[3], b[4], b[5],
+                              number_at(b + 6, 4));
         break;
     default:
         run(TICK);
@@ -265,24 +257,25 @@ static void address_all(uint8_t even, uint8_t odd)
     SEND(GROUP, 2, 0xFF); /* every item in every reply */
 }
 
-static void sample_all(uint32_t with_power)
+static void tick_at(uint32_t power)
 {
-    enum { FIRST_SLOT = 20, SLOT = 128, WHOLE_SETPOINT = 63 }; /* docs/RECORD.md */
-    for (place = 0; place < chain; place++) {
+    enum { FIRST_SLOT = 20, SLOT = 128, WHOLE_SETPOINT = 57 }; /* docs/RECORD.md */
+    for (size_t i = 0; i < chain; i++) {
         /* a motor that is where it should be */
-        count = number_at(net + FIRST_SLOT + SLOT * place + WHOLE_SETPOINT, 4);
-        power = with_power;
-        inputs = below(4096);
-        any_bytes(data, 3);
-        run(types[place] == NMC_TYPE_SERVO ? SERVO_SAMPLE : IO_SAMPLE);
+        uint32_t count = number_at(net + FIRST_SLOT + SLOT * i + WHOLE_SETPOINT, 4);
+        uint8_t ad = (uint8_t)below(256);
+        if (types[i] == NMC_TYPE_SERVO)
+            nmc_put_servo_sample(samples, i, count, power, ad);
+        else
+            nmc_put_io_sample(samples, i, below(4096), ad, ad, ad, count);
     }
+    run(TICK);
 }
 
 static void ticks(int how_many)
 {
     while (how_many-- > 0) {
-        sample_all(1);
-        run(TICK);
+        tick_at(1);
         outputs_and_causes();
     }
 }
@@ -334,13 +327,26 @@ static void long_chains(void)
     ticks(20);
     every_frame();
     ticks(2000);
-    for (power = 0; power < 3; power++) { /* it fails, comes back, is too high */
-        sample_all(power);
-        run(TICK);
-    }
+    for (uint32_t power = 0; power < 3; power++) /* it fails, comes back, is too high */
+        tick_at(power);
 }
 
 /* ---------------------------------------------------------------- refusals, writer, reader */
+
+/* A list of every other length, then one with another byte at one place after another. */
+static void refused_lists(void)
+{
+    static uint8_t good[sizeof samples];
+    memcpy(good, samples, sizeof good);
+    for (samples_len = 0; samples_len <= sizeof samples; samples_len++)
+        run(TICK);
+    samples_len = chain * NMC_SAMPLE_LEN;
+    for (size_t at = 0; at < samples_len; at++) {
+        samples[at] = 0xFF;
+        run(TICK);
+        memcpy(samples, good, sizeof good);
+    }
+}
 
 static void refused_calls(void)
 {
@@ -350,13 +356,10 @@ static void refused_calls(void)
     take_byte(0, 0);
     room_len++;
     for (place = 0; place < 34; place++) {
-        power = 1 + place % 3;
-        inputs = place % 3 ? 0 : 4096;
-        run(SERVO_SAMPLE);
-        run(IO_SAMPLE);
         run(OUTPUTS);
         run(CAUSE);
     }
+    refused_lists();
     for (int spoiled = 0; spoiled < 4; spoiled++) {
         static const size_t lengths[] = {0, NMC_NET_LEN - 1, NMC_NET_LEN + 1, NMC_NET_LEN};
         net_len = lengths[spoiled];

@@ -1,4 +1,5 @@
-//! The exported calls as a Rust trait: the library has them through C, the model in `record`.
+//! The exported calls as a Rust trait, and the samples that a tick's list is made of: the library has the calls through
+//! C, the model in `record`.
 
 use crate::record::{SLOTS, SLOT_LEN};
 
@@ -7,6 +8,7 @@ pub const MOST_MODULES: usize = 32;
 pub const REPLY_LEN: usize = 19;
 pub const NET_LEN: usize = SLOTS + MOST_MODULES * SLOT_LEN;
 pub const ROOM_LEN: usize = MOST_MODULES * REPLY_LEN;
+pub const SAMPLE_LEN: usize = 10;
 
 pub const DONE: u32 = 0;
 pub const UNDAMAGED: u32 = 1;
@@ -20,13 +22,32 @@ pub const BAD_RECORD: u32 = 16;
 pub const BAD_FRAME: u32 = 17;
 pub const BAD_LENGTH: u32 = 18;
 pub const BAD_SUM: u32 = 19;
+pub const BAD_LIST: u32 = 20;
+
+/// What one module measures, as it stands in a tick's list.
+pub type Sample = [u8; SAMPLE_LEN];
+
+/// A servo's sample; what it does not use is 0.
+pub fn servo_sample(raw: u32, power: u8, ad: u8) -> Sample {
+    let [raw0, raw1, raw2, raw3] = raw.to_le_bytes();
+    [0, power, ad, raw0, raw1, raw2, raw3, 0, 0, 0]
+}
+
+pub fn io_sample(inputs: u16, ad: [u8; 3], counter: u32) -> Sample {
+    let [low, high] = inputs.to_le_bytes();
+    let [counter0, counter1, counter2, counter3] = counter.to_le_bytes();
+    [2, low, high, ad[0], ad[1], ad[2], counter0, counter1, counter2, counter3]
+}
+
+/// The sample of a module that has measured nothing yet.
+pub fn no_sample(module_type: u8) -> Sample {
+    [module_type, 0, 0, 0, 0, 0, 0, 0, 0, 0]
+}
 
 pub trait Calls {
     fn setup(&self, net: &mut [u8], types: &[u8]) -> u32;
     fn byte(&self, net: &mut [u8], mark: u32, byte: u8, room: &mut [u8], written: &mut usize) -> u32;
-    fn io_sample(&self, net: &mut [u8], place: u32, inputs: u32, ad: [u8; 3], counter: u32) -> u32;
-    fn servo_sample(&self, net: &mut [u8], place: u32, raw: u32, power: u32, ad: u8) -> u32;
-    fn tick(&self, net: &mut [u8]) -> u32;
+    fn tick(&self, net: &mut [u8], samples: &[u8]) -> u32;
     fn outputs(&self, net: &[u8], place: u32, outputs: &mut [u8; 8]) -> u32;
     fn cause(&self, net: &[u8], place: u32, cause: &mut u8) -> u32;
     fn write_frame(&self, address: u32, code: u32, data: &[u8], room: &mut [u8], written: &mut usize) -> u32;

@@ -14,18 +14,7 @@ extern "C" {
         room_len: usize,
         written: *mut usize,
     ) -> u32;
-    fn nmc_io_sample(
-        net: *mut u8,
-        net_len: usize,
-        place: u32,
-        inputs: u32,
-        ad1: u8,
-        ad2: u8,
-        ad3: u8,
-        counter: u32,
-    ) -> u32;
-    fn nmc_servo_sample(net: *mut u8, net_len: usize, place: u32, raw: u32, power: u32, ad: u8) -> u32;
-    fn nmc_tick(net: *mut u8, net_len: usize) -> u32;
+    fn nmc_tick(net: *mut u8, net_len: usize, samples: *const u8, samples_len: usize) -> u32;
     fn nmc_outputs(net: *const u8, net_len: usize, place: u32, outputs: *mut u8) -> u32;
     fn nmc_cause(net: *const u8, net_len: usize, place: u32, cause: *mut u8) -> u32;
     fn nmc_write_frame(
@@ -52,16 +41,8 @@ impl Calls for Library {
         unsafe { nmc_byte(net.as_mut_ptr(), net.len(), mark, byte, room.as_mut_ptr(), room.len(), written) }
     }
 
-    fn io_sample(&self, net: &mut [u8], place: u32, inputs: u32, ad: [u8; 3], counter: u32) -> u32 {
-        unsafe { nmc_io_sample(net.as_mut_ptr(), net.len(), place, inputs, ad[0], ad[1], ad[2], counter) }
-    }
-
-    fn servo_sample(&self, net: &mut [u8], place: u32, raw: u32, power: u32, ad: u8) -> u32 {
-        unsafe { nmc_servo_sample(net.as_mut_ptr(), net.len(), place, raw, power, ad) }
-    }
-
-    fn tick(&self, net: &mut [u8]) -> u32 {
-        unsafe { nmc_tick(net.as_mut_ptr(), net.len()) }
+    fn tick(&self, net: &mut [u8], samples: &[u8]) -> u32 {
+        unsafe { nmc_tick(net.as_mut_ptr(), net.len(), samples.as_ptr(), samples.len()) }
     }
 
     fn outputs(&self, net: &[u8], place: u32, outputs: &mut [u8; 8]) -> u32 {

@@ -117,7 +117,7 @@ pub fn parse(text: &str) -> Result<Capture, String> {
 impl Capture {
     /// Plays the records by these calls, and tells each line of the text by which a module drives something else.
     pub fn driven_otherwise(&self, calls: &dyn Calls) -> Vec<String> {
-        let mut board = Board { calls, types: Vec::new(), net: Vec::new() };
+        let mut board = Board { calls, types: Vec::new(), samples: Vec::new(), net: Vec::new() };
         let mut otherwise = Vec::new();
         let mut played = 0;
         for Drives { line, played: until, place, outputs } in &self.drives {
@@ -144,6 +144,8 @@ impl Capture {
 struct Board<'a> {
     calls: &'a dyn Calls,
     types: Vec<u8>,
+    /// The list of the next tick.
+    samples: Vec<u8>,
     /// Empty until all modules are known.
     net: Vec<u8>,
 }
@@ -163,7 +165,10 @@ impl Board<'_> {
             let (record, length) = Record::first(records)?;
             match record {
                 Record::Module(_) if !self.net.is_empty() => return None,
-                Record::Module(module_type) => self.types.push(module_type),
+                Record::Module(module_type) => {
+                    self.types.push(module_type);
+                    self.samples.extend(no_sample(module_type));
+                }
                 Record::Event(event) => {
                     self.set_up()?;
                     done(self.bring_about(event))?;
@@ -179,14 +184,19 @@ impl Board<'_> {
             Event::LineByte { mark, byte } => {
                 self.calls.byte(&mut self.net, mark.into(), byte, &mut [0; ROOM_LEN], &mut 0)
             }
-            Event::ServoSample { place, power, ad, raw } => {
-                self.calls.servo_sample(&mut self.net, place.into(), raw, power.into(), ad)
-            }
-            Event::IoSample { place, inputs, ad, counter } => {
-                self.calls.io_sample(&mut self.net, place.into(), inputs.into(), ad, counter)
-            }
-            Event::Tick => self.calls.tick(&mut self.net),
+            Event::ServoSample { place, power, ad, raw } => self.gather(place.into(), servo_sample(raw, power, ad)),
+            Event::IoSample { place, inputs, ad, counter } => self.gather(place.into(), io_sample(inputs, ad, counter)),
+            Event::Tick => self.calls.tick(&mut self.net, &self.samples),
         }
+    }
+
+    /// Puts a sample into the list, where a tick would take it.
+    fn gather(&mut self, place: usize, sample: Sample) -> u32 {
+        match self.samples.chunks_exact_mut(SAMPLE_LEN).nth(place) {
+            Some(before) => before.copy_from_slice(&sample),
+            None => return BAD_PLACE,
+        }
+        self.calls.tick(&mut self.net.clone(), &self.samples)
     }
 
     fn drives(&mut self, place: u8) -> Option<[u8; 8]> {

@@ -1,26 +1,26 @@
 //! Histories that the library and the model go through side by side. After every call all that was lent is compared,
-//! byte for byte: the number, the record, the room with what lies behind the replies, and the length; then whether the
-//! record still passes the list, and what the board is to drive.
+//! byte for byte: the number, the record, the room with what lies behind the replies, the length, and the list of samples,
+//! which stays as it was; then whether the record still passes the list, and what the board is to drive.
 
 use std::collections::VecDeque;
 use std::fmt;
 
-use crate::branches;
+use crate::branches::{self, uncounted};
 use crate::calls::*;
 use crate::dice::Dice;
 use crate::model::{frame_bytes, item_sizes, sum, Mode, Module, Network, Servo};
-use crate::record::{self, decode, slot, Model, COUNT};
+use crate::record::{self, decode, latched, slot, Model, COUNT};
 use crate::seen::Seen;
 use crate::slips::Slip;
-use crate::steering::{self, any_record, damaged_record, data_byte, frame, group, individual};
+use crate::steering::{
+    self, any_record, damaged_record, data_byte, fill_rests, frame, group, individual, spoiled_list,
+};
 
 enum Event {
     Setup(Vec<u8>),
     Record,
     Byte(u32, u8, usize),
-    Sample(u32, u32, [u8; 3], u32),
-    ServoSample(u32, u32, u32, u8),
-    Tick,
+    Tick(Vec<u8>),
 }
 
 impl fmt::Display for Event {
@@ -29,13 +29,11 @@ impl fmt::Display for Event {
             Event::Setup(types) => write!(to, "setup {types:?}"),
             Event::Record => write!(to, "another record"),
             Event::Byte(mark, byte, room_len) => write!(to, "byte {byte:02X}, mark {mark}, room {room_len}"),
-            Event::Sample(place, inputs, ad, counter) => {
-                write!(to, "sample at {place}: inputs {inputs:03X}, A/D {ad:02X?}, counter {counter:08X}")
+            Event::Tick(list) => {
+                write!(to, "tick, {} bytes:", list.len())?;
+                // no chain asks for more
+                list.chunks(SAMPLE_LEN).take(MOST_MODULES).try_for_each(|sample| write!(to, " {sample:02X?}"))
             }
-            Event::ServoSample(place, raw, power, ad) => {
-                write!(to, "servo sample at {place}: raw {raw:08X}, power {power}, A/D {ad:02X}")
-            }
-            Event::Tick => write!(to, "tick"),
         }
     }
 }
@@ -155,41 +153,19 @@ impl Pair<'_> {
         Ok(number)
     }
 
-    fn servo_sample(&mut self, place: u32, raw: u32, power: u32, ad: u8) -> Result<u32, String> {
-        self.remember(Event::ServoSample(place, raw, power, ad));
-        self.seen.samples += 1;
-        let mut by_model = self.net.clone();
-        let library = self.library.servo_sample(&mut self.net, place, raw, power, ad);
-        let model = self.model.servo_sample(&mut by_model, place, raw, power, ad);
-        let number = self.same_number(library, model)?;
-        self.same_bytes("record", &self.net, &by_model)?;
-        self.after(number != BAD_RECORD, false)?;
-        Ok(number)
-    }
-
-    fn sample(&mut self, place: u32, inputs: u32, ad: [u8; 3], counter: u32) -> Result<u32, String> {
-        self.remember(Event::Sample(place, inputs, ad, counter));
-        self.seen.samples += 1;
-        let mut by_model = self.net.clone();
-        let library = self.library.io_sample(&mut self.net, place, inputs, ad, counter);
-        let model = self.model.io_sample(&mut by_model, place, inputs, ad, counter);
-        let number = self.same_number(library, model)?;
-        self.same_bytes("record", &self.net, &by_model)?;
-        self.after(number != BAD_RECORD, false)?;
-        Ok(number)
-    }
-
-    fn tick(&mut self) -> Result<u32, String> {
-        self.remember(Event::Tick);
+    fn tick(&mut self, list: &[u8]) -> Result<u32, String> {
+        self.remember(Event::Tick(list.to_vec()));
         self.seen.ticks += 1;
         let before = self.net.clone();
         let mut by_model = before.clone();
-        let library = self.library.tick(&mut self.net);
-        let model = self.model.tick(&mut by_model);
+        let lent = list.to_vec();
+        let library = self.library.tick(&mut self.net, &lent);
+        let model = self.model.tick(&mut by_model, list);
         let number = self.same_number(library, model)?;
         self.same_bytes("record", &self.net, &by_model)?;
+        self.same_bytes("list", &lent, list)?;
         let after = self.after(number != BAD_RECORD, true)?;
-        if let (Some(before), Some(after)) = (decode(&before, self.model.slip), after) {
+        if let (DONE, Some(before), Some(after)) = (number, decode(&before, self.model.slip), after) {
             self.seen.tick(&before, &after);
         }
         Ok(number)
@@ -256,6 +232,8 @@ impl Pair<'_> {
 struct Session<'a> {
     pair: Pair<'a>,
     dice: Dice,
+    /// What the board has measured anew since the last tick, by place.
+    measured: Vec<Option<Sample>>,
 }
 
 impl Session<'_> {
@@ -273,25 +251,44 @@ impl Session<'_> {
         Ok(())
     }
 
-    fn sample(&mut self) -> Result<(), String> {
-        let place = self.dice.below(usize::from(self.pair.net[COUNT]));
-        self.sample_at(place)
+    fn chain(&self) -> usize {
+        self.pair.net[COUNT].into()
     }
 
-    fn sample_at(&mut self, place: usize) -> Result<(), String> {
+    /// Somewhere the board measures anew.
+    fn measure_some(&mut self) {
+        let place = self.dice.below(self.chain());
+        self.measure(place);
+    }
+
+    fn measure(&mut self, place: usize) {
         let module = self.module(place);
-        let dice = &mut self.dice;
-        if let Module::Servo(servo) = &module {
-            let (raw, power) = steering::servo_sample(dice, servo);
-            let ad = dice.byte();
-            self.pair.servo_sample(place as u32, raw, power, ad)?;
-        } else {
-            let inputs = dice.below(4096) as u32;
-            let ad = [dice.byte(), dice.byte(), dice.byte()];
-            let counter = dice.throw() as u32;
-            self.pair.sample(place as u32, inputs, ad, counter)?;
+        let sample = steering::sample(&mut self.dice, &module);
+        self.measured[place] = Some(sample);
+    }
+
+    /// The list of the next tick: what was measured anew, and elsewhere what is latched.
+    fn list(&mut self) -> Vec<u8> {
+        let latched = |place| latched(&self.pair.net[slot(place)..slot(place + 1)]);
+        let samples = self.measured.iter().enumerate();
+        let mut list: Vec<u8> = samples.flat_map(|(place, anew)| anew.unwrap_or_else(|| latched(place))).collect();
+        if self.dice.percent(30) {
+            fill_rests(&mut self.dice, &mut list);
         }
+        list
+    }
+
+    fn tick(&mut self) -> Result<(), String> {
+        let list = self.list();
+        self.pair.tick(&list)?;
+        self.measured.fill(None);
         Ok(())
+    }
+
+    /// A tick with this sample at a place.
+    fn tick_with(&mut self, place: usize, sample: Sample) -> Result<(), String> {
+        self.measured[place] = Some(sample);
+        self.tick()
     }
 
     fn network(&self) -> Network {
@@ -331,8 +328,8 @@ impl Session<'_> {
             }
             let ticks = self.dice.pick(&[0, 1, 1, 2, 3, 8, 30]);
             for _ in 0..ticks {
-                self.sample_at(place)?;
-                self.pair.tick()?;
+                self.measure(place);
+                self.tick()?;
             }
         }
         Ok(())
@@ -344,8 +341,7 @@ impl Session<'_> {
         let address = servo.station.individual;
         if servo.latched.power != 1 && self.dice.percent(90) {
             let (raw, ad) = (steering::following(&mut self.dice, &servo), self.dice.byte());
-            self.pair.servo_sample(place as u32, raw, 1, ad)?;
-            self.pair.tick()?;
+            self.tick_with(place, servo_sample(raw, 1, ad))?;
         }
         if gains_too && servo.gains.el < 1000 && self.dice.percent(80) {
             let gains = steering::gains(&mut self.dice);
@@ -380,8 +376,7 @@ impl Session<'_> {
                 break;
             }
             let raw = steering::ahead(&servo).wrapping_add(servo.offset);
-            self.pair.servo_sample(place as u32, raw, 1, 0)?;
-            self.pair.tick()?;
+            self.tick_with(place, servo_sample(raw, 1, 0))?;
         }
         Ok(())
     }
@@ -389,10 +384,10 @@ impl Session<'_> {
     fn send(&mut self, bytes: &[u8], marked: Option<usize>) -> Result<(), String> {
         for (at, byte) in bytes.iter().enumerate() {
             self.line(u32::from(marked == Some(at)), *byte)?;
-            // the board samples and ticks whenever it likes
+            // the board measures and ticks whenever it likes
             match self.dice.below(60) {
-                0 => self.sample()?,
-                1 => drop(self.pair.tick()?),
+                0 => self.measure_some(),
+                1 => self.tick()?,
                 _ => {}
             }
         }
@@ -430,55 +425,55 @@ impl Session<'_> {
 
     /// Calls that are refused, often for two reasons at once.
     fn refused(&mut self) -> Result<(), String> {
+        let list = self.list();
+        let count = self.chain() as u32;
         let dice = &mut self.dice;
-        let count = u32::from(self.pair.net[COUNT]);
-        let place = dice.pick(&[0, count - 1, count, count + 1, 255, 256, u32::MAX]);
-        let inputs = dice.pick(&[0, 4095, 4096, 0x8000, 0x10000, u32::MAX]);
-        let mark = dice.pick(&[0, 1, 2, 255, 256, u32::MAX]);
-        let room_len = dice.pick(&[0, 1, ROOM_LEN - 1, ROOM_LEN]);
-        let power = dice.pick(&[0, 1, 2, 3, 4, 256, u32::MAX]);
-        let byte = data_byte(dice);
         match dice.below(4) {
-            0 => self.pair.byte(mark, byte, room_len)?,
-            1 => self.pair.sample(place, inputs, [byte; 3], mark)?,
-            2 => self.pair.servo_sample(place, mark, power, byte)?,
-            _ => self.pair.told(place)?,
+            0 => {
+                let mark = dice.pick(&[0, 1, 2, 255, 256, u32::MAX]);
+                let room_len = dice.pick(&[0, 1, ROOM_LEN - 1, ROOM_LEN]);
+                self.pair.byte(mark, data_byte(dice), room_len)?
+            }
+            1 => {
+                let place = dice.pick(&[0, count - 1, count, count + 1, 255, 256, u32::MAX]);
+                self.pair.told(place)?
+            }
+            _ => self.pair.tick(&spoiled_list(dice, &list))?,
         };
         Ok(())
     }
 
     /// One call upon a damaged copy of the record; where it still passes, some more.
     fn damaged(&mut self) -> Result<(), String> {
-        let kept = self.pair.net.clone();
+        let list = self.list();
+        let (kept, kept_measured) = (self.pair.net.clone(), self.measured.clone());
         self.pair.net = damaged_record(&mut self.dice, &kept);
         self.pair.remember(Event::Record);
         self.pair.seen.damaged_records += 1;
-        let mark = self.dice.pick(&[0, 0, 0, 1, 2]);
-        let byte = data_byte(&mut self.dice);
-        let room_len = self.dice.pick(&[ROOM_LEN, ROOM_LEN, ROOM_LEN - 1]);
         match self.dice.below(5) {
-            0 => self.pair.tick()?,
-            3 => {
-                let place = self.dice.below(34) as u32;
-                let power = self.dice.pick(&[0, 2, 3]);
-                self.pair.servo_sample(place, mark, power, byte)?
+            0 => {
+                let mark = self.dice.pick(&[0, 0, 0, 1, 2]);
+                let room_len = self.dice.pick(&[ROOM_LEN, ROOM_LEN, ROOM_LEN - 1]);
+                self.pair.byte(mark, data_byte(&mut self.dice), room_len)?;
             }
             1 => {
                 let place = self.dice.below(34) as u32;
-                let inputs = self.dice.pick(&[0, 4095, 4096]);
-                self.pair.sample(place, inputs, [byte; 3], mark)?
+                self.pair.told(place)?;
             }
             2 => {
-                let place = self.dice.below(34) as u32;
-                self.pair.told(place)?
+                let spoiled = spoiled_list(&mut self.dice, &list);
+                let number = self.pair.tick(&spoiled)?;
+                let undamaged = uncounted(|| Model { slip: Slip::None }.tick(&mut kept.clone(), &spoiled));
+                self.pair.seen.damaged_record_and_list(number, undamaged);
             }
-            _ => self.pair.byte(mark, byte, room_len)?,
-        };
+            _ => drop(self.pair.tick(&list)?),
+        }
         if decode(&self.pair.net, Slip::None).is_some() {
             self.pair.seen.damaged_records_taken += 1;
+            self.measured = vec![None; self.chain()];
             self.send_frame()?;
         }
-        self.pair.net = kept;
+        (self.pair.net, self.measured) = (kept, kept_measured);
         self.pair.remember(Event::Record);
         Ok(())
     }
@@ -521,11 +516,11 @@ impl Session<'_> {
     fn unsteered(&mut self) -> Result<(), String> {
         self.pair.net = self.dice.bytes(NET_LEN);
         let types = steering::types(&mut self.dice);
-        self.pair.setup(&types)?;
+        self.power_up(&types)?;
         for _ in 0..200 {
             match self.dice.below(10) {
-                0 => self.sample()?,
-                1 => drop(self.pair.tick()?),
+                0 => self.measure_some(),
+                1 => self.tick()?,
                 _ => {
                     let (mark, byte) = (u32::from(self.dice.percent(2)), self.dice.byte());
                     self.line(mark, byte)?;
@@ -539,8 +534,11 @@ impl Session<'_> {
         match self.dice.below(100) {
             0..=9 => self.drive(),
             10..=69 => self.send_frame(),
-            70..=77 => self.sample(),
-            78..=84 => self.pair.tick().map(drop),
+            70..=77 => {
+                self.measure_some();
+                Ok(())
+            }
+            78..=84 => self.tick(),
             85 | 86 => {
                 let byte = data_byte(&mut self.dice);
                 let mark = self.dice.below(2) as u32;
@@ -558,7 +556,7 @@ impl Session<'_> {
     fn all_lead(&mut self) -> Result<(), String> {
         self.pair.net = self.dice.bytes(NET_LEN);
         let types: [u8; MOST_MODULES] = std::array::from_fn(|_| self.dice.pick(&[0, 2]));
-        self.pair.setup(&types)?;
+        self.power_up(&types)?;
         for place in 0..MOST_MODULES as u8 {
             self.send(&frame_bytes(0, 1, &[place + 1, 0x7F]), None)?;
         }
@@ -572,15 +570,24 @@ impl Session<'_> {
         if self.dice.percent(30) {
             self.pair.net = any_record(&mut self.dice);
             self.pair.remember(Event::Record);
+            self.measured = vec![None; self.chain()];
+            (0..self.chain()).for_each(|place| self.measure(place));
             // at once, while it is still at the edges of the list
             self.damaged()?;
             if self.dice.percent(50) {
-                self.pair.tick()?;
+                self.tick()?;
             }
             return Ok(());
         }
         self.pair.net = self.dice.bytes(NET_LEN);
         self.set_up()
+    }
+
+    /// A good setup: nothing is measured yet.
+    fn power_up(&mut self, types: &[u8]) -> Result<(), String> {
+        self.pair.setup(types)?;
+        self.measured = vec![None; types.len()];
+        Ok(())
     }
 
     /// A chain at power-up, mostly addressed, whatever the record holds; setups that are refused before it.
@@ -605,7 +612,7 @@ impl Session<'_> {
             self.pair.setup(&types)?;
             types[at] = known;
         }
-        self.pair.setup(&types)?;
+        self.power_up(&types)?;
         if self.dice.percent(80) {
             self.address_the_chain()?;
         }
@@ -638,7 +645,7 @@ fn run_sessions(library: &dyn Calls, slip: Slip, seed: u64, sessions: usize, ste
             past: VecDeque::new(),
             seen: &mut seen,
         };
-        let mut session = Session { pair, dice };
+        let mut session = Session { pair, dice, measured: Vec::new() };
         let outcome = if steered { session.steered() } else { session.unsteered() };
         outcome.map_err(|told| format!("session {number}: {told}"))?;
     }

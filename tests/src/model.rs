@@ -9,6 +9,7 @@ mod io;
 mod line;
 mod network;
 mod replay;
+mod samples;
 mod servo;
 mod station;
 
@@ -16,7 +17,7 @@ pub use host::{frame_bytes, item_sizes, read_status, Reading};
 pub use io::{Io, IoSample, BITS};
 pub use line::{sum, Frame, Receiver, HEADER};
 pub use network::{Ended, Module, Network};
-pub use replay::{replay, Event, Record};
+pub use replay::{replay, replay_with, Event, Record};
 pub use servo::{
     distance, greatest_speed, is_half_turn, stopping_sum, Gains, Load, Mode, Servo, ServoSample, Way, SPEED_MOST,
 };

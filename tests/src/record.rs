@@ -18,53 +18,56 @@ pub const SLOT_LEN: usize = 128;
 pub const CAUSE: usize = 5;
 pub const ITEMS: usize = 6;
 /// Bytes of its slot that an I/O module uses, and a servo.
-pub const IO_LEN: usize = 43;
-pub const SERVO_LEN: usize = 107;
+pub const IO_LEN: usize = 34;
+pub const SERVO_LEN: usize = 101;
+/// Where in a slot of any type the latched sample begins.
+pub const LATCHED: usize = 8;
 
 /// Where in a slot the 12-bit numbers of an I/O module begin.
-pub const TWELVE_BITS: [usize; 6] = [8, 17, 26, 28, 32, 37];
+pub const TWELVE_BITS: [usize; 5] = [8, 17, 19, 23, 28];
 
 /// Where in a slot the fields of a servo begin.
 pub mod at {
     use crate::branches::Branch;
 
-    pub const WAITING: usize = 8;
-    pub const LATCHED: usize = 14;
-    pub const OFFSET: usize = 20;
-    pub const LAST_POSITION: usize = 24;
-    pub const KP: usize = 28;
-    pub const KD: usize = 30;
-    pub const KI: usize = 32;
-    pub const IL: usize = 34;
-    pub const OL: usize = 36;
-    pub const EL: usize = 37;
-    pub const CL: usize = 39;
-    pub const SM: usize = 40;
-    pub const VELOCITY: usize = 41;
-    pub const ACCELERATION: usize = 45;
-    pub const VELOCITY_LOADED: usize = 49;
-    pub const ACCELERATION_LOADED: usize = 50;
-    pub const LOAD_WAITS: usize = 51;
-    pub const WAY: usize = 52;
-    pub const POSITION_CARRIED: usize = 53;
-    pub const LOAD_POSITION: usize = 54;
-    pub const PWM_CARRIED: usize = 58;
-    pub const LOAD_PWM: usize = 59;
-    pub const REVERSE: usize = 60;
-    pub const SETPOINT: usize = 61;
-    pub const SPEED: usize = 67;
-    pub const GOAL: usize = 71;
-    pub const GOAL_SPEED: usize = 75;
-    pub const RUNNING_ACCELERATION: usize = 79;
-    pub const TOP: usize = 83;
-    pub const INTEGRAL: usize = 87;
-    pub const PREVIOUS_ERROR: usize = 91;
-    pub const MODE: usize = 95;
-    pub const PWM: usize = 96;
-    pub const OUTPUT: usize = 100;
-    pub const ERROR: usize = 104;
-    pub const AMPLIFIER: usize = 105;
-    pub const CUT: usize = 106;
+    pub const POWER: usize = 8;
+    pub const AD: usize = 9;
+    pub const RAW: usize = 10;
+    pub const OFFSET: usize = 14;
+    pub const LAST_POSITION: usize = 18;
+    pub const KP: usize = 22;
+    pub const KD: usize = 24;
+    pub const KI: usize = 26;
+    pub const IL: usize = 28;
+    pub const OL: usize = 30;
+    pub const EL: usize = 31;
+    pub const CL: usize = 33;
+    pub const SM: usize = 34;
+    pub const VELOCITY: usize = 35;
+    pub const ACCELERATION: usize = 39;
+    pub const VELOCITY_LOADED: usize = 43;
+    pub const ACCELERATION_LOADED: usize = 44;
+    pub const LOAD_WAITS: usize = 45;
+    pub const WAY: usize = 46;
+    pub const POSITION_CARRIED: usize = 47;
+    pub const LOAD_POSITION: usize = 48;
+    pub const PWM_CARRIED: usize = 52;
+    pub const LOAD_PWM: usize = 53;
+    pub const REVERSE: usize = 54;
+    pub const SETPOINT: usize = 55;
+    pub const SPEED: usize = 61;
+    pub const GOAL: usize = 65;
+    pub const GOAL_SPEED: usize = 69;
+    pub const RUNNING_ACCELERATION: usize = 73;
+    pub const TOP: usize = 77;
+    pub const INTEGRAL: usize = 81;
+    pub const PREVIOUS_ERROR: usize = 85;
+    pub const MODE: usize = 89;
+    pub const PWM: usize = 90;
+    pub const OUTPUT: usize = 94;
+    pub const ERROR: usize = 98;
+    pub const AMPLIFIER: usize = 99;
+    pub const CUT: usize = 100;
 
     /// Bytes that are 0 or 1, each with the line that asks for it.
     pub const FLAGS: [(usize, Branch); 11] = [
@@ -105,26 +108,6 @@ fn put(bytes: &mut [u8], at: usize, number: &[u8]) {
 /// Two's complement in four bytes.
 fn put_signed(bytes: &mut [u8], at: usize, number: i64) {
     put(bytes, at, &i32::try_from(number).expect("within 32 bits").to_le_bytes());
-}
-
-fn sample(bytes: &[u8], at: usize) -> IoSample {
-    IoSample { inputs: two(bytes, at), ad: [bytes[at + 2], bytes[at + 3], bytes[at + 4]], counter: four(bytes, at + 5) }
-}
-
-fn put_sample(bytes: &mut [u8], at: usize, sample: &IoSample) {
-    put(bytes, at, &sample.inputs.to_le_bytes());
-    put(bytes, at + 2, &sample.ad);
-    put(bytes, at + 5, &sample.counter.to_le_bytes());
-}
-
-fn servo_sample(bytes: &[u8], at: usize) -> ServoSample {
-    ServoSample { raw: four(bytes, at), power: bytes[at + 4], ad: bytes[at + 5] }
-}
-
-fn put_servo_sample(bytes: &mut [u8], at: usize, sample: &ServoSample) {
-    put(bytes, at, &sample.raw.to_le_bytes());
-    bytes[at + 4] = sample.power;
-    bytes[at + 5] = sample.ad;
 }
 
 fn station(slot: &[u8]) -> Station {
@@ -182,31 +165,31 @@ fn io(slot: &[u8], slip: Slip) -> Option<Box<Io>> {
     }
     Some(Box::new(Io {
         station: station(slot),
-        waiting: sample(slot, 8),
-        latched: sample(slot, 17),
-        direction: two(slot, 26),
-        register: two(slot, 28),
-        pwm: [slot[30], slot[31]],
-        synch_bits: two(slot, 32),
-        synch_pwm: [slot[34], slot[35]],
-        timer_mode: slot[36],
-        captured_inputs: two(slot, 37),
-        captured_counter: four(slot, 39),
+        latched: IoSample { inputs: two(slot, 8), ad: [slot[10], slot[11], slot[12]], counter: four(slot, 13) },
+        direction: two(slot, 17),
+        register: two(slot, 19),
+        pwm: [slot[21], slot[22]],
+        synch_bits: two(slot, 23),
+        synch_pwm: [slot[25], slot[26]],
+        timer_mode: slot[27],
+        captured_inputs: two(slot, 28),
+        captured_counter: four(slot, 30),
     }))
 }
 
 fn put_io(bytes: &mut [u8], io: &Io) {
     put_station(bytes, &io.station);
-    put_sample(bytes, 8, &io.waiting);
-    put_sample(bytes, 17, &io.latched);
-    put(bytes, 26, &io.direction.to_le_bytes());
-    put(bytes, 28, &io.register.to_le_bytes());
-    put(bytes, 30, &io.pwm);
-    put(bytes, 32, &io.synch_bits.to_le_bytes());
-    put(bytes, 34, &io.synch_pwm);
-    bytes[36] = io.timer_mode;
-    put(bytes, 37, &io.captured_inputs.to_le_bytes());
-    put(bytes, 39, &io.captured_counter.to_le_bytes());
+    put(bytes, 8, &io.latched.inputs.to_le_bytes());
+    put(bytes, 10, &io.latched.ad);
+    put(bytes, 13, &io.latched.counter.to_le_bytes());
+    put(bytes, 17, &io.direction.to_le_bytes());
+    put(bytes, 19, &io.register.to_le_bytes());
+    put(bytes, 21, &io.pwm);
+    put(bytes, 23, &io.synch_bits.to_le_bytes());
+    put(bytes, 25, &io.synch_pwm);
+    bytes[27] = io.timer_mode;
+    put(bytes, 28, &io.captured_inputs.to_le_bytes());
+    put(bytes, 30, &io.captured_counter.to_le_bytes());
 }
 
 /// Ranges and flags of a servo's slot: what can be told field by field.
@@ -221,8 +204,7 @@ fn servo_in_range(slot: &[u8], slip: Slip) -> bool {
     let most = i64::from(SPEED_MOST);
     let numbers = [
         (cause_holds(slot, slip), Branch::ListCause),
-        (slot[at::WAITING + 4] <= 2, Branch::ListWaitingPower),
-        (slot[at::LATCHED + 4] <= 2, Branch::ListLatchedPower),
+        (slot[at::POWER] <= 2, Branch::ListLatchedPower),
         (gains && two(slot, at::EL) <= 16_383, Branch::ListGains),
         (rate(at::VELOCITY), Branch::ListVelocity),
         (rate(at::ACCELERATION), Branch::ListAcceleration),
@@ -321,8 +303,7 @@ fn servo(slot: &[u8], slip: Slip) -> Option<Box<Servo>> {
     let flag = |at: usize| slot[at] == 1;
     let servo = Servo {
         station: station(slot),
-        waiting: servo_sample(slot, at::WAITING),
-        latched: servo_sample(slot, at::LATCHED),
+        latched: ServoSample { raw: four(slot, at::RAW), power: slot[at::POWER], ad: slot[at::AD] },
         offset: four(slot, at::OFFSET),
         last_position: four(slot, at::LAST_POSITION),
         gains: gains(slot),
@@ -351,8 +332,8 @@ fn servo(slot: &[u8], slip: Slip) -> Option<Box<Servo>> {
 
 fn put_servo(bytes: &mut [u8], servo: &Servo) {
     put_station(bytes, &servo.station);
-    put_servo_sample(bytes, at::WAITING, &servo.waiting);
-    put_servo_sample(bytes, at::LATCHED, &servo.latched);
+    (bytes[at::POWER], bytes[at::AD]) = (servo.latched.power, servo.latched.ad);
+    put(bytes, at::RAW, &servo.latched.raw.to_le_bytes());
     put(bytes, at::OFFSET, &servo.offset.to_le_bytes());
     put(bytes, at::LAST_POSITION, &servo.last_position.to_le_bytes());
     let gains = &servo.gains;
@@ -450,6 +431,14 @@ pub fn encode(network: &Network, net: &mut [u8]) {
     }
 }
 
+/// What the module of a slot has latched, as a tick's list brings it again: its bytes stand there as they stand here.
+pub fn latched(slot: &[u8]) -> Sample {
+    let mut sample = no_sample(slot[0]);
+    let measured = if slot[0] == Servo::TYPE { &mut sample[1..7] } else { &mut sample[1..] };
+    measured.copy_from_slice(&slot[LATCHED..LATCHED + measured.len()]);
+    sample
+}
+
 /// A refusal by its number, and the branch that gives it.
 fn refuse(branch: Branch, number: u32) -> u32 {
     reach(branch);
@@ -545,43 +534,30 @@ impl Calls for Model {
         }
     }
 
-    fn io_sample(&self, net: &mut [u8], place: u32, inputs: u32, ad: [u8; 3], counter: u32) -> u32 {
-        let mut network = match decode(net, self.slip) {
-            Some(network) => network,
-            None => return refuse(Branch::IoSampleRecord, BAD_RECORD),
-        };
-        match network.io_sample(place, inputs, ad, counter) {
-            Ok(()) => reach(Branch::IoSampleDone),
-            Err(BAD_FIELD) => return refuse(Branch::IoSampleInputs, BAD_FIELD),
-            Err(refusal) => return refusal,
+    fn tick(&self, net: &mut [u8], samples: &[u8]) -> u32 {
+        // part of a sample is nothing that a chain asks for
+        let no_list = samples.is_empty() || samples.len() % SAMPLE_LEN != 0;
+        if no_list && self.slip == Slip::LengthBeforeRecord {
+            return BAD_LIST;
         }
-        encode(&network, net);
-        DONE
-    }
-
-    fn servo_sample(&self, net: &mut [u8], place: u32, raw: u32, power: u32, ad: u8) -> u32 {
         let mut network = match decode(net, self.slip) {
             Some(network) => network,
-            None => return refuse(Branch::ServoSampleRecord, BAD_RECORD),
+            None => {
+                if no_list {
+                    reach(Branch::TickRecordBeforeList);
+                }
+                return refuse(Branch::TickRecord, BAD_RECORD);
+            }
         };
-        match network.servo_sample(place, raw, power, ad) {
-            Ok(()) => reach(Branch::ServoSampleDone),
-            Err(BAD_FIELD) => return refuse(Branch::ServoSamplePower, BAD_FIELD),
-            Err(refusal) => return refusal,
+        let outcome = network.tick(samples);
+        encode(&network, net);
+        match outcome {
+            Ok(()) => {
+                reach(Branch::TickDone);
+                DONE
+            }
+            Err(number) => number,
         }
-        encode(&network, net);
-        DONE
-    }
-
-    fn tick(&self, net: &mut [u8]) -> u32 {
-        let mut network = match decode(net, self.slip) {
-            Some(network) => network,
-            None => return refuse(Branch::TickRecord, BAD_RECORD),
-        };
-        reach(Branch::TickDone);
-        network.tick();
-        encode(&network, net);
-        DONE
     }
 
     fn outputs(&self, net: &[u8], place: u32, outputs: &mut [u8; 8]) -> u32 {

@@ -1,7 +1,7 @@
 //! What histories have come to, told from the networks before and after each call, so that a test can tell that its
 //! dice still fall everywhere.
 
-use crate::calls::{MOST_MODULES, ROOM_LEN};
+use crate::calls::{BAD_FIELD, BAD_LIST, BAD_PLACE, BAD_RECORD, MOST_MODULES, ROOM_LEN};
 use crate::model::{
     Mode, Module, Network, Servo, Touch, CAUSES, EXECUTED, NOT_NOW, OUT_OF_RANGE, SPEED_MOST, UNKNOWN, WRONG_COUNT,
 };
@@ -75,15 +75,16 @@ pub struct Seen {
     pub ticks_while_cut: Tally,
     cuts: [Cuts; MOST_MODULES],
     /// Answers by their number.
-    pub numbers: [usize; 20],
+    pub numbers: [usize; 21],
     /// Frames by how many modules replied: none, one, more.
     pub repliers: [usize; 3],
     pub bytes: usize,
-    pub samples: usize,
     pub ticks: usize,
     pub full_rooms: usize,
     pub damaged_records: usize,
     pub damaged_records_taken: usize,
+    /// Ticks with a damaged record and a list that would have been refused with the record as it was.
+    pub damaged_records_and_lists: Tally,
     pub host_calls: usize,
 }
 
@@ -190,6 +191,20 @@ impl Seen {
             let in_a_row = if before.cut { self.cuts[place].in_a_row + 1 } else { 1 };
             self.cuts[place] = if after.cut { Cuts { in_a_row, past_il: is_past_il(after) } } else { Cuts::default() };
         }
+    }
+
+    /// A tick upon a damaged record, by its number, and the number that its list has with the record undamaged.
+    pub fn damaged_record_and_list(&mut self, number: u32, undamaged: u32) {
+        let hides = |later: u32| number == BAD_RECORD && undamaged == later;
+        add(
+            &mut self.damaged_records_and_lists,
+            &[
+                ("number 16 before number 20", hides(BAD_LIST)),
+                ("number 16 before number 13", hides(BAD_PLACE)),
+                ("number 16 before number 14", hides(BAD_FIELD)),
+                ("the list refused, the record taken though damaged", number == undamaged),
+            ],
+        );
     }
 
     /// The ticks before are those of another record.

@@ -1,11 +1,10 @@
 //! Where the dice are led: frames that somebody hears and can execute, records that pass the list at its edges,
-//! samples of a motor that follows.
+//! samples of a motor that follows, and lists of samples with something wrong with them.
 
 use crate::calls::*;
 use crate::dice::Dice;
 use crate::model::{
-    distance, stopping_sum, Device, Gains, Load, Mode, Module, Network, Servo, ServoSample, Station, Way, CAUSES,
-    HEADER, SPEED_MOST,
+    distance, stopping_sum, Device, Gains, Load, Mode, Module, Network, Servo, Station, Way, CAUSES, HEADER, SPEED_MOST,
 };
 use crate::record::{at, put_module, slot, CAUSE, COUNT, FILL, IO_LEN, MARK, SERVO_LEN, SLOTS, TWELVE_BITS};
 use crate::slips::Slip;
@@ -367,10 +366,20 @@ fn error_to_output_limit(dice: &mut Dice, servo: &Servo) -> u32 {
     error.clamp(-el, el) as u32
 }
 
+/// For a servo that stands ready for a full swing, the error at the other end of the range.
+fn error_of_swing(dice: &mut Dice, servo: &Servo) -> u32 {
+    (-servo.previous_error.signum() * (16_383 - dice.below(3) as i64)) as u32
+}
+
 /// A raw count for a motor that follows its setpoint more or less.
 pub fn following(dice: &mut Dice, servo: &Servo) -> u32 {
-    let error =
-        if !servo.servo_off() && dice.percent(15) { error_to_output_limit(dice, servo) } else { error(dice, servo) };
+    let error = if is_ready_to_swing(servo) {
+        error_of_swing(dice, servo)
+    } else if !servo.servo_off() && dice.percent(15) {
+        error_to_output_limit(dice, servo)
+    } else {
+        error(dice, servo)
+    };
     let base = match servo.servo_off() {
         true if dice.percent(15) => seam(dice),
         true => servo.position(),
@@ -379,13 +388,104 @@ pub fn following(dice: &mut Dice, servo: &Servo) -> u32 {
     base.wrapping_sub(error).wrapping_add(servo.offset)
 }
 
-pub fn servo_sample(dice: &mut Dice, servo: &Servo) -> (u32, u32) {
-    let power = match dice.below(40) {
-        0 | 1 => 0,
-        2..=4 => 2,
-        _ => 1,
+// ---------------------------------------------------------------- samples
+
+/// What a module may measure.
+pub fn sample(dice: &mut Dice, module: &Module) -> Sample {
+    if let Module::Servo(servo) = module {
+        let power = match dice.below(40) {
+            0 | 1 => 0,
+            2..=4 => 2,
+            _ => 1,
+        };
+        return servo_sample(following(dice, servo), power, dice.byte());
+    }
+    any_io_sample(dice)
+}
+
+fn any_io_sample(dice: &mut Dice) -> Sample {
+    let inputs = dice.below(4096) as u16;
+    let ad = [dice.byte(), dice.byte(), dice.byte()];
+    io_sample(inputs, ad, dice.throw() as u32)
+}
+
+/// Anything in the bytes of a list that are not looked at.
+pub fn fill_rests(dice: &mut Dice, list: &mut [u8]) {
+    for sample in list.chunks_exact_mut(SAMPLE_LEN).filter(|sample| sample[0] == Servo::TYPE) {
+        if dice.percent(70) {
+            sample[7..].copy_from_slice(&dice.bytes(3));
+        }
+    }
+}
+
+/// Another type: one that no module has, or the other one, then often with all that belongs to it.
+fn spoil_type(dice: &mut Dice, sample: &mut [u8]) {
+    let of_servo = sample[0] == Servo::TYPE;
+    match dice.below(4) {
+        0 => sample[0] = dice.pick(&[1, 3, 4, 7, 128, 130, 255]),
+        1 => sample[0] = if of_servo { 2 } else { 0 },
+        _ if of_servo => sample.copy_from_slice(&any_io_sample(dice)),
+        _ => sample.copy_from_slice(&servo_sample(dice.throw() as u32, dice.below(3) as u8, dice.byte())),
+    }
+}
+
+fn spoil_field(dice: &mut Dice, sample: &mut [u8]) {
+    if sample[0] == Servo::TYPE {
+        sample[1] = dice.pick(&[3, 3, 4, 127, 128, 254, 255]);
+    } else {
+        let inputs: u16 = dice.pick(&[4096, 4096, 4097, 0x1FFF, 0x8000, 0xF000, 0xFFFF]);
+        sample[1..3].copy_from_slice(&inputs.to_le_bytes());
+    }
+}
+
+/// Does it to one sample of a list mostly, else to some; often at an end.
+fn spoil_some(dice: &mut Dice, list: &mut [u8], spoil: fn(&mut Dice, &mut [u8])) {
+    let chain = list.len() / SAMPLE_LEN;
+    for _ in 0..dice.pick(&[1, 1, 1, 2, 3]) {
+        let place = match dice.below(4) {
+            0 => 0,
+            1 => chain - 1,
+            _ => dice.below(chain),
+        };
+        spoil(dice, &mut list[SAMPLE_LEN * place..SAMPLE_LEN * (place + 1)]);
+    }
+}
+
+/// By a byte, by part of a sample, by one or several; what it has more is often good, too.
+fn spoil_length(dice: &mut Dice, list: &mut Vec<u8>) {
+    let right = list.len();
+    let length = match dice.below(8) {
+        0 => 0,
+        1 => right - 1,
+        2 => right - SAMPLE_LEN,
+        3 => dice.below(right),
+        4 => right + 1,
+        5 => right + SAMPLE_LEN,
+        6 => right + 1 + dice.below(3 * SAMPLE_LEN),
+        _ => dice.pick(&[2 * right, SAMPLE_LEN * (MOST_MODULES + 1), right + 256, right + 65_536]),
     };
-    (following(dice, servo), power)
+    let more = if dice.percent(50) { list[right - SAMPLE_LEN..].to_vec() } else { dice.bytes(SAMPLE_LEN) };
+    let mut again = more.into_iter().cycle();
+    list.resize_with(length, || again.next().expect("without end"));
+}
+
+/// A list that a chain of this one's length does not take, often for two reasons at once.
+pub fn spoiled_list(dice: &mut Dice, list: &[u8]) -> Vec<u8> {
+    const LENGTH: u8 = 1;
+    const TYPE: u8 = 2;
+    const FIELD: u8 = 4;
+    let faults = dice.pick(&[LENGTH, LENGTH, TYPE, TYPE, FIELD, FIELD, TYPE | FIELD, TYPE | FIELD, 3, 5, 7]);
+    let mut list = list.to_vec();
+    if faults & FIELD != 0 {
+        spoil_some(dice, &mut list, spoil_field);
+    }
+    if faults & TYPE != 0 {
+        spoil_some(dice, &mut list, spoil_type);
+    }
+    if faults & LENGTH != 0 {
+        spoil_length(dice, &mut list);
+    }
+    list
 }
 
 // ---------------------------------------------------------------- records
@@ -448,8 +548,6 @@ fn any_servo(dice: &mut Dice, station: Station) -> Servo {
     servo.latched.raw = following(dice, &servo);
     servo.latched.ad = dice.byte();
     servo.last_position = dice.throw() as u32;
-    let (raw, power) = servo_sample(dice, &servo);
-    servo.waiting = ServoSample { raw, power: power as u8, ad: dice.byte() };
     if servo.mode == Mode::Holding && dice.percent(30) {
         full_swing(dice, &mut servo);
     }
@@ -492,15 +590,19 @@ fn any_motion(dice: &mut Dice, servo: &mut Servo) {
     servo.amplifier = flag(dice);
 }
 
-/// From the one end of the error's range to the other at the highest gains: u is then as large as it can be.
+/// The error at one end of its range, all that is summed up there too, and the highest gains: with the error at the other
+/// end u is as large as it can be.
 fn full_swing(dice: &mut Dice, servo: &mut Servo) {
     let sign = dice.pick(&[1, -1]);
     servo.gains = Gains { kp: 32_767, kd: 32_767, ki: 32_767, il: 32_767, el: 16_383, ..servo.gains.clone() };
     servo.integral = sign * (32_767 - dice.below(3) as i64);
     servo.previous_error = -sign * (16_383 - dice.below(3) as i64);
-    let error = sign * (16_383 - dice.below(3) as i64);
-    let position = (servo.setpoint >> 16) - error;
-    servo.waiting = ServoSample { raw: servo.offset.wrapping_add(position as u32), power: 1, ad: 0 };
+}
+
+fn is_ready_to_swing(servo: &Servo) -> bool {
+    let Gains { kp, kd, ki, .. } = servo.gains;
+    let apart = servo.integral.signum() * servo.previous_error.signum() < 0;
+    [kp, kd, ki] == [32_767; 3] && apart && servo.previous_error.abs() > 16_380 && servo.mode == Mode::Holding
 }
 
 /// What a move under way needs to stop at most, in 65,536ths; a distance is below 2^47.
@@ -599,11 +701,14 @@ const NUMBER_EDGES: &[i32] =
 /// What a trapezoid's way to stop hangs on.
 const STOPPING: &[usize] = &[at::SETPOINT, at::SPEED, at::GOAL, at::RUNNING_ACCELERATION];
 
-/// A goal half the range from the setpoint, or a count beside it.
+/// A goal half the range from the setpoint, or a count beside it; often at rest, since no speed can then be against it.
 fn far_goal(dice: &mut Dice, slot: &mut [u8]) {
     let whole = u32::from_le_bytes(slot[at::SETPOINT + 2..at::SETPOINT + 6].try_into().expect("four bytes"));
     let goal = whole.wrapping_add(dice.pick(&[(1 << 31) - 1, 1 << 31, 1 << 31, (1 << 31) + 1]));
     slot[at::GOAL..at::GOAL + 4].copy_from_slice(&goal.to_le_bytes());
+    if dice.percent(50) {
+        slot[at::SPEED..at::SPEED + 4].fill(0);
+    }
 }
 
 fn damage_number(dice: &mut Dice, slot: &mut [u8]) {
@@ -634,7 +739,7 @@ fn damage_byte(dice: &mut Dice, slot: &mut [u8]) {
         };
         slot[forbidden] = 1;
     } else {
-        let at = dice.pick(&[at::ERROR, at::MODE, at::LATCHED + 4, at::WAY, at::LOAD_WAITS, at::CUT]);
+        let at = dice.pick(&[at::ERROR, at::MODE, at::POWER, at::WAY, at::LOAD_WAITS, at::CUT]);
         slot[at] = dice.below(6) as u8;
     }
 }

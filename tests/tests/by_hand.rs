@@ -56,8 +56,8 @@ fn setup_writes_power_up_into_every_slot() {
     let mut module = [0; SLOT_LEN];
     module[0] = 2;
     module[2] = 0xFF;
-    module[26] = 0xFF;
-    module[27] = 0x0F;
+    module[17] = 0xFF;
+    module[18] = 0x0F;
     for place in 0..32 {
         let expected = if place < 3 { module } else { [0; SLOT_LEN] };
         assert_eq!(net[slot(place)..slot(place + 1)], expected, "place {place}");
@@ -71,7 +71,7 @@ fn setup_of_both_types() {
     assert_eq!(Library.setup(&mut net, &[0, 2, 0]), DONE);
     let mut servo = [0; SLOT_LEN];
     // group, SM, error bit
-    (servo[2], servo[40], servo[104]) = (0xFF, 1, 1);
+    (servo[2], servo[34], servo[98]) = (0xFF, 1, 1);
     assert_eq!(net[slot(0)..slot(1)], servo);
     assert_eq!(net[slot(1)..slot(2)], network(1)[slot(0)..slot(1)]);
     assert_eq!(net[slot(2)..slot(3)], servo);
@@ -82,9 +82,7 @@ fn setup_of_both_types() {
 fn servo_fields_stand_where_the_record_says() {
     let mut net = vec![0x99; NET_LEN];
     assert_eq!(Library.setup(&mut net, &[0]), DONE);
-    assert_eq!(Library.servo_sample(&mut net, 0, 0x0A0B_0C0D, 1, 0x5A), DONE);
-    assert_eq!(Library.tick(&mut net), DONE);
-    assert_eq!(Library.servo_sample(&mut net, 0, 0x0A0B_0C10, 2, 0xA5), DONE);
+    assert_eq!(Library.tick(&mut net, &servo_sample(0x0A0B_0C0D, 1, 0x5A)), DONE);
     let mut expect = |frame: &[u8], changes: &[(usize, &[u8])], expected: &mut [u8; SLOT_LEN]| {
         send(&mut net, frame);
         for (at, bytes) in changes {
@@ -93,70 +91,183 @@ fn servo_fields_stand_where_the_record_says() {
         assert_eq!(net[slot(0)..slot(1)], *expected, "after {frame:02X?}");
     };
     let mut all = [0; SLOT_LEN];
-    let power_up: [(usize, &[u8]); 5] = [
-        (2, &[0xFF]),
-        (8, &[0x10, 0x0C, 0x0B, 0x0A, 2, 0xA5]),
-        (14, &[0x0D, 0x0C, 0x0B, 0x0A, 1, 0x5A]),
-        (40, &[1]),
-        (104, &[1]),
-    ];
+    let power_up: [(usize, &[u8]); 4] = [(2, &[0xFF]), (8, &[1, 0x5A, 0x0D, 0x0C, 0x0B, 0x0A]), (34, &[1]), (98, &[1])];
     expect(&[], &power_up, &mut all);
-    expect(&written(0, 11, &[]), &[(104, &[0])], &mut all);
+    expect(&written(0, 11, &[]), &[(98, &[0])], &mut all);
     // last position, setpoint and goal shift with the offset, though nothing runs
     let shifted = &[0xF3, 0xF3, 0xF4, 0xF5][..];
-    let reset_position = [(20, &[0x0D, 0x0C, 0x0B, 0x0A][..]), (24, shifted), (63, shifted), (71, shifted)];
+    let reset_position = [(14, &[0x0D, 0x0C, 0x0B, 0x0A][..]), (18, shifted), (57, shifted), (65, shifted)];
     expect(&written(0, 0, &[]), &reset_position, &mut all);
 
     let gains = [1, 2, 3, 4, 5, 6, 7, 8, 9, 10, 11, 12, 1, 0, 13];
-    expect(&written(0, 6, &gains), &[(28, &[1, 2, 3, 4, 5, 6, 7, 8, 9, 11, 12, 10, 13])], &mut all);
+    expect(&written(0, 6, &gains), &[(22, &[1, 2, 3, 4, 5, 6, 7, 8, 9, 11, 12, 10, 13])], &mut all);
     let load = [0x5F, 0x78, 0x56, 0x34, 0x12, 0x11, 0x22, 0x33, 0x01, 0x44, 0x55, 0x66, 0x02, 0x77];
     let loaded: [(usize, &[u8]); 2] = [
-        (41, &[0x11, 0x22, 0x33, 0x01, 0x44, 0x55, 0x66, 0x02, 1, 1]),
-        (51, &[1, 2, 1, 0x78, 0x56, 0x34, 0x12, 1, 0x77, 1]),
+        (35, &[0x11, 0x22, 0x33, 0x01, 0x44, 0x55, 0x66, 0x02, 1, 1]),
+        (45, &[1, 2, 1, 0x78, 0x56, 0x34, 0x12, 1, 0x77, 1]),
     ];
     expect(&written(0, 4, &load), &loaded, &mut all);
     let started: [(usize, &[u8]); 5] = [
-        (51, &[0; 10]),
-        (61, &[0; 6]),
-        (71, &[0x78, 0x56, 0x34, 0x12]),
-        (79, &[0x44, 0x55, 0x66, 0x02, 0x11, 0x22, 0x33, 0x01]),
-        (95, &[4]),
+        (45, &[0; 10]),
+        (55, &[0; 6]),
+        (65, &[0x78, 0x56, 0x34, 0x12]),
+        (73, &[0x44, 0x55, 0x66, 0x02, 0x11, 0x22, 0x33, 0x01]),
+        (89, &[4]),
     ];
     expect(&written(0, 5, &[]), &started, &mut all);
     // velocity mode keeps goal and top, PWM all of them
-    let reversed = [(75, &[0xEF, 0xDD, 0xCC, 0xFE][..]), (95, &[3])];
+    let reversed = [(69, &[0xEF, 0xDD, 0xCC, 0xFE][..]), (89, &[3])];
     expect(&written(0, 4, &[0xF0]), &reversed, &mut all);
-    expect(&written(0, 4, &[0xC8, 3]), &[(95, &[1, 0xFD, 0xFF, 0xFF, 0xFF])], &mut all);
-    expect(&written(0, 7, &[0x11, 1, 2, 3, 4]), &[(63, &[1, 2, 3, 4]), (95, &[2, 0, 0, 0, 0]), (105, &[1])], &mut all);
-    expect(&written(0, 7, &[0x08]), &[(75, &[0; 4]), (95, &[3]), (105, &[0])], &mut all);
-    expect(&written(0, 7, &[0x02]), &[(95, &[0])], &mut all);
-    // samples and offset stay
+    expect(&written(0, 4, &[0xC8, 3]), &[(89, &[1, 0xFD, 0xFF, 0xFF, 0xFF])], &mut all);
+    expect(&written(0, 7, &[0x11, 1, 2, 3, 4]), &[(57, &[1, 2, 3, 4]), (89, &[2, 0, 0, 0, 0]), (99, &[1])], &mut all);
+    expect(&written(0, 7, &[0x08]), &[(69, &[0; 4]), (89, &[3]), (99, &[0])], &mut all);
+    expect(&written(0, 7, &[0x02]), &[(89, &[0])], &mut all);
+    // sample and offset stay
     let mut reset = [0; SLOT_LEN];
-    reset[8..24].copy_from_slice(&all[8..24]);
-    (reset[2], reset[40], reset[104]) = (0xFF, 1, 1);
+    reset[8..18].copy_from_slice(&all[8..18]);
+    (reset[2], reset[34], reset[98]) = (0xFF, 1, 1);
     expect(&written(0, 15, &[]), &[(0, &reset)], &mut all);
 }
 
 #[test]
-fn cut_tick_leaves_the_integral_and_sets_byte_106() {
+fn io_fields_stand_where_the_record_says() {
+    let mut net = network(1);
+    assert_eq!(Library.tick(&mut net, &io_sample(0xABC, [0x11, 0x22, 0x33], 0x0A0B_0C0D)), DONE);
+    let mut all = [0; SLOT_LEN];
+    (all[0], all[2]) = (2, 0xFF);
+    all[8..19].copy_from_slice(&[0xBC, 0x0A, 0x11, 0x22, 0x33, 0x0D, 0x0C, 0x0B, 0x0A, 0xFF, 0x0F]);
+    assert_eq!(net[slot(0)..slot(1)], all);
+    send(&mut net, &written(0, 0, &[0xF0, 0x00]));
+    send(&mut net, &written(0, 6, &[0x45, 0x03]));
+    send(&mut net, &written(0, 4, &[0x66, 0x77]));
+    send(&mut net, &written(0, 7, &[0x89, 0x0A, 0xBB, 0xCC]));
+    send(&mut net, &written(0, 8, &[0xDD]));
+    send(&mut net, &written(0, 12, &[]));
+    // directions, register, PWMs, synch buffer, timer mode; captured are the inputs at bits 5 to 8, else the register
+    all[17..23].copy_from_slice(&[0xF0, 0x00, 0x05, 0x03, 0x66, 0x77]);
+    all[23..28].copy_from_slice(&[0x89, 0x0A, 0xBB, 0xCC, 0xDD]);
+    all[28..34].copy_from_slice(&[0xB5, 0x03, 0x0D, 0x0C, 0x0B, 0x0A]);
+    assert_eq!(net[slot(0)..slot(1)], all);
+}
+
+#[test]
+fn samples_stand_in_a_list_as_the_header_says() {
+    assert_eq!(servo_sample(0x0A0B_0C0D, 2, 0x5A), [0, 2, 0x5A, 0x0D, 0x0C, 0x0B, 0x0A, 0, 0, 0]);
+    assert_eq!(io_sample(0xABC, [0x11, 0x22, 0x33], 0x0102_0304), [2, 0xBC, 0x0A, 0x11, 0x22, 0x33, 4, 3, 2, 1]);
+    assert_eq!((no_sample(0), no_sample(2)), (servo_sample(0, 0, 0), io_sample(0, [0; 3], 0)));
+}
+
+/// Whether each place has latched its own sample of a list.
+fn latched(net: &[u8], list: &[Sample]) -> bool {
+    list.iter().enumerate().all(|(place, sample)| {
+        let own = if sample[0] == 0 { &sample[1..7] } else { &sample[1..] };
+        net[slot(place) + 8..].starts_with(own)
+    })
+}
+
+#[test]
+fn each_place_gets_its_own_sample_at_each_tick() {
+    let mut net = vec![0x99; NET_LEN];
+    assert_eq!(Library.setup(&mut net, &[0, 0, 2, 2]), DONE);
+    assert!(latched(&net, &[0, 0, 2, 2].map(no_sample)), "nothing is measured at power-up");
+    for address in 1..=4 {
+        send(&mut net, &written(0, 1, &[address, 0xFF]));
+    }
+    let first = [
+        [0, 0, 0x11, 0x0D, 0x0C, 0x0B, 0x0A, 0, 0, 0],
+        [0, 1, 0x31, 0x00, 0x10, 0, 0, 0, 0, 0],
+        [2, 0xBC, 0x0A, 0x21, 0x22, 0x23, 1, 2, 3, 4],
+        [2, 0xFF, 0x0F, 0x41, 0x42, 0x43, 5, 6, 7, 8],
+    ];
+    let second = [
+        [0, 1, 0x51, 0x1D, 0x0C, 0x0B, 0x0A, 0, 0, 0],
+        [0, 2, 0x71, 0xFF, 0x0F, 0, 0, 0, 0, 0],
+        [2, 0x23, 0x01, 0x61, 0x62, 0x63, 9, 10, 11, 12],
+        [2, 0, 0, 0, 0, 0, 0xFF, 0xFF, 0xFF, 0xFF],
+    ];
+    for list in [first, second] {
+        assert_eq!(Library.tick(&mut net, &list.concat()), DONE);
+        assert!(latched(&net, &list));
+    }
+    // position, A/D and last tick's change of a servo; inputs, A/D 1 to 3 and counter of an I/O module
+    let replies: [(u8, &[u8]); 4] = [
+        (0x07, &[0x19, 0x1D, 0x0C, 0x0B, 0x0A, 0x51, 0x10, 0x00, 0xB8]),
+        (0x07, &[0x11, 0xFF, 0x0F, 0x00, 0x00, 0x71, 0xFF, 0xFF, 0x8E]),
+        (0x1F, &[0x00, 0x23, 0x01, 0x61, 0x62, 0x63, 9, 10, 11, 12, 0x74]),
+        (0x1F, &[0x00, 0, 0, 0, 0, 0, 0xFF, 0xFF, 0xFF, 0xFF, 0xFC]),
+    ];
+    for (address, (items, reply)) in (1..).zip(replies) {
+        assert_eq!(send(&mut net, &written(address, 3, &[items])), (UNDAMAGED, reply.to_vec()), "address {address}");
+    }
+    assert_eq!(Library.tick(&mut net, &second.concat()), DONE);
+    let unmoved = &[0x19, 0x1D, 0x0C, 0x0B, 0x0A, 0x51, 0x00, 0x00, 0xA8];
+    assert_eq!(send(&mut net, &written(1, 3, &[0x07])), (UNDAMAGED, unmoved.to_vec()), "the same list again");
+}
+
+#[test]
+fn place_meets_its_own_samples_and_no_refused_tick() {
+    let [a, b, c] = [servo_sample(100, 1, 7), io_sample(0x123, [1, 2, 3], 4), io_sample(0x456, [5, 6, 7], 8)];
+    let out_of_range = io_sample(0x1000, [1, 2, 3], 4);
+    let before = servo_and_io();
+    let after = |ticks: &[(&[Sample], u32)]| {
+        let mut net = before.clone();
+        for (list, number) in ticks {
+            assert_eq!(Library.tick(&mut net, &list.concat()), *number);
+        }
+        net
+    };
+    let ab = after(&[(&[a, b], DONE)]);
+    let ac = after(&[(&[a, c], DONE)]);
+    assert_eq!(ab[..slot(1)], ac[..slot(1)], "whatever the other place has measured");
+    assert_ne!(ab[slot(1)..], ac[slot(1)..]);
+    let bad = [a, out_of_range];
+    for (refused, number) in [(&bad[..], BAD_FIELD), (&[a, a], BAD_PLACE), (&[a], BAD_LIST)] {
+        assert_eq!(after(&[(refused, number), (&[a, b], DONE)]), ab, "number {number} before the tick");
+        assert_eq!(after(&[(&[a, b], DONE), (refused, number)]), ab, "number {number} after it");
+    }
+    // a frame for an address that nobody has may stand on either side of a tick
+    let nobody = written(77, 14, &[]);
+    let (mut frame_first, mut tick_first) = (before.clone(), ab);
+    send(&mut frame_first, &nobody);
+    assert_eq!(Library.tick(&mut frame_first, &[a, b].concat()), DONE);
+    send(&mut tick_first, &nobody);
+    assert_eq!(frame_first, tick_first);
+}
+
+#[test]
+fn hard_reset_keeps_what_is_latched() {
+    let list = [servo_sample(0x0A0B_0C0D, 1, 0x51), io_sample(0x123, [0x61, 0x62, 0x63], 0x0C0B_0A09)];
+    let mut net = servo_and_io();
+    assert_eq!(Library.tick(&mut net, &list.concat()), DONE);
+    assert_eq!(send(&mut net, &written(0xFF, 15, &[])), (UNDAMAGED, vec![]));
+    assert!(latched(&net, &list));
+    // position 0, power still good
+    assert_eq!(send(&mut net, &written(0, 3, &[0x03])).1, [0x19, 0, 0, 0, 0, 0x51, 0x6A]);
+    // the next tick takes its own sample, and the position counts from the reset
+    let next = [servo_sample(0x0A0B_0C0F, 2, 0x52), no_sample(2)];
+    assert_eq!(Library.tick(&mut net, &next.concat()), DONE);
+    assert!(latched(&net, &next));
+    assert_eq!(send(&mut net, &written(0, 3, &[0x03])).1, [0x11, 2, 0, 0, 0, 0x52, 0x65]);
+}
+
+#[test]
+fn cut_tick_leaves_the_integral_and_sets_byte_100() {
     let mut net = vec![0x99; NET_LEN];
     assert_eq!(Library.setup(&mut net, &[0]), DONE);
-    assert_eq!(Library.servo_sample(&mut net, 0, 0, 1, 0), DONE);
-    assert_eq!(Library.tick(&mut net), DONE);
+    assert_eq!(Library.tick(&mut net, &servo_sample(0, 1, 0)), DONE);
     // Kp 256, Ki 256, IL 100, OL 9, EL 16,383; Clear Bits; Stop Here at 20
     send(&mut net, &written(0, 6, &[0, 1, 0, 0, 0, 1, 100, 0, 9, 0, 0xFF, 0x3F, 1, 0, 1]));
     send(&mut net, &written(0, 11, &[]));
     send(&mut net, &written(0, 7, &[0x10, 20, 0, 0, 0]));
     let mut expected = net[slot(0)..slot(1)].to_vec();
     // 20 + 20 to put out
-    assert_eq!(Library.tick(&mut net), DONE);
-    (expected[91], expected[100], expected[106]) = (20, 9, 1);
+    assert_eq!(Library.tick(&mut net, &servo_sample(0, 1, 0)), DONE);
+    (expected[85], expected[94], expected[100]) = (20, 9, 1);
     assert_eq!(net[slot(0)..slot(1)], expected, "cut: previous error, output, cut bit");
     // at 18 there are 2 + 2
-    assert_eq!(Library.servo_sample(&mut net, 0, 18, 1, 0), DONE);
-    assert_eq!(Library.tick(&mut net), DONE);
-    (expected[8], expected[14]) = (18, 18);
-    (expected[87], expected[91], expected[100], expected[106]) = (2, 2, 4, 0);
+    assert_eq!(Library.tick(&mut net, &servo_sample(18, 1, 0)), DONE);
+    expected[10] = 18;
+    (expected[81], expected[85], expected[94], expected[100]) = (2, 2, 4, 0);
     assert_eq!(net[slot(0)..slot(1)], expected, "not cut: the integral, too");
 }
 
@@ -264,7 +375,7 @@ fn stored_where_no_reply_shows_it() {
     let mut net = network(1);
     send(&mut net, &written(0, 8, &[0x33]));
     send(&mut net, &written(0xFF, 10, &[0x0A]));
-    assert_eq!((net[slot(0) + 36], net[slot(0) + 7]), (0x33, 0x0A));
+    assert_eq!((net[slot(0) + 27], net[slot(0) + 7]), (0x33, 0x0A));
     let before = net[slot(0)..slot(0) + IO_LEN].to_vec();
     assert_eq!(send(&mut net, &written(0, 10, &[0x3F])).1, [2, 2]);
     let mut expected = before;

@@ -59,6 +59,8 @@ fn branches_are_reached() {
     often_reached(Branch::StopSetsAmplifierAtLow, Branch::EnableBackFromHigh);
     // ticks that are cut, and those that nearly are
     often_reached(Branch::CutAbove, Branch::UncutAfterCut);
+    // each refusal of a tick's list, each that hides a later one, and what a good list may hold
+    often_reached(Branch::TickDone, Branch::SamplesOfIosDiffer);
 }
 
 /// Branches that stand together in the table, from one to another.
@@ -145,8 +147,11 @@ fn calls_give_every_number(seen: &Seen) {
     for number in [DONE, UNDAMAGED, DAMAGED, BAD_CHAIN, BAD_TYPE, BAD_PLACE, BAD_FIELD, SHORT_ROOM, BAD_RECORD] {
         assert!(seen.numbers[number as usize] > 100, "number {number}");
     }
-    for number in [BAD_FRAME, BAD_LENGTH, BAD_SUM] {
+    for number in [BAD_FRAME, BAD_LENGTH, BAD_SUM, BAD_LIST] {
         assert!(seen.numbers[number as usize] > 100, "number {number}");
     }
     assert!(seen.damaged_records_taken > 1000 && seen.damaged_records - seen.damaged_records_taken > 1000);
+    for (name, times) in &seen.damaged_records_and_lists {
+        assert!(*times > 100, "{name}: {times}");
+    }
 }

@@ -3,8 +3,8 @@
 use doljurven_tests::calls::*;
 use doljurven_tests::capi::Library;
 use doljurven_tests::histories;
-use doljurven_tests::record::{slot, CAUSE, COUNT, FILL, ITEMS, SLOTS, SLOT_LEN};
-use doljurven_tests::slips::{Slip, ALL};
+use doljurven_tests::record::{latched, slot, CAUSE, COUNT, FILL, ITEMS, LATCHED, SLOTS, SLOT_LEN};
+use doljurven_tests::slips::{Slip, CALLS};
 
 const SEED: u64 = 0x0511_0000;
 const SESSIONS: usize = 800;
@@ -16,9 +16,9 @@ fn without_a_slip_the_short_run_passes() {
 
 #[test]
 fn every_slip_is_noticed() {
-    assert!(ALL.len() >= 100);
+    assert!(CALLS.len() >= 100);
     let mut missed = Vec::new();
-    for (slip, words) in ALL {
+    for (slip, words) in CALLS {
         match histories::run(&Library, *slip, SEED, SESSIONS) {
             Err(told) => println!("{slip:?} ({words}): {}", told.lines().next().unwrap_or("")),
             Ok(_) => missed.push(words),
@@ -42,8 +42,12 @@ enum Spoil {
     RefusedLength,
     RefusedRoom,
     RefusedRecord,
-    RefusedSampleStored,
-    RefusedServoSampleStored,
+    RefusedLengthLatched,
+    RefusedTypeLatched,
+    RefusedFieldLatched,
+    TickAtUnusedByte,
+    FirstSampleForAll,
+    LastSampleOfTickBefore,
     OutputsSign,
     SetupLeavesUnusedBytes,
     OutputsOfPlaceZero,
@@ -58,7 +62,7 @@ enum Spoil {
     WriterBehindFrame,
 }
 
-const SPOILS: [Spoil; 23] = [
+const SPOILS: [Spoil; 27] = [
     Spoil::RoomBehindReplies,
     Spoil::OneByteMoreReported,
     Spoil::LastReplyByte,
@@ -68,8 +72,12 @@ const SPOILS: [Spoil; 23] = [
     Spoil::RefusedLength,
     Spoil::RefusedRoom,
     Spoil::RefusedRecord,
-    Spoil::RefusedSampleStored,
-    Spoil::RefusedServoSampleStored,
+    Spoil::RefusedLengthLatched,
+    Spoil::RefusedTypeLatched,
+    Spoil::RefusedFieldLatched,
+    Spoil::TickAtUnusedByte,
+    Spoil::FirstSampleForAll,
+    Spoil::LastSampleOfTickBefore,
     Spoil::OutputsSign,
     Spoil::SetupLeavesUnusedBytes,
     Spoil::OutputsOfPlaceZero,
@@ -87,6 +95,28 @@ const SPOILS: [Spoil; 23] = [
 /// Beyond what a module of any type uses of slot 0.
 const UNUSED: usize = SLOTS + SLOT_LEN - 8;
 const LAST: usize = NET_LEN - 1;
+
+impl Spoiled {
+    /// What the library's tick is told that the board has measured.
+    fn handed_over(&self, net: &[u8], samples: &[u8]) -> Vec<u8> {
+        let mut list = samples.to_vec();
+        let chain = list.len() / SAMPLE_LEN;
+        if net.len() != NET_LEN || !(1..=MOST_MODULES).contains(&chain) {
+            return list;
+        }
+        let (first, last) = (samples[..SAMPLE_LEN].to_vec(), &net[slot(chain - 1)..slot(chain)]);
+        for (place, sample) in list.chunks_exact_mut(SAMPLE_LEN).enumerate() {
+            match self.0 {
+                Spoil::FirstSampleForAll if sample[0] == first[0] => sample.copy_from_slice(&first),
+                Spoil::LastSampleOfTickBefore if place == chain - 1 && sample[0] == last[0] => {
+                    sample.copy_from_slice(&latched(last));
+                }
+                _ => {}
+            }
+        }
+        list
+    }
+}
 
 impl Calls for Spoiled {
     fn setup(&self, net: &mut [u8], types: &[u8]) -> u32 {
@@ -116,24 +146,18 @@ impl Calls for Spoiled {
         number
     }
 
-    fn io_sample(&self, net: &mut [u8], place: u32, inputs: u32, ad: [u8; 3], counter: u32) -> u32 {
-        let number = Library.io_sample(net, place, inputs, ad, counter);
-        if number == BAD_FIELD && self.0 == Spoil::RefusedSampleStored {
-            net[20 + 10] ^= 1;
+    fn tick(&self, net: &mut [u8], samples: &[u8]) -> u32 {
+        let number = Library.tick(net, &self.handed_over(net, samples));
+        // of the raw count, or an A/D byte
+        let measured = slot(0) + LATCHED + 3;
+        match (self.0, number) {
+            (Spoil::RefusedLengthLatched, BAD_LIST) => net[measured] ^= 1,
+            (Spoil::RefusedTypeLatched, BAD_PLACE) => net[measured] ^= 1,
+            (Spoil::RefusedFieldLatched, BAD_FIELD) => net[measured] ^= 1,
+            (Spoil::TickAtUnusedByte, DONE) => net[UNUSED] ^= 1,
+            _ => {}
         }
         number
-    }
-
-    fn servo_sample(&self, net: &mut [u8], place: u32, raw: u32, power: u32, ad: u8) -> u32 {
-        let number = Library.servo_sample(net, place, raw, power, ad);
-        if number == BAD_FIELD && self.0 == Spoil::RefusedServoSampleStored {
-            net[20 + 8] ^= 1;
-        }
-        number
-    }
-
-    fn tick(&self, net: &mut [u8]) -> u32 {
-        Library.tick(net)
     }
 
     fn outputs(&self, net: &[u8], place: u32, outputs: &mut [u8; 8]) -> u32 {

@@ -13,6 +13,8 @@ const ONE: i32 = 65_536;
 struct Servo {
     calls: &'static dyn Calls,
     net: Vec<u8>,
+    /// What the board has measured last, and hands over at each tick.
+    sample: Sample,
 }
 
 #[derive(Clone, Copy)]
@@ -32,7 +34,7 @@ impl Servo {
     fn at_power_up(calls: &'static dyn Calls) -> Servo {
         let mut net = vec![0x99; NET_LEN];
         assert_eq!(calls.setup(&mut net, &[0]), DONE);
-        Servo { calls, net }
+        Servo { calls, net, sample: no_sample(0) }
     }
 
     /// Power good, the motor at 0, error bit clear.
@@ -49,12 +51,21 @@ impl Servo {
         servo
     }
 
-    fn measures(&mut self, raw: i32, power: u32) {
-        assert_eq!(self.calls.servo_sample(&mut self.net, 0, raw as u32, power, 0), DONE);
+    fn measures(&mut self, raw: i32, power: u8) {
+        self.sample = servo_sample(raw as u32, power, 0);
     }
 
     fn tick(&mut self) {
-        assert_eq!(self.calls.tick(&mut self.net), DONE);
+        assert_eq!(self.calls.tick(&mut self.net, &self.sample), DONE);
+    }
+
+    /// A tick with a sample that is not taken: nothing comes of it.
+    fn refused_tick(&mut self) {
+        let before = self.net.clone();
+        for list in [&servo_sample(0, 3, 0)[..], &io_sample(0, [0; 3], 0), &[]] {
+            assert_ne!(self.calls.tick(&mut self.net, list), DONE);
+            assert_eq!(self.net, before);
+        }
     }
 
     /// Sends a frame; gives the status byte.
@@ -147,7 +158,7 @@ impl Servo {
     }
 
     /// A tick with the motor at 0; gives what is driven.
-    fn at_power(&mut self, power: u32) -> (i32, bool) {
+    fn at_power(&mut self, power: u8) -> (i32, bool) {
         self.measures(0, power);
         self.tick();
         self.drives()
@@ -279,8 +290,9 @@ fn filter_sees_the_new_setpoint_and_the_new_position() {
     assert_eq!(servo.output(), 0);
     servo.tick();
     assert_eq!(servo.output(), 2, "the first tick moves");
+    servo.refused_tick();
+    assert_eq!(servo.output(), 2, "a refused tick is none");
     servo.measures(10, 1);
-    assert_eq!(servo.output(), 2, "a sample waits");
     servo.tick();
     assert_eq!(servo.output(), -4, "setpoint 6, position 10");
 }
@@ -574,7 +586,7 @@ fn cut_bit_stays_between_ticks() {
         ("Start in velocity mode", &waiting_start),
         ("a start of a trapezoid", &loads(0x97, &[5, ONE, ONE])),
         ("Define Status", &|servo| servo.does(2, &[0])),
-        ("a sample", &|servo| servo.measures(0, 2)),
+        ("a refused tick", &Servo::refused_tick),
     ];
     for (name, way) in ways {
         let mut servo = Servo::cut();
@@ -792,13 +804,15 @@ fn low_power_turns_off_and_leaves_the_amplifier_bit() {
     servo.pwm(50);
     servo.tick();
     assert_eq!(servo.drives(), (50, true));
+    servo.refused_tick();
+    assert_eq!(servo.drives(), (50, true), "a refused tick is none");
     servo.measures(0, 0);
-    assert_eq!(servo.drives(), (50, true), "a sample waits");
     servo.tick();
     assert_eq!(servo.drives(), (0, false));
     assert_eq!(servo.net[slot(0) + at::AMPLIFIER], 1);
-    servo.measures(0, 1);
+    servo.refused_tick();
     assert_eq!(servo.drives(), (0, false), "the latched power counts");
+    servo.measures(0, 1);
     servo.tick();
     assert_eq!(servo.drives(), (0, true), "the line comes back with power, PWM does not");
     assert_eq!(servo.sends(14, &[]), 0x09, "and no error bit");
@@ -873,10 +887,10 @@ impl Doing {
 }
 
 /// Powers between one tick at power 1 and the next.
-const DIPS: [&[u32]; 9] = [&[0], &[2], &[0, 0], &[2, 2], &[0, 2], &[2, 0], &[0, 2, 0], &[0; 40], &[2; 40]];
+const DIPS: [&[u8]; 9] = [&[0], &[2], &[0, 0], &[2, 2], &[0, 2], &[2, 0], &[0, 2, 0], &[0; 40], &[2; 40]];
 
 /// Every dip, whatever the servo does, with the amplifier bit set and clear.
-fn for_every_dip(check: impl Fn(Doing, bool, &[u32])) {
+fn for_every_dip(check: impl Fn(Doing, bool, &[u8])) {
     for doing in ALL_DOINGS {
         for amplifier in [false, true] {
             for dip in DIPS {
@@ -952,7 +966,7 @@ fn waiting_load_survives_a_dip_and_start_starts_it() {
 }
 
 /// The enable line after a dip to this power in which a frame came.
-fn enabled_after(amplifier: bool, power: u32, frame: impl Fn(&mut Servo)) -> bool {
+fn enabled_after(amplifier: bool, power: u8, frame: impl Fn(&mut Servo)) -> bool {
     let mut servo = Doing::Pwm.begun(amplifier);
     assert_eq!(servo.at_power(1), (-50, amplifier));
     servo.at_power(power);

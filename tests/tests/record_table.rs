@@ -1,5 +1,5 @@
-//! The tables of docs/RECORD.md beside the constants of the sources: where each field of the record begins, and how
-//! long its parts are. `DOLJURVEN_CRATES` names another folder of crates than the project's.
+//! The tables of docs/RECORD.md beside the constants of the sources: where each field of the record and of a tick's list
+//! begins, and how long its parts are. `DOLJURVEN_CRATES` names another folder of crates than the project's.
 
 use std::collections::BTreeMap;
 use std::path::{Path, PathBuf};
@@ -15,21 +15,28 @@ const NETWORK: &[&str] = &["net_rules", "module_rules"];
 const STATION: &[&str] = &["module_rules"];
 const INOUT: &[&str] = &["inout_slot_rules", "module_rules"];
 const SERVO: &[&str] = &["servo_slot_rules", "module_rules"];
+const SAMPLE: &[&str] = &["module_rules", "servo_slot_rules"];
 
-const SECTIONS: [Section; 8] = [
+const SECTIONS: [Section; 9] = [
     Section { heading: "# The lent network record", crates: NETWORK },
     Section { heading: "## Receiver and slots", crates: NETWORK },
     Section { heading: "## Every slot", crates: STATION },
     Section { heading: "## Slot of an I/O module (type 2)", crates: INOUT },
     Section { heading: "## Slot of a servo (type 0)", crates: SERVO },
+    Section { heading: "## A sample in a tick's list", crates: SAMPLE },
     Section { heading: "## The list for refusal 16", crates: NETWORK },
     Section { heading: "### Lines of an I/O slot", crates: INOUT },
     Section { heading: "### Lines of a servo's slot", crates: SERVO },
 ];
 
 /// The sections that have a table of bytes, and where its first row begins and its last one ends.
-const TABLES: [(usize, &str, &str); 4] =
-    [(1, "0", "NET_LEN"), (2, "0", "OWN_AT"), (3, "OWN_AT", "SLOT_LEN"), (4, "OWN_AT", "SLOT_LEN")];
+const TABLES: [(usize, &str, &str); 5] = [
+    (1, "0", "NET_LEN"),
+    (2, "0", "OWN_AT"),
+    (3, "OWN_AT", "SLOT_LEN"),
+    (4, "OWN_AT", "SLOT_LEN"),
+    (5, "0", "SAMPLE_LEN"),
+];
 
 fn project() -> PathBuf {
     Path::new(env!("CARGO_MANIFEST_DIR")).join("..")
@@ -205,6 +212,7 @@ fn header_has_the_lengths_of_the_sources() {
         ("NMC_ROOM_LEN", "ROOM_LEN"),
         ("NMC_MOST_MODULES", "CHAIN_MOST"),
         ("NMC_REPLY_LEN", "REPLY_LEN"),
+        ("NMC_SAMPLE_LEN", "SAMPLE_LEN"),
     ] {
         assert_eq!(defined(&header, name), sources.value(NETWORK, constant), "{name}");
     }
@@ -239,7 +247,7 @@ fn every_constant_of_the_document_is_there_with_its_number() {
             }
         }
     }
-    for name in ["NET_LEN", "CHAIN_MOST", "SLOT_LEN", "OWN_AT", "RECEIVER_LEN"] {
+    for name in ["NET_LEN", "CHAIN_MOST", "SLOT_LEN", "OWN_AT", "RECEIVER_LEN", "SAMPLE_LEN"] {
         assert!(with_number.contains(&name), "the document does not say how much {name} is");
     }
 }

@@ -16,14 +16,8 @@ fn network(modules: usize) -> Vec<u8> {
 fn chain(types: &[u8]) -> Vec<u8> {
     let mut net = vec![JUNK; NET_LEN];
     assert_eq!(Library.setup(&mut net, types), DONE);
-    for (place, module_type) in (0..).zip(types) {
-        let number = match module_type {
-            0 => Library.servo_sample(&mut net, place, 0x1234_5678, 1, 0x5A),
-            _ => Library.io_sample(&mut net, place, 0xA5C, [1, 2, 3], 0x1234_5678),
-        };
-        assert_eq!(number, DONE);
-    }
-    assert_eq!(Library.tick(&mut net), DONE);
+    let latched = list_of(types, servo_sample(0x1234_5678, 1, 0x5A), io_sample(0xA5C, [1, 2, 3], 0x1234_5678));
+    assert_eq!(tick_call(&mut net, &latched), DONE);
     for byte in &frame_bytes(0, 1, &[1, 0xFF])[..4] {
         assert_eq!(byte_call(&mut net, 0, *byte, ROOM_LEN), DONE);
     }
@@ -44,27 +38,33 @@ fn byte_call(net: &mut [u8], mark: u32, byte: u8, room_len: usize) -> u32 {
     number
 }
 
-fn sample_call(net: &mut [u8], place: u32, inputs: u32) -> u32 {
-    let before = net.to_vec();
-    let number = Library.io_sample(net, place, inputs, [9, 8, 7], 0x0BAD_CAFE);
-    assert_eq!(number != DONE, net == before, "number {number}");
-    number
+/// A tick's list for a chain of these types, where all of one type measure the same.
+fn list_of(types: &[u8], servo: Sample, io: Sample) -> Vec<u8> {
+    types.iter().flat_map(|module_type| if *module_type == 0 { servo } else { io }).collect()
 }
 
-fn servo_sample_call(net: &mut [u8], place: u32, power: u32) -> u32 {
-    let before = net.to_vec();
-    let number = Library.servo_sample(net, place, 0x0BAD_CAFE, power, 0x77);
-    assert_eq!(number != DONE, net == before, "number {number}");
-    number
+/// A list by which everything that is latched changes.
+fn list(types: &[u8]) -> Vec<u8> {
+    list_of(types, servo_sample(0x0BAD_CAFE, 2, 0x77), io_sample(0x3A5, [9, 8, 7], 0x0BAD_CAFE))
 }
 
-fn tick_call(net: &mut [u8]) -> u32 {
+/// A tick whose list stays what it is, and whose record does if it is refused.
+fn tick_call(net: &mut [u8], list: &[u8]) -> u32 {
     let before = net.to_vec();
-    let number = Library.tick(net);
+    let lent = list.to_vec();
+    let number = Library.tick(net, &lent);
+    assert_eq!(lent, list, "number {number}: the list changed");
     if number != DONE {
-        assert_eq!(net, before, "a refused tick changed the record");
+        assert_eq!(net, before, "refusal {number} changed the record");
     }
     number
+}
+
+/// The list that a record asks for, all modules without power and inputs.
+fn nothing_measured(net: &[u8]) -> Vec<u8> {
+    let chain = net.get(COUNT).copied().unwrap_or(1);
+    let type_at = |place| net.get(slot(place)).copied().unwrap_or(0);
+    (0..chain.into()).flat_map(|place| no_sample(type_at(place))).collect()
 }
 
 fn outputs_call(net: &[u8], place: u32) -> u32 {
@@ -120,12 +120,7 @@ fn read_call(module_type: u32, items: u8, reply: &[u8]) -> u32 {
 /// Every call that looks at the record, with arguments that are refused for nothing else.
 fn every_call_says(net: &[u8], number: u32) {
     assert_eq!(byte_call(&mut net.to_vec(), 0, 0, ROOM_LEN), number);
-    if net.get(slot(0)) == Some(&0) {
-        assert_eq!(servo_sample_call(&mut net.to_vec(), 0, 0), number);
-    } else {
-        assert_eq!(sample_call(&mut net.to_vec(), 0, 0), number);
-    }
-    assert_eq!(tick_call(&mut net.to_vec()), number);
+    assert_eq!(tick_call(&mut net.to_vec(), &nothing_measured(net)), number);
     assert_eq!(outputs_call(net, 0), number);
     assert_eq!(cause_call(net, 0), number);
 }
@@ -184,7 +179,7 @@ fn record_with_more_of_a_frame_than_its_command_asks() {
             let ends = fill == 3 + count;
             assert_eq!(number == DONE, !ends, "fill {fill} of count {count}");
             assert!(number <= DAMAGED);
-            assert_eq!(tick_call(&mut net.clone()), DONE);
+            assert_eq!(tick_call(&mut net.clone(), &nothing_measured(&net)), DONE);
         }
         for fill in [4 + count, 19, 20, 128, 255] {
             net[FILL] = fill;
@@ -282,7 +277,7 @@ impl Slot {
     fn new(mode: u8) -> Slot {
         let mut slot = Slot([0; SLOT_LEN]);
         slot.0[2] = 0xFF;
-        slot.0[at::LATCHED + 4] = 1;
+        slot.0[at::POWER] = 1;
         slot.0[at::MODE] = mode;
         slot.four(at::ACCELERATION, 1).four(at::RUNNING_ACCELERATION, 2).four(at::TOP, 10)
     }
@@ -314,7 +309,7 @@ impl Slot {
         for place in [0, 2] {
             let mut net = net.clone();
             net[slot(place)..slot(place + 1)].copy_from_slice(&self.0);
-            let told = tick_call(&mut net.clone());
+            let told = tick_call(&mut net.clone(), &list(&[0, 2, 0]));
             assert_eq!(told, number, "{words}, mode {}", self.0[at::MODE]);
             every_call_says(&net, number);
         }
@@ -342,7 +337,7 @@ fn servo_record_with_bytes_out_of_range() {
             slot.clone().one(at, value).judged(number, &format!("flag at {at} is {value}"));
         }
     }
-    for (at, most) in [(CAUSE, 5), (at::WAITING + 4, 2), (at::LATCHED + 4, 2), (at::WAY, 2), (at::MODE, 4)] {
+    for (at, most) in [(CAUSE, 5), (at::POWER, 2), (at::WAY, 2), (at::MODE, 4)] {
         for value in 0..=most {
             off.clone().one(at, value).passes(&format!("byte at {at} is {value}"));
         }
@@ -417,8 +412,8 @@ fn servo_record_against_its_mode() {
         let slot = Slot::new(mode);
         slot.passes("at rest");
         slot.clone().one(at::ERROR, 1).breaks("runs with the error bit set");
-        slot.clone().one(at::LATCHED + 4, 0).breaks("runs at power 0");
-        let high = slot.clone().one(at::LATCHED + 4, 2);
+        slot.clone().one(at::POWER, 0).breaks("runs at power 0");
+        let high = slot.clone().one(at::POWER, 2);
         high.passes("runs at power 2");
         slot.clone().four(at::OUTPUT, 1).passes("drives at power 1");
         high.clone().four(at::OUTPUT, 1).breaks("drives at power 2");
@@ -426,8 +421,8 @@ fn servo_record_against_its_mode() {
         slot.clone().one(at::AMPLIFIER, 1).passes("amplifier bit");
     }
     for power in [0, 2] {
-        Slot::new(OFF).one(at::LATCHED + 4, power).one(at::ERROR, 1).one(at::AMPLIFIER, 1).passes("off");
-        Slot::new(OFF).one(at::LATCHED + 4, power).four(at::OUTPUT, 1).breaks("off, but drives");
+        Slot::new(OFF).one(at::POWER, power).one(at::ERROR, 1).one(at::AMPLIFIER, 1).passes("off");
+        Slot::new(OFF).one(at::POWER, power).four(at::OUTPUT, 1).breaks("off, but drives");
     }
 }
 
@@ -435,7 +430,7 @@ fn servo_record_against_its_mode() {
 fn servo_record_with_the_cut_bit_where_no_filter_runs() {
     for mode in [OFF, PWM, HOLDING, VELOCITY, TRAPEZOID] {
         for power in if mode == OFF { vec![0, 1, 2] } else { vec![1, 2] } {
-            let slot = Slot::new(mode).one(at::LATCHED + 4, power);
+            let slot = Slot::new(mode).one(at::POWER, power);
             let number = if SERVO_ON.contains(&mode) { DONE } else { BAD_RECORD };
             slot.clone().one(at::CUT, 0).passes(&format!("not cut, power {power}"));
             slot.clone().one(at::CUT, 1).judged(number, &format!("cut, power {power}"));
@@ -513,8 +508,8 @@ fn servo_record_with_a_goal_half_the_range_away() {
 
 #[test]
 fn servo_record_bytes_that_may_be_anything() {
-    let bytes = [1, 2, 6, 7, at::OL, at::CL, at::SM, at::LOAD_PWM, at::WAITING + 5, at::LATCHED + 5];
-    let fours = [at::WAITING, at::LATCHED, at::OFFSET, at::LAST_POSITION, at::LOAD_POSITION, at::GOAL, at::SETPOINT];
+    let bytes = [1, 2, 6, 7, at::OL, at::CL, at::SM, at::LOAD_PWM, at::AD];
+    let fours = [at::RAW, at::OFFSET, at::LAST_POSITION, at::LOAD_POSITION, at::GOAL, at::SETPOINT];
     let all = fours.into_iter().flat_map(|at| at..at + 4).chain(bytes).chain([at::SETPOINT + 4, at::SETPOINT + 5]);
     for at in all.chain(at::CUT + 1..SLOT_LEN) {
         Slot::new(OFF).one(at, 0xFF).passes(&format!("byte at {at}"));
@@ -565,43 +560,14 @@ fn unknown_types() {
 #[test]
 fn place_beyond_the_chain() {
     for modules in [1, 3, 32] {
-        let mut net = network(modules);
+        let net = network(modules);
         let last = modules as u32 - 1;
-        assert_eq!(sample_call(&mut net, last, 0), DONE);
         assert_eq!(outputs_call(&net, last), DONE);
         assert_eq!(cause_call(&net, last), DONE);
         for place in [last + 1, last + 2, 33, 255, 256, 1 << 16, u32::MAX - 1, u32::MAX] {
-            assert_eq!(sample_call(&mut net, place, 0), BAD_PLACE, "place {place}");
             assert_eq!(outputs_call(&net, place), BAD_PLACE, "place {place}");
             assert_eq!(cause_call(&net, place), BAD_PLACE, "place {place}");
         }
-    }
-}
-
-#[test]
-fn sample_for_the_other_type() {
-    let mut net = chain(&[0, 2, 0]);
-    for place in [0, 2] {
-        assert_eq!(sample_call(&mut net, place, 0), BAD_PLACE, "an I/O sample for the servo at {place}");
-        assert_eq!(servo_sample_call(&mut net, place, 2), DONE);
-    }
-    assert_eq!(servo_sample_call(&mut net, 1, 1), BAD_PLACE, "a servo sample for the I/O module");
-    assert_eq!(sample_call(&mut net, 1, 0), DONE);
-    for place in [3, 4, 33, 256, u32::MAX] {
-        assert_eq!(servo_sample_call(&mut net, place, 1), BAD_PLACE, "place {place}");
-        assert_eq!(outputs_call(&net, place), BAD_PLACE, "place {place}");
-        assert_eq!(cause_call(&net, place), BAD_PLACE, "place {place}");
-    }
-}
-
-#[test]
-fn power_other_than_low_good_or_high() {
-    let mut net = chain(&[2, 0]);
-    for power in [3, 4, 255, 256, 257, 1 << 16, u32::MAX] {
-        assert_eq!(servo_sample_call(&mut net, 1, power), BAD_FIELD, "power {power}");
-    }
-    for power in [0, 1, 2] {
-        assert_eq!(servo_sample_call(&mut net, 1, power), DONE, "power {power}");
     }
 }
 
@@ -616,16 +582,6 @@ fn mark_other_than_none_or_one() {
 }
 
 #[test]
-fn inputs_of_more_than_twelve_bits() {
-    let mut net = network(2);
-    for inputs in [4096, 4097, 0x1FFF, 0x8000, 0xFFFF, 0x1_0000, u32::MAX] {
-        assert_eq!(sample_call(&mut net, 1, inputs), BAD_FIELD, "inputs {inputs}");
-    }
-    assert_eq!(sample_call(&mut net, 1, 4095), DONE);
-    assert_eq!(sample_call(&mut net, 1, 0), DONE);
-}
-
-#[test]
 fn room_too_short_for_every_reply() {
     let mut net = network(1);
     for room_len in [0, 1, 2, REPLY_LEN, ROOM_LEN - 1] {
@@ -633,6 +589,138 @@ fn room_too_short_for_every_reply() {
     }
     assert_eq!(byte_call(&mut net.clone(), 0, 0x55, ROOM_LEN), DONE);
     assert_eq!(byte_call(&mut net, 0, 0x55, ROOM_LEN + 1), DONE);
+}
+
+// ---------------------------------------------------------------- 20, 13, 14 by a tick's list
+
+/// Servos and I/O modules, so that each stands at an end and beside its like and the other.
+const MIXED: [u8; 6] = [0, 0, 2, 2, 0, 2];
+
+/// Bytes of a sample: its type; a servo's power, which is the lower byte of an I/O module's inputs; their upper byte.
+const TYPE: usize = 0;
+const POWER: usize = 1;
+const INPUTS_HIGH: usize = 2;
+
+/// A list with one byte of one place changed.
+fn with(list: &[u8], place: usize, at: usize, value: u8) -> Vec<u8> {
+    let mut changed = list.to_vec();
+    changed[SAMPLE_LEN * place + at] = value;
+    changed
+}
+
+/// A list whose sample at a place has a field out of range.
+fn with_bad_field(list: &[u8], types: &[u8], place: usize) -> Vec<u8> {
+    if types[place] == 0 {
+        with(list, place, POWER, 3)
+    } else {
+        with(list, place, INPUTS_HIGH, 0x10)
+    }
+}
+
+#[test]
+fn list_of_another_length() {
+    for types in [&[0][..], &[2], &[0, 2], &MIXED, &[0; 32], &[2; 32]] {
+        let net = chain(types);
+        let good = list(types);
+        let right = good.len();
+        assert_eq!(tick_call(&mut net.clone(), &good), DONE);
+        let one_less = right - SAMPLE_LEN;
+        let shorter = [0, 1, 9, one_less, one_less + 1, right - 2, right - 1];
+        let longer = [right + 1, right + 9, right + SAMPLE_LEN, 2 * right, right + 256, right + 65_536];
+        for length in shorter.into_iter().filter(|length| *length < right).chain(longer) {
+            // what is there is good throughout
+            let other: Vec<u8> = good.iter().copied().cycle().take(length).collect();
+            assert_eq!(tick_call(&mut net.clone(), &other), BAD_LIST, "{length} bytes for {} places", types.len());
+        }
+    }
+}
+
+#[test]
+fn list_with_a_sample_of_another_type() {
+    let net = chain(&MIXED);
+    let good = list(&MIXED);
+    for (place, own) in MIXED.into_iter().enumerate() {
+        for byte in 0..=255 {
+            let number = if byte == own { DONE } else { BAD_PLACE };
+            assert_eq!(tick_call(&mut net.clone(), &with(&good, place, TYPE, byte)), number, "type {byte} at {place}");
+        }
+        // all that belongs to the other type, too
+        let mut other = good.clone();
+        other[SAMPLE_LEN * place..SAMPLE_LEN * (place + 1)].copy_from_slice(&list(&[2 - own]));
+        assert_eq!(tick_call(&mut net.clone(), &other), BAD_PLACE, "a sample of the other type at {place}");
+    }
+    let mut reversed = MIXED;
+    reversed.reverse();
+    assert_eq!(tick_call(&mut net.clone(), &list(&reversed)), BAD_PLACE, "the last place first");
+}
+
+#[test]
+fn list_with_a_field_out_of_range() {
+    let net = chain(&MIXED);
+    let good = list(&MIXED);
+    for (place, own) in MIXED.into_iter().enumerate() {
+        for byte in 0..=255 {
+            let told = format!("byte {byte} at {place}");
+            let lower = if own == 2 || byte <= 2 { DONE } else { BAD_FIELD };
+            assert_eq!(tick_call(&mut net.clone(), &with(&good, place, POWER, byte)), lower, "{told}");
+            let upper = if own == 0 || byte <= 15 { DONE } else { BAD_FIELD };
+            assert_eq!(tick_call(&mut net.clone(), &with(&good, place, INPUTS_HIGH, byte)), upper, "{told}");
+        }
+        for at in INPUTS_HIGH + 1..SAMPLE_LEN {
+            assert_eq!(tick_call(&mut net.clone(), &with(&good, place, at, 0xFF)), DONE, "byte {at} at {place}");
+        }
+    }
+    for (inputs, number) in [(0, DONE), (4095, DONE), (4096, BAD_FIELD), (4097, BAD_FIELD), (65_535, BAD_FIELD)] {
+        assert_eq!(tick_call(&mut network(1), &io_sample(inputs, [0; 3], 0)), number, "inputs {inputs}");
+    }
+}
+
+#[test]
+fn another_type_anywhere_comes_before_a_field_anywhere() {
+    let net = chain(&MIXED);
+    let good = list(&MIXED);
+    for field in 0..MIXED.len() {
+        let bad_field = with_bad_field(&good, &MIXED, field);
+        assert_eq!(tick_call(&mut net.clone(), &bad_field), BAD_FIELD, "field at {field}");
+        for of_type in 0..MIXED.len() {
+            for byte in [2 - MIXED[of_type], 7] {
+                let both = with(&bad_field, of_type, TYPE, byte);
+                let told = format!("field at {field}, type {byte} at {of_type}");
+                assert_eq!(tick_call(&mut net.clone(), &both), BAD_PLACE, "{told}");
+            }
+        }
+    }
+}
+
+#[test]
+fn bytes_of_a_list_that_nobody_looks_at() {
+    for types in [&[0][..], &MIXED, &[0; 32]] {
+        let net = chain(types);
+        let good = list(types);
+        let mut expected = net.clone();
+        assert_eq!(tick_call(&mut expected, &good), DONE);
+        for place in (0..types.len()).filter(|place| types[*place] == 0) {
+            for at in 7..SAMPLE_LEN {
+                for byte in [1, 2, 0x80, 0xFF] {
+                    let mut ticked = net.clone();
+                    assert_eq!(tick_call(&mut ticked, &with(&good, place, at, byte)), DONE);
+                    assert_eq!(ticked, expected, "byte {at} at {place} is {byte}");
+                }
+            }
+        }
+    }
+}
+
+#[test]
+fn list_is_for_the_chain_alone() {
+    // what lies behind a shorter chain in the record asks for no sample
+    let mut net = chain(&[0; 32]);
+    net[COUNT] = 3;
+    assert_eq!(tick_call(&mut net.clone(), &list(&[0; 32])), BAD_LIST);
+    let beyond = net[slot(3)..].to_vec();
+    let three = [servo_sample(7, 2, 7), servo_sample(8, 0, 8), servo_sample(9, 1, 9)].concat();
+    assert_eq!(tick_call(&mut net, &three), DONE);
+    assert_eq!(net[slot(3)..], beyond);
 }
 
 // ---------------------------------------------------------------- the host's calls
@@ -726,31 +814,43 @@ fn byte_refusals_in_order() {
 }
 
 #[test]
-fn sample_outputs_and_cause_refusals_in_order() {
-    let mut good = network(2);
-    let mut bad = good.clone();
+fn outputs_and_cause_refusals_in_order() {
+    let mut bad = network(2);
+    assert_eq!(outputs_call(&bad, 2), BAD_PLACE);
+    assert_eq!(cause_call(&bad, 2), BAD_PLACE);
     bad[slot(0) + CAUSE] = 6;
-    assert_eq!(sample_call(&mut bad, 2, 4096), BAD_RECORD);
-    assert_eq!(sample_call(&mut bad, 2, 0), BAD_RECORD);
-    assert_eq!(sample_call(&mut bad, 0, 4096), BAD_RECORD);
     assert_eq!(outputs_call(&bad, 2), BAD_RECORD);
     assert_eq!(cause_call(&bad, 2), BAD_RECORD);
-    assert_eq!(sample_call(&mut good, 2, 4096), BAD_PLACE);
-    assert_eq!(sample_call(&mut good, 0, 4096), BAD_FIELD);
 }
 
 #[test]
-fn servo_sample_refusals_in_order() {
-    let mut good = chain(&[0, 2]);
-    let mut bad = good.clone();
-    bad[slot(1) + CAUSE] = 6;
-    for (place, power) in [(2, 3), (2, 1), (1, 3), (0, 3), (0, 1)] {
-        assert_eq!(servo_sample_call(&mut bad, place, power), BAD_RECORD);
+fn tick_refusals_in_order() {
+    let net = chain(&MIXED);
+    let mut spoiled = net.clone();
+    spoiled[slot(5) + CAUSE] = 6;
+    let good = list(&MIXED);
+    let short = |list: &[u8]| list[..list.len() - 1].to_vec();
+    let field_first = with(&good, 0, POWER, 3);
+    let type_last = with(&good, 5, TYPE, 7);
+    let both = with(&field_first, 5, TYPE, 7);
+    let lists = [
+        (good.clone(), DONE),
+        (Vec::new(), BAD_LIST),
+        (short(&good), BAD_LIST),
+        (short(&type_last), BAD_LIST),
+        (short(&field_first), BAD_LIST),
+        (short(&both), BAD_LIST),
+        (both, BAD_PLACE),
+        (type_last, BAD_PLACE),
+        (field_first, BAD_FIELD),
+    ];
+    for (list, number) in lists {
+        assert_eq!(tick_call(&mut net.clone(), &list), number, "{list:02X?}");
+        assert_eq!(tick_call(&mut spoiled.clone(), &list), BAD_RECORD, "{list:02X?}");
+        let (mut short_record, mut empty_record) = (net[..NET_LEN - 1].to_vec(), Vec::new());
+        assert_eq!(tick_call(&mut short_record, &list), BAD_RECORD, "{list:02X?}");
+        assert_eq!(tick_call(&mut empty_record, &list), BAD_RECORD, "{list:02X?}");
     }
-    assert_eq!(servo_sample_call(&mut good, 2, 3), BAD_PLACE);
-    assert_eq!(servo_sample_call(&mut good, 1, 3), BAD_PLACE);
-    assert_eq!(sample_call(&mut good, 0, 4096), BAD_PLACE);
-    assert_eq!(servo_sample_call(&mut good, 0, 3), BAD_FIELD);
 }
 
 #[test]

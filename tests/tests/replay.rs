@@ -7,7 +7,7 @@ use doljurven_tests::captures::{self, Capture};
 use doljurven_tests::dice::Dice;
 use doljurven_tests::model::{self, frame_bytes};
 use doljurven_tests::record::Model;
-use doljurven_tests::slips::Slip;
+use doljurven_tests::slips::{self, Slip};
 use std::ffi::OsString;
 use std::io::Write;
 use std::path::{Path, PathBuf};
@@ -84,6 +84,18 @@ fn model_prints_what_the_captures_expect() {
         assert_eq!(model::replay(&capture.bytes), capture.printed, "{}", path.display());
     }
     assert!(branches::unreached(REPLAY).is_empty(), "no capture comes to {:?}", branches::unreached(REPLAY));
+}
+
+#[test]
+fn captures_notice_every_slip_of_a_replay() {
+    let captures = all_captures();
+    let noticed =
+        |slip| captures.iter().any(|(_, capture)| model::replay_with(&capture.bytes, slip) != capture.printed);
+    assert!(!noticed(Slip::None));
+    assert!(slips::REPLAY.len() >= 6);
+    for (slip, words) in slips::REPLAY {
+        assert!(noticed(*slip), "no capture notices that {words}");
+    }
 }
 
 /// Those who play captures by the calls.

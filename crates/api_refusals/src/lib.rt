@@ -1,7 +1,7 @@
 // Which refusal a call meets, by its table.
 ghost use mathlib.Core.Path.{_≡_};
 ghost use Rattle.base_layout.specs.First.{first};
-ghost use Rattle.api_rules.specs.Table.{setupTable, byteTable, sampleTable, placeTable};
+ghost use Rattle.api_rules.specs.Table.{setupTable, byteTable, tickTable, placeTable};
 
 pub fn setup_refusal(net: &[u8], types: &[u8]) -> u32
     ensures { λ r. ⌜ r ≡ first (setupTable (now (net .entry)) (now (types .entry))) ⌝ }
@@ -33,17 +33,21 @@ pub fn byte_refusal(net: &[u8], mark: u32, room: &[u8]) -> u32
     0
 }
 
-// A sample for a module of type t at a place; far says that a field is out of range.
-pub fn sample_refusal(net: &[u8], place: u32, t: u8, far: bool) -> u32
-    ensures { λ r. ⌜ r ≡ first (sampleTable t (now (net .entry)) place far) ⌝ }
+// A tick with its list of samples.
+pub fn tick_refusal(net: &[u8], samples: &[u8]) -> u32
+    ensures { λ r. ⌜ r ≡ first (tickTable (now (net .entry)) (now (samples .entry))) ⌝ }
 {
     if !net_record::is_valid(net) {
         return 16;
     }
-    if !net_record::is_of_type(net, place as usize, t) {
+    let n = net_receiver::chain_len(net) as usize;
+    if samples.len() != module_rules::SAMPLE_LEN * n {
+        return 20;
+    }
+    if !net_record::is_typed(net, samples) {
         return 13;
     }
-    if far {
+    if !net_record::is_in_range(samples, n) {
         return 14;
     }
     0

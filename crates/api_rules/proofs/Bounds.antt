@@ -1,5 +1,5 @@
 -- Each line of the tables at its bounds. Assumes nothing.
-use mathlib.Core.Path.{_≡_, refl, sym, ap, ap₂, _∙_}
+use mathlib.Core.Path.{_≡_, refl, ap, ap₂, _∙_}
 use mathlib.Core.List.{List, [], _∷_}
 use mathlib.Core.Bool.{Bool, true, false, not, _&&_, _||_, or-true, and-false}
 use Prim.Native.Nat.{ℕ, zero, suc, _<_, _≤_}
@@ -11,15 +11,14 @@ use Rattle.types_rules.specs.Types.{slots, known}
 use Rattle.types_rules.specs.Promises.{ThereIs}
 use Rattle.types_rules.proofs.Promised.{numbers}
 use Rattle.net_rules.specs.Record.{valid}
-use Rattle.net_rules.specs.Calls.{allKnown, isOf}
-use Rattle.net_rules.proofs.Calls.{type-beyond}
+use Rattle.net_rules.specs.Calls.{allKnown}
 use Rattle.base_layout.specs.First.{Line, first, Given, here, later}
-use Rattle.api_rules.specs.Table.{setupTable, byteTable, servoSampleTable, ioSampleTable, tickTable, placeTable}
-use Rattle.api_rules.specs.TablePromises.{BadRecord, SetupBounds, ByteBounds, ServoBounds, IoBounds, OtherBounds, chainLength}
+use Rattle.api_rules.specs.Table.{setupTable, byteTable, tickTable, placeTable}
+use Rattle.api_rules.specs.TablePromises.{BadRecord, SetupBounds, ByteBounds, OtherBounds, chainLength}
 use Rattle.base_layout.proofs.First.{given-first, none-first}
 
 -- the number that a table gives
-gives : {n : ℕ} (ls : List Line) → Given n ls → first ls ≡ n
+pub gives : {n : ℕ} (ls : List Line) → Given n ls → first ls ≡ n
 gives ls g = given-first g
 
 not-long : (net : List ℕ) → (length net ≡ 4116 → ⊥) → valid slots net ≡ false
@@ -30,9 +29,7 @@ pub bad-record : BadRecord
 bad-record net = record {
   long = not-long net;
   byte = λ mark room v. gives (byteTable net mark room) (here refl (ap not v));
-  servoSample = λ place power v. gives (servoSampleTable net place power) (here refl (ap not v));
-  ioSample = λ place inputs v. gives (ioSampleTable net place inputs) (here refl (ap not v));
-  tick = λ v. gives (tickTable net) (here refl (ap not v));
+  tick = λ samples v. gives (tickTable net samples) (here refl (ap not v));
   place = λ place v. gives (placeTable net place) (here refl (ap not v));
 }
 
@@ -76,25 +73,8 @@ byte-bounds net mark room v = record {
   fifteen = λ h l. gives (byteTable net mark room) (later (ap not v) (later (le-ltb 1 mark h) (here refl (lt-ltb (length room) 608 l))));
 }
 
-pub servo-bounds : ServoBounds
-servo-bounds net place power v = record {
-  done = λ m e h. none-first (servoSampleTable net place power) (ap not v, (ap not (ap (isOf 0) e), (le-ltb 2 power h, tt)));
-  beyond = λ l. gives (servoSampleTable net place power) (later (ap not v) (here refl (ap not (sym (type-beyond net place 0 (λ h. omega arith))))));
-  other = λ m e. gives (servoSampleTable net place power) (later (ap not v) (here refl (ap not (ap (isOf 0) e))));
-  fourteen = λ m e h. gives (servoSampleTable net place power) (later (ap not v) (later (ap not (ap (isOf 0) e)) (here refl (lt-ltb 2 power h))));
-}
-
-pub io-bounds : IoBounds
-io-bounds net place inputs v = record {
-  done = λ m e h. none-first (ioSampleTable net place inputs) (ap not v, (ap not (ap (isOf 2) e), (le-ltb 4095 inputs h, tt)));
-  beyond = λ l. gives (ioSampleTable net place inputs) (later (ap not v) (here refl (ap not (sym (type-beyond net place 2 (λ h. omega arith))))));
-  other = λ m e. gives (ioSampleTable net place inputs) (later (ap not v) (here refl (ap not (ap (isOf 2) e))));
-  fourteen = λ m e h. gives (ioSampleTable net place inputs) (later (ap not v) (later (ap not (ap (isOf 2) e)) (here refl (lt-ltb 4095 inputs h))));
-}
-
 pub other-bounds : OtherBounds
 other-bounds net place v = record {
-  tick = none-first (tickTable net) (ap not v, tt);
   beyond = λ l. gives (placeTable net place) (later (ap not v) (here refl (ap not (le-ltb place (chainLength net) l))));
   below = λ l. none-first (placeTable net place) (ap not v, (ap not (lt-ltb place (chainLength net) l), tt));
 }

@@ -4,6 +4,7 @@ pub mod Refused
 pub mod Numbers
 pub mod Unchanged
 pub mod Kept
+pub mod TickBounds
 pub mod Status
 pub mod Chain
 pub mod Room

@@ -9,15 +9,14 @@ use lib.ListN.{length}
 use lib.Dec.{eqb, ltb}
 use Rattle.base_layout.specs.Bytes.{pasted}
 use Rattle.chain_rules.specs.Chain.{Step, flat}
-use Rattle.types_rules.specs.Types.{Module, AnySample, slots}
+use Rattle.types_rules.specs.Types.{Module, slots}
 use Rattle.net_rules.specs.declared.Called.{Called}
 use Rattle.net_rules.specs.Record.{chainMost, recordSize, roomSize, netIn, stored, valid}
-use Rattle.net_rules.specs.Calls.{byteOf, calledBy, sampleStep}
-use Rattle.net_rules.proofs.Calls.{of-type-below}
+use Rattle.net_rules.specs.Calls.{byteOf, calledBy, listSize, allTyped, allInRange, samplesFor, tickStep}
 use Rattle.base_layout.specs.First.{Line, first}
-use Rattle.api_rules.specs.Table.{setupTable, byteTable, sampleTable, tickTable, placeTable}
+use Rattle.api_rules.specs.Table.{setupTable, byteTable, tickTable, placeTable}
 use Rattle.api_rules.specs.Promises.{Passes}
-use Rattle.api_rules.specs.Calls.{unless, stepOf, sampleRecord, byteNumber, byteRecord, byteRoom, byteWritten}
+use Rattle.api_rules.specs.Calls.{unless, stepOf, tickRecord, byteNumber, byteRecord, byteRoom, byteWritten}
 use Rattle.base_layout.proofs.First.{none-applies}
 
 -- by the number that a refusing function gave
@@ -60,25 +59,35 @@ byte-passes net mark room e =
     let n = none-applies (byteTable net mark room) (omega arith, (omega arith, (omega arith, tt))) e in
     (not-false _ (n .0), ltb-false _ _ (n .1 .1 .0))
 
-pub sample-passes : (t : ℕ) (net : List ℕ) (place : ℕ) (far : Bool) → first (sampleTable t net place far) ≡ 0
-    → (valid slots net ≡ true) × (place < length (netIn slots net .modules)) × (far ≡ false)
-sample-passes t net place far e =
-    let n = none-applies (sampleTable t net place far) (omega arith, (omega arith, (omega arith, tt))) e in
-    (not-false _ (n .0), of-type-below (netIn slots net) place t (not-false _ (n .1 .0)), n .1 .1 .0)
+-- what a tick that is done may use
+pub record Ticks (net samples : List ℕ) : Type 0 where
+  pub valid : valid slots net ≡ true
+  pub long : length samples ≡ listSize (length (netIn slots net .modules))
+  pub typed : allTyped (netIn slots net .modules) samples ≡ true
+  pub ranged : allInRange (length (netIn slots net .modules)) samples ≡ true
 
--- a sample's call, refused and done
-module _ (ls : List Line) (net : List ℕ) (place : ℕ) (x : AnySample) {n : ℕ} (e : n ≡ first ls) where
-  pub sample-refused : (n ≡ 0 → ⊥) → (n ≡ first ls) × (net ≡ sampleRecord ls net place x)
-  unfolding sampleRecord
-  sample-refused h = (e, refused ls net (stored slots (sampleStep place x (netIn slots net)) net) e h)
+pub tick-passes : (net samples : List ℕ) → Passes (tickTable net samples) → Ticks net samples
+tick-passes net samples e =
+    let n = none-applies (tickTable net samples) (omega arith, (omega arith, (omega arith, (omega arith, tt)))) e in
+    record {
+      valid = not-false _ (n .0);
+      long = eqb-true _ _ (not-false _ (n .1 .0));
+      typed = not-false _ (n .1 .1 .0);
+      ranged = not-false _ (n .1 .1 .1 .0);
+    }
 
-  pub sample-done : n ≡ 0 → {net′ : List ℕ} → net′ ≡ stored slots (sampleStep place x (netIn slots net)) net
-      → (0 ≡ first ls) × (net′ ≡ sampleRecord ls net place x)
-  unfolding sampleRecord
-  sample-done z p = (sym z ∙ e, p ∙ done ls net (stored slots (sampleStep place x (netIn slots net)) net) e z)
+-- the tick, refused and done
+module _ (net samples : List ℕ) {n : ℕ} (e : n ≡ first (tickTable net samples)) where
+  abbrev ticks : List ℕ
+  ticks = stored slots (tickStep (samplesFor (netIn slots net) samples) (netIn slots net)) net
 
-pub tick-passes : (net : List ℕ) → Passes (tickTable net) → valid slots net ≡ true
-tick-passes net e = let n = none-applies (tickTable net) (omega arith, tt) e in not-false _ (n .0)
+  pub tick-refused : (n ≡ 0 → ⊥) → (n ≡ first (tickTable net samples)) × (net ≡ tickRecord net samples)
+  unfolding tickRecord
+  tick-refused h = (e, refused (tickTable net samples) net ticks e h)
+
+  pub tick-done : n ≡ 0 → {net′ : List ℕ} → net′ ≡ ticks → (0 ≡ first (tickTable net samples)) × (net′ ≡ tickRecord net samples)
+  unfolding tickRecord
+  tick-done z p = (sym z ∙ e, p ∙ done (tickTable net samples) net ticks e z)
 
 pub place-passes : (net : List ℕ) (place : ℕ) → first (placeTable net place) ≡ 0 → (valid slots net ≡ true) × (place < length (netIn slots net .modules))
 place-passes net place e =

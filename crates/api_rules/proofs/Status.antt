@@ -12,8 +12,8 @@ use Rattle.module_rules.specs.Kind.{Kind, executed, replied}
 use Rattle.module_rules.specs.Rules.{reply, kindOf}
 use Rattle.module_rules.proofs.Speaking.{speaks-before}
 use Rattle.module_rules.proofs.Kept.{preserves}
-use Rattle.types_rules.specs.Table.{ModuleType, Of, rulesOf, slotsOf, GoodOf}
-use Rattle.types_rules.specs.Types.{sizesOf}
+use Rattle.types_rules.specs.Table.{ModuleType, Of, rulesOf, slotsOf}
+use Rattle.types_rules.specs.Types.{sizesOf, GoodOf}
 use Rattle.types_rules.specs.Promises.{ThereIs}
 use Rattle.types_rules.proofs.Owed.{owes}
 use Rattle.types_rules.proofs.Laws.{type-back}

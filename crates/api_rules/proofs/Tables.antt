@@ -7,8 +7,6 @@ pub tables : Tables
 tables = record {
   setup = λ net types. (refl, (omega arith, (omega arith, (omega arith, tt))));
   byte = λ net mark room. (refl, (omega arith, (omega arith, (omega arith, tt))));
-  servoSample = λ net place power. (refl, (omega arith, (omega arith, (omega arith, tt))));
-  ioSample = λ net place inputs. (refl, (omega arith, (omega arith, (omega arith, tt))));
-  tick = λ net. (refl, (omega arith, tt));
+  tick = λ net samples. (refl, (omega arith, (omega arith, (omega arith, (omega arith, tt)))));
   place = λ net place. (refl, (omega arith, (omega arith, tt)));
 }

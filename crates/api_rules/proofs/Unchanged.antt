@@ -17,10 +17,10 @@ use Rattle.chain_rules.specs.Chain.{Net, byteStep}
 use Rattle.chain_rules.proofs.Bytes.{step-on, step-end, number-told}
 use Rattle.types_rules.specs.Types.{Module, kind, slots}
 use Rattle.net_rules.specs.Record.{roomSize, netIn, stored, valid}
-use Rattle.net_rules.specs.Calls.{byteOf, fresh, tickStep, sampleStep, outputsIn, outputsAt, causeIn, causeAt}
+use Rattle.net_rules.specs.Calls.{byteOf, fresh, tickStep, samplesFor, outputsIn, outputsAt, causeIn, causeAt}
 use Rattle.base_layout.specs.First.{Line, first}
-use Rattle.api_rules.specs.Table.{setupTable, byteTable, servoSampleTable, ioSampleTable, tickTable, placeTable}
-use Rattle.api_rules.specs.Calls.{unless, stepOf, servoSampleOf, ioSampleOf, sampleRecord, setupRecord, byteNumber, tickRecord, outputsBytes, causeByte, readingBytes}
+use Rattle.api_rules.specs.Table.{setupTable, byteTable, tickTable, placeTable}
+use Rattle.api_rules.specs.Calls.{unless, stepOf, setupRecord, byteNumber, tickRecord, outputsBytes, causeByte, readingBytes}
 use Rattle.api_rules.specs.Promises.{Refuses, Passes, Unchanged, Answers, OutputsTold, CauseTold, ReadingSpelled, OneOutcome}
 use Rattle.api_rules.specs.TablePromises.{ByteNumbers}
 use Rattle.api_rules.proofs.Refused.{refused, done, byte-refused}
@@ -30,17 +30,13 @@ same : {A : Type 0} (ls : List Line) (x y : A) → Refuses ls → unless ls x y 
 same ls x y h = sym (refused ls x y refl h)
 
 pub unchanged : Unchanged
-unfolding setupRecord sampleRecord tickRecord outputsBytes causeByte
+unfolding setupRecord tickRecord outputsBytes causeByte
 unchanged = record {
   setup = λ net types h. same (setupTable net types) net (fresh types) h;
   byte = λ net mark byte room h.
       let p = byte-refused net mark byte room refl h in
       record { number = sym (p .0); netKept = sym (p .1 .0); roomKept = sym (p .1 .1 .0); written = sym (p .1 .1 .1) };
-  servoSample = λ net place raw power ad h.
-      same (servoSampleTable net place power) net (stored slots (sampleStep place (servoSampleOf raw power ad) (netIn slots net)) net) h;
-  ioSample = λ net place inputs ad1 ad2 ad3 counter h.
-      same (ioSampleTable net place inputs) net (stored slots (sampleStep place (ioSampleOf inputs ad1 ad2 ad3 counter) (netIn slots net)) net) h;
-  tick = λ net h. same (tickTable net) net (stored slots (tickStep (netIn slots net)) net) h;
+  tick = λ net samples h. same (tickTable net samples) net (stored slots (tickStep (samplesFor (netIn slots net) samples) (netIn slots net)) net) h;
   outputs = λ net place bytes h. same (placeTable net place) bytes (outputsAt (netIn slots net) place) h;
   cause = λ net place byte h. same (placeTable net place) byte (causeAt (netIn slots net) place) h;
 }

@@ -7,10 +7,9 @@ use lib.ListN.{length, getD}
 use lib.Dec.{eqb}
 use Rattle.base_layout.specs.Bytes.{le, pasted}
 use Rattle.chain_rules.specs.Chain.{Step, flat, byteStep}
-use Rattle.types_rules.specs.Table.{servo, inout}
-use Rattle.types_rules.specs.Types.{Module, AnySample, kind, slots}
+use Rattle.types_rules.specs.Types.{Module, kind, slots}
 use Rattle.net_rules.specs.Record.{netIn, stored}
-use Rattle.net_rules.specs.Calls.{byteOf, fresh, tickStep, sampleStep, outputsAt, causeAt}
+use Rattle.net_rules.specs.Calls.{byteOf, fresh, tickStep, samplesFor, outputsAt, causeAt}
 use Rattle.host_rules.specs.declared.Reading.{Reading}
 use Rattle.base_layout.specs.First.{Line, first}
 use Rattle.api_rules.specs.Table.{setupTable, byteTable, tickTable, placeTable}
@@ -39,19 +38,10 @@ byteRoom net mark byte room = unless (byteTable net mark room) room (pasted 0 (f
 unfoldable pub byteWritten : List ℕ → ℕ → ℕ → List ℕ → ℕ
 byteWritten net mark byte room = unless (byteTable net mark room) 0 (length (flat (stepOf net mark byte .replies)))
 
--- samples, as C hands their fields over
-abbrev pub servoSampleOf : ℕ → ℕ → ℕ → AnySample
-servoSampleOf raw power ad = (servo, record { raw = raw; power = power; ad = ad })
-
-abbrev pub ioSampleOf : ℕ → ℕ → ℕ → ℕ → ℕ → AnySample
-ioSampleOf inputs ad1 ad2 ad3 counter = (inout, record { inputs = inputs; ad1 = ad1; ad2 = ad2; ad3 = ad3; counter = counter })
-
-unfoldable pub sampleRecord : List Line → List ℕ → ℕ → AnySample → List ℕ
-sampleRecord table net place x = unless table net (stored slots (sampleStep place x (netIn slots net)) net)
-
--- a tick
-unfoldable pub tickRecord : List ℕ → List ℕ
-tickRecord net = unless (tickTable net) net (stored slots (tickStep (netIn slots net)) net)
+-- a tick with its list of samples (02 P11)
+unfoldable pub tickRecord : List ℕ → List ℕ → List ℕ
+tickRecord net samples =
+    unless (tickTable net samples) net (stored slots (tickStep (samplesFor (netIn slots net) samples) (netIn slots net)) net)
 
 -- the outputs
 unfoldable pub outputsBytes : List ℕ → ℕ → List ℕ → List ℕ

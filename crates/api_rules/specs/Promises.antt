@@ -17,23 +17,21 @@ use Rattle.module_rules.specs.Rules.{reply, kindOf}
 use Rattle.module_rules.specs.Owes.{replySize}
 use Rattle.chain_rules.specs.Chain.{flat}
 use Rattle.types_rules.specs.Table.{ModuleType, Of, rulesOf, slotsOf, LinesOf}
-use Rattle.types_rules.specs.Types.{slots, typeOfSlot}
+use Rattle.types_rules.specs.Types.{slots, typeOfSlot, sampleFor}
 use Rattle.net_rules.specs.Record.{receiverSize, fillAt, commandAt, markedAt, chainMost, countAt, slotsAt, recordSize, roomSize, netIn, valid}
-use Rattle.net_rules.specs.Calls.{setUp, tickStep, sampleStep}
+use Rattle.net_rules.specs.Calls.{setUp, tenAt, tickStep, samplesFor}
 use Rattle.net_rules.specs.Promises.{There, Back}
 use Rattle.host_rules.specs.declared.Answered.{Answered}
 use Rattle.host_rules.specs.Reading.{statusOf}
 use Rattle.host_rules.specs.Promises.{shown}
-use Rattle.api_rules.specs.Table.{setupTable, byteTable, servoSampleTable, ioSampleTable, tickTable, placeTable}
-use Rattle.api_rules.specs.Calls.{setupRecord, stepOf, byteNumber, byteRecord, byteRoom, byteWritten, servoSampleOf, ioSampleOf, sampleRecord, tickRecord, outputsBytes, causeByte, readingBytes}
+use Rattle.api_rules.specs.Table.{setupTable, byteTable, tickTable, placeTable}
+use Rattle.api_rules.specs.Calls.{setupRecord, stepOf, byteNumber, byteRecord, byteRoom, byteWritten, tickRecord, outputsBytes, causeByte, readingBytes}
 
--- The tables have the order of document 01, "Numbers given back": 16, 11, 12, 13, 14, 15.
+-- The tables have the order of document 01, "Numbers given back": 16, 11, 12, 13, 14, 15; and of document 02, P11: 20 stands before 13.
 pub record Tables : Type 0 where
   pub setup : (net types : List ℕ) → Ordered (setupTable net types) (16 ∷ 11 ∷ 12 ∷ [])
   pub byte : (net : List ℕ) (mark : ℕ) (room : List ℕ) → Ordered (byteTable net mark room) (16 ∷ 14 ∷ 15 ∷ [])
-  pub servoSample : (net : List ℕ) (place power : ℕ) → Ordered (servoSampleTable net place power) (16 ∷ 13 ∷ 14 ∷ [])
-  pub ioSample : (net : List ℕ) (place inputs : ℕ) → Ordered (ioSampleTable net place inputs) (16 ∷ 13 ∷ 14 ∷ [])
-  pub tick : (net : List ℕ) → Ordered (tickTable net) (16 ∷ [])
+  pub tick : (net samples : List ℕ) → Ordered (tickTable net samples) (16 ∷ 20 ∷ 13 ∷ 14 ∷ [])
   pub place : (net : List ℕ) (place : ℕ) → Ordered (placeTable net place) (16 ∷ 13 ∷ [])
 
 -- a table refuses, or lets the call be done
@@ -55,13 +53,7 @@ pub record Untouched (net : List ℕ) (mark byte : ℕ) (room : List ℕ) : Type
 pub record Unchanged : Type 0 where
   pub setup : (net types : List ℕ) → Refuses (setupTable net types) → setupRecord net types ≡ net
   pub byte : (net : List ℕ) (mark byte : ℕ) (room : List ℕ) → Refuses (byteTable net mark room) → Untouched net mark byte room
-  pub servoSample : (net : List ℕ) (place raw power ad : ℕ)
-      → Refuses (servoSampleTable net place power)
-      → sampleRecord (servoSampleTable net place power) net place (servoSampleOf raw power ad) ≡ net
-  pub ioSample : (net : List ℕ) (place inputs ad1 ad2 ad3 counter : ℕ)
-      → Refuses (ioSampleTable net place inputs)
-      → sampleRecord (ioSampleTable net place inputs) net place (ioSampleOf inputs ad1 ad2 ad3 counter) ≡ net
-  pub tick : (net : List ℕ) → Refuses (tickTable net) → tickRecord net ≡ net
+  pub tick : (net samples : List ℕ) → Refuses (tickTable net samples) → tickRecord net samples ≡ net
   pub outputs : (net : List ℕ) (place : ℕ) (bytes : List ℕ) → Refuses (placeTable net place) → outputsBytes net place bytes ≡ bytes
   pub cause : (net : List ℕ) (place byte : ℕ) → Refuses (placeTable net place) → causeByte net place byte ≡ byte
 
@@ -77,26 +69,11 @@ Answers = (net : List ℕ) (mark byte : ℕ) (room : List ℕ) → Answer net ma
 abbrev pub ValidRecord : List ℕ → Type 0
 ValidRecord s = (valid slots s ≡ true) × Bytes s
 
--- what C can hand over as a servo sample, but for its power, which the call tests; and as an I/O sample, but for its inputs
-abbrev pub ServoHanded : ℕ → ℕ → Type 0
-ServoHanded raw ad = (raw < 4294967296) × (ad < 256)
-
-abbrev pub IoHanded : ℕ → ℕ → ℕ → ℕ → Type 0
-IoHanded ad1 ad2 ad3 counter = (ad1 < 256) × (ad2 < 256) × (ad3 < 256) × (counter < 4294967296)
-
 -- Setup, unless it is refused, leaves a valid record, whatever was lent; every other call, refused or not, keeps a valid record valid.
 pub record Kept : Type 0 where
   pub setup : (net types : List ℕ) → Passes (setupTable net types) → ValidRecord (setupRecord net types)
   pub byte : (net : List ℕ) (mark byte : ℕ) (room : List ℕ) → byte < 256 → ValidRecord net → ValidRecord (byteRecord net mark byte room)
-  pub servoSample : (net : List ℕ) (place raw power ad : ℕ)
-      → ServoHanded raw ad
-      → ValidRecord net
-      → ValidRecord (sampleRecord (servoSampleTable net place power) net place (servoSampleOf raw power ad))
-  pub ioSample : (net : List ℕ) (place inputs ad1 ad2 ad3 counter : ℕ)
-      → IoHanded ad1 ad2 ad3 counter
-      → ValidRecord net
-      → ValidRecord (sampleRecord (ioSampleTable net place inputs) net place (ioSampleOf inputs ad1 ad2 ad3 counter))
-  pub tick : (net : List ℕ) → ValidRecord net → ValidRecord (tickRecord net)
+  pub tick : (net samples : List ℕ) → Bytes samples → ValidRecord net → ValidRecord (tickRecord net samples)
 
 -- After a call that was not refused the record holds the network that the step of the definitions makes of the one that it held.
 pub record Holds : Type 0 where
@@ -106,19 +83,22 @@ pub record Holds : Type 0 where
       → Bytes net
       → Passes (byteTable net mark room)
       → netIn slots (byteRecord net mark byte room) ≡ stepOf net mark byte .net
-  pub servoSample : (net : List ℕ) (place raw power ad : ℕ)
-      → ServoHanded raw ad
+  pub tick : (net samples : List ℕ)
+      → Bytes samples
       → Bytes net
-      → Passes (servoSampleTable net place power)
-      → netIn slots (sampleRecord (servoSampleTable net place power) net place (servoSampleOf raw power ad))
-      ≡ sampleStep place (servoSampleOf raw power ad) (netIn slots net)
-  pub ioSample : (net : List ℕ) (place inputs ad1 ad2 ad3 counter : ℕ)
-      → IoHanded ad1 ad2 ad3 counter
-      → Bytes net
-      → Passes (ioSampleTable net place inputs)
-      → netIn slots (sampleRecord (ioSampleTable net place inputs) net place (ioSampleOf inputs ad1 ad2 ad3 counter))
-      ≡ sampleStep place (ioSampleOf inputs ad1 ad2 ad3 counter) (netIn slots net)
-  pub tick : (net : List ℕ) → Bytes net → Passes (tickTable net) → netIn slots (tickRecord net) ≡ tickStep (netIn slots net)
+      → Passes (tickTable net samples)
+      → netIn slots (tickRecord net samples) ≡ tickStep (samplesFor (netIn slots net) samples) (netIn slots net)
+
+-- After a tick that is not refused each module has ticked with the sample that its own ten bytes of the list are to its type, and with no other's
+-- (02 P11).
+abbrev pub OwnTen : Type 0
+OwnTen =
+    (net samples : List ℕ) (i : ℕ) (t : ModuleType) (m : Of t)
+    → Bytes net
+    → Bytes samples
+    → Passes (tickTable net samples)
+    → getElem? (netIn slots net .modules) i ≡ some (t, m)
+    → getElem? (netIn slots (tickRecord net samples) .modules) i ≡ some (t, rulesOf t .tick (sampleFor t (tenAt samples i)) m)
 
 -- To write the network of a valid record into it changes no byte; a sound network that is written into a record comes back from it, and the
 -- record is then valid.

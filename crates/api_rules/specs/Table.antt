@@ -1,15 +1,13 @@
--- The refusals of each call of a network, in the order of the table (document 01, "Numbers given back").
+-- The refusals of each call of a network, in the order of the table (document 01, "Numbers given back"; document 02, P1 and P11).
 use Prim.Native.Nat.{ℕ}
 use mathlib.Core.List.{List, [], _∷_}
-use mathlib.Core.Bool.{Bool, not, _||_}
+use mathlib.Core.Bool.{not, _||_}
 use lib.ListN.{length}
 use lib.Dec.{eqb, ltb}
 use Rattle.base_layout.specs.First.{Line}
-use Rattle.inout_rules.specs.Answers as Inout
-use Rattle.servo_rules.specs.Answers as Servos
 use Rattle.types_rules.specs.Types.{slots}
 use Rattle.net_rules.specs.Record.{chainMost, recordSize, roomSize, netIn, valid}
-use Rattle.net_rules.specs.Calls.{allKnown, ofType}
+use Rattle.net_rules.specs.Calls.{allKnown, listSize, allTyped, allInRange}
 
 -- 16: the record breaks the list of what a record satisfies, its length among it
 abbrev pub broken : List ℕ → Line
@@ -35,27 +33,15 @@ byteTable net mark room =
     ∷ record { number = 15; applies = ltb (length room) roomSize }
     ∷ []
 
--- 13: no module of type t is at the place; 14: a field of a sample is out of range
-abbrev pub unlike : ℕ → List ℕ → ℕ → Line
-unlike t net place = record { number = 13; applies = not (ofType t (netIn slots net) place) }
-
-abbrev pub outside : Bool → Line
-outside far = record { number = 14; applies = far }
-
--- a sample for a module of type t: 16, 13, 14
-abbrev pub sampleTable : ℕ → List ℕ → ℕ → Bool → List Line
-sampleTable t net place far = broken net ∷ unlike t net place ∷ outside far ∷ []
-
--- a servo's power is at most 2, an I/O module's inputs are twelve bits
-abbrev pub servoSampleTable : List ℕ → ℕ → ℕ → List Line
-servoSampleTable net place power = sampleTable Servos.typeNumber net place (ltb 2 power)
-
-abbrev pub ioSampleTable : List ℕ → ℕ → ℕ → List Line
-ioSampleTable net place inputs = sampleTable Inout.typeNumber net place (ltb 4095 inputs)
-
--- a tick: 16
-abbrev pub tickTable : List ℕ → List Line
-tickTable net = broken net ∷ []
+-- 02 P11, a tick with its list of samples: 16, 20 the list is not as long as the chain asks, 13 a sample is of another type than its module, 14 a
+-- field of a sample is out of range
+abbrev pub tickTable : List ℕ → List ℕ → List Line
+tickTable net samples =
+    broken net
+    ∷ record { number = 20; applies = not (eqb (length samples) (listSize (length (netIn slots net .modules)))) }
+    ∷ record { number = 13; applies = not (allTyped (netIn slots net .modules) samples) }
+    ∷ record { number = 14; applies = not (allInRange (length (netIn slots net .modules)) samples) }
+    ∷ []
 
 -- a call that reads the module at a place: 16, 13
 abbrev pub placeTable : List ℕ → ℕ → List Line

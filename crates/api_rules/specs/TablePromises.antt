@@ -1,20 +1,21 @@
--- Each condition of the tables of refusals at its bounds, with the figures of document 01, "Numbers given back": what is given on either side
+-- Each condition of the tables of refusals at its bounds, with the figures of document 01, "Numbers given back", and document 02, P11: what is given on either side
 -- where no earlier line applies. Each promise is proved under its name, with small letters, in proofs/.
 use mathlib.Core.Path.{_≡_}
-use Prim.Native.Nat.{ℕ, _<_, _≤_}
+use Prim.Native.Nat.{ℕ, _+_, _*_, _<_, _≤_}
 use mathlib.Core.List.{List}
 use mathlib.Core.Bool.{true, false}
 use mathlib.Core.Option.{Option, some}
 use lib.ListN.{length, getD, getElem?}
 use lib.Dec.{eqb}
+use Rattle.base_layout.specs.Bytes.{ofLe, readAt, Bytes}
 use Rattle.line_receiver.specs.Receive.{taken}
 use Rattle.line_receiver.specs.Promises.{Numbered}
 use Rattle.types_rules.specs.Table.{servo, inout, Of}
-use Rattle.types_rules.specs.Types.{Module, slots}
+use Rattle.types_rules.specs.Types.{Module, slots, typeOf}
 use Rattle.types_rules.specs.Promises.{ThereIs}
 use Rattle.net_rules.specs.Record.{netIn, valid}
 use Rattle.base_layout.specs.First.{first}
-use Rattle.api_rules.specs.Table.{setupTable, byteTable, servoSampleTable, ioSampleTable, tickTable, placeTable}
+use Rattle.api_rules.specs.Table.{setupTable, byteTable, tickTable, placeTable}
 use Rattle.api_rules.specs.Calls.{byteNumber}
 use Rattle.api_rules.specs.Promises.{Passes}
 
@@ -30,9 +31,7 @@ chainLength net = length (netIn slots net .modules)
 pub record Sixteen (net : List ℕ) : Type 0 where
   pub long : (length net ≡ 4116 → ⊥) → valid slots net ≡ false
   pub byte : (mark : ℕ) (room : List ℕ) → valid slots net ≡ false → first (byteTable net mark room) ≡ 16
-  pub servoSample : (place power : ℕ) → valid slots net ≡ false → first (servoSampleTable net place power) ≡ 16
-  pub ioSample : (place inputs : ℕ) → valid slots net ≡ false → first (ioSampleTable net place inputs) ≡ 16
-  pub tick : valid slots net ≡ false → first (tickTable net) ≡ 16
+  pub tick : (samples : List ℕ) → valid slots net ≡ false → first (tickTable net samples) ≡ 16
   pub place : (place : ℕ) → valid slots net ≡ false → first (placeTable net place) ≡ 16
 
 abbrev pub BadRecord : Type 0
@@ -68,30 +67,35 @@ pub record LineByte (net : List ℕ) (mark : ℕ) (room : List ℕ) : Type 0 whe
 abbrev pub ByteBounds : Type 0
 ByteBounds = (net : List ℕ) (mark : ℕ) (room : List ℕ) → valid slots net ≡ true → LineByte net mark room
 
--- 01 Numbers given back, and Servo, Sample: a place below the chain length with a servo, else 13; a power of 0, 1 or 2, else 14.
-pub record ServoSampled (net : List ℕ) (place power : ℕ) : Type 0 where
-  pub done : (m : Of servo) → standsAt net place ≡ some (servo, m) → power ≤ 2 → first (servoSampleTable net place power) ≡ 0
-  pub beyond : chainLength net ≤ place → first (servoSampleTable net place power) ≡ 13
-  pub other : (m : Of inout) → standsAt net place ≡ some (inout, m) → first (servoSampleTable net place power) ≡ 13
-  pub fourteen : (m : Of servo) → standsAt net place ≡ some (servo, m) → 3 ≤ power → first (servoSampleTable net place power) ≡ 14
+-- a field out of range at place i of a tick's list: a servo's power above 2, an I/O module's input bits above 4,095
+pub data Far (net samples : List ℕ) (i : ℕ) : Type 0 where
+  power : (m : Of servo) → standsAt net i ≡ some (servo, m) → 3 ≤ getD samples (10 * i + 1) 0 → Far net samples i
+  inputs : (m : Of inout) → standsAt net i ≡ some (inout, m) → 4096 ≤ ofLe (readAt 2 (10 * i + 1) samples) → Far net samples i
 
-abbrev pub ServoBounds : Type 0
-ServoBounds = (net : List ℕ) (place power : ℕ) → valid slots net ≡ true → ServoSampled net place power
+-- at place i of a tick's list the number of the module's type stands first
+abbrev pub TypedAt : List ℕ → List ℕ → ℕ → Type 0
+TypedAt net samples i = (m : Module) → standsAt net i ≡ some m → getD samples (10 * i) 0 ≡ typeOf m
 
--- 01 Numbers given back, and I/O module, Sample: a place below the chain length with an I/O module, else 13; twelve input bits, at most 4,095,
--- else 14.
-pub record IoSampled (net : List ℕ) (place inputs : ℕ) : Type 0 where
-  pub done : (m : Of inout) → standsAt net place ≡ some (inout, m) → inputs ≤ 4095 → first (ioSampleTable net place inputs) ≡ 0
-  pub beyond : chainLength net ≤ place → first (ioSampleTable net place inputs) ≡ 13
-  pub other : (m : Of servo) → standsAt net place ≡ some (servo, m) → first (ioSampleTable net place inputs) ≡ 13
-  pub fourteen : (m : Of inout) → standsAt net place ≡ some (inout, m) → 4096 ≤ inputs → first (ioSampleTable net place inputs) ≡ 14
+-- 02 P11, a tick: ten bytes for each module, else 20; at each place the number of the module's type first, else 13, whatever stands elsewhere; at each
+-- place the fields in range, else 14. The bytes that are left of ten are not asked about.
+pub record Ticked (net samples : List ℕ) : Type 0 where
+  pub done : length samples ≡ 10 * chainLength net
+      → ((i : ℕ) → TypedAt net samples i)
+      → ((i : ℕ) → Far net samples i → ⊥)
+      → first (tickTable net samples) ≡ 0
+  pub twenty : (length samples ≡ 10 * chainLength net → ⊥) → first (tickTable net samples) ≡ 20
+  pub thirteen : length samples ≡ 10 * chainLength net → (i : ℕ) → (TypedAt net samples i → ⊥) → first (tickTable net samples) ≡ 13
+  pub fourteen : length samples ≡ 10 * chainLength net
+      → ((i : ℕ) → TypedAt net samples i)
+      → (i : ℕ)
+      → Far net samples i
+      → first (tickTable net samples) ≡ 14
 
-abbrev pub IoBounds : Type 0
-IoBounds = (net : List ℕ) (place inputs : ℕ) → valid slots net ≡ true → IoSampled net place inputs
+abbrev pub TickBounds : Type 0
+TickBounds = (net samples : List ℕ) → Bytes samples → valid slots net ≡ true → Ticked net samples
 
--- 01 Numbers given back, tick, outputs and cause: any valid record; for outputs and cause a place below the chain length, else 13.
+-- 01 Numbers given back, outputs and cause: a place below the chain length, else 13.
 pub record Others (net : List ℕ) (place : ℕ) : Type 0 where
-  pub tick : first (tickTable net) ≡ 0
   pub beyond : chainLength net ≤ place → first (placeTable net place) ≡ 13
   pub below : place < chainLength net → first (placeTable net place) ≡ 0
 

@@ -52,21 +52,32 @@ put-next done x s from at l h e f =
     ∙ ap (λ (k : ℕ). pasted k x (pasted from done s)) (sym l)
     ∙ pasted-twice from done x s (omega arith)
 
--- five parts, each equal to what it should be, put one behind the other
+-- four parts, each equal to what it should be, put one behind the other
+pub put-four : (A B C D s : List ℕ) (from b c d : ℕ) {v w x y s1 s2 s3 s4 : List ℕ}
+    → from + length A ≡ b → b + length B ≡ c → c + length C ≡ d → d + length D ≤ length s
+    → v ≡ A → w ≡ B → x ≡ C → y ≡ D
+    → s1 ≡ pasted from v s → s2 ≡ pasted b w s1 → s3 ≡ pasted c x s2 → s4 ≡ pasted d y s3
+    → s4 ≡ pasted from (((A ++ B) ++ C) ++ D) s
+put-four A B C D s from b c d {s1 = s1} {s2 = s2} {s3 = s3} lb lc ld h ea eb ec ed p1 p2 p3 p4 =
+    let ab = length-append A B in
+    let abc = length-append (A ++ B) C in
+    let q1 : s1 ≡ pasted from A s = p1 ∙ ap (λ (l : List ℕ). pasted from l s) ea in
+    let q2 : s2 ≡ pasted from (A ++ B) s = put-next A B s from b lb (omega arith) q1 (p2 ∙ ap (λ (l : List ℕ). pasted b l s1) eb) in
+    let q3 : s3 ≡ pasted from ((A ++ B) ++ C) s = put-next (A ++ B) C s from c (omega arith) (omega arith) q2 (p3 ∙ ap (λ (l : List ℕ). pasted c l s2) ec) in
+    put-next ((A ++ B) ++ C) D s from d (omega arith) h q3 (p4 ∙ ap (λ (l : List ℕ). pasted d l s3) ed)
+
+-- and five
 pub put-five : (A B C D E s : List ℕ) (from b c d e : ℕ) {v w x y z s1 s2 s3 s4 s5 : List ℕ}
     → from + length A ≡ b → b + length B ≡ c → c + length C ≡ d → d + length D ≡ e → e + length E ≤ length s
     → v ≡ A → w ≡ B → x ≡ C → y ≡ D → z ≡ E
     → s1 ≡ pasted from v s → s2 ≡ pasted b w s1 → s3 ≡ pasted c x s2 → s4 ≡ pasted d y s3 → s5 ≡ pasted e z s4
     → s5 ≡ pasted from ((((A ++ B) ++ C) ++ D) ++ E) s
-put-five A B C D E s from b c d e {s1 = s1} {s2 = s2} {s3 = s3} {s4 = s4} lb lc ld le h ea eb ec ed ee p1 p2 p3 p4 p5 =
+put-five A B C D E s from b c d e {s4 = s4} lb lc ld le h ea eb ec ed ee p1 p2 p3 p4 p5 =
     let ab = length-append A B in
     let abc = length-append (A ++ B) C in
     let abcd = length-append ((A ++ B) ++ C) D in
-    let q1 : s1 ≡ pasted from A s = p1 ∙ ap (λ (l : List ℕ). pasted from l s) ea in
-    let q2 : s2 ≡ pasted from (A ++ B) s = put-next A B s from b lb (omega arith) q1 (p2 ∙ ap (λ (l : List ℕ). pasted b l s1) eb) in
-    let q3 : s3 ≡ pasted from ((A ++ B) ++ C) s = put-next (A ++ B) C s from c (omega arith) (omega arith) q2 (p3 ∙ ap (λ (l : List ℕ). pasted c l s2) ec) in
-    let q4 : s4 ≡ pasted from (((A ++ B) ++ C) ++ D) s = put-next ((A ++ B) ++ C) D s from d (omega arith) (omega arith) q3 (p4 ∙ ap (λ (l : List ℕ). pasted d l s3) ed) in
-    put-next (((A ++ B) ++ C) ++ D) E s from e (omega arith) h q4 (p5 ∙ ap (λ (l : List ℕ). pasted e l s4) ee)
+    let q = put-four A B C D s from b c d lb lc ld (omega arith) ea eb ec ed p1 p2 p3 p4 in
+    put-next (((A ++ B) ++ C) ++ D) E s from e (omega arith) h q (p5 ∙ ap (λ (l : List ℕ). pasted e l s4) ee)
 
 -- one byte
 pub pasted-one : (at b : ℕ) (s : List ℕ) → at < length s → set s at b ≡ pasted at (b ∷ []) s

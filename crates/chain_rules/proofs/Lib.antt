@@ -2,3 +2,4 @@ pub mod Touching
 pub mod Replies
 pub mod Bytes
 pub mod Along
+pub mod Timing

@@ -100,6 +100,12 @@ byteStep K n b =
       | Ended d ↦ frameStep K (frameIn (n .receiver) d) (t .next) (n .modules)
     ]
 
+-- 02 P11: a tick with a list of samples, a module's own at its place in the chain; without one a module is left as it is
+abbrev pub timed : {M S : Type 0} → Kind M S → List S → List M → List M
+timed K xs [] = []
+timed K [] (m ∷ ms) = m ∷ ms
+timed K (x ∷ xs) (m ∷ ms) = K .tick x m ∷ timed K xs ms
+
 -- the chain with g applied to the module at place i
 abbrev pub changed : {M : Type 0} → (M → M) → ℕ → List M → List M
 changed g i [] = []

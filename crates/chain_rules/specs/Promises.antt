@@ -3,7 +3,7 @@ use mathlib.Core.Path.{_≡_}
 use Prim.Native.Nat.{ℕ, suc, _≤_}
 use mathlib.Core.List.{List, [], _∷_, map}
 use mathlib.Core.Bool.{Bool, true, false, cond, _&&_}
-use mathlib.Core.Option.{some, none, Option·map}
+use mathlib.Core.Option.{Option, some, none, Option·map}
 use lib.ListN.{length, getElem?}
 use Rattle.line_receiver.specs.declared.Receiver.{Receiver}
 use Rattle.line_receiver.specs.declared.Answer.the-variants.{Ended}
@@ -13,7 +13,7 @@ use Rattle.line_receiver.specs.Promises.{Numbered}
 use Rattle.module_rules.specs.declared.Address.{Address}
 use Rattle.module_rules.specs.Touch.{named}
 use Rattle.module_rules.specs.Kind.{Kind, executed, replied}
-use Rattle.chain_rules.specs.Chain.{Net, Reply, flat, join, repliesOf, once, addresses, touched, enabledAt, handed, said, repliesFrom, frameStep, byteStep}
+use Rattle.chain_rules.specs.Chain.{Net, Reply, flat, join, repliesOf, once, addresses, touched, enabledAt, handed, said, repliesFrom, frameStep, byteStep, timed}
 
 -- After a frame the module at place i is the one that was there, executed exactly if the addresses before the frame say that it is touched.
 abbrev pub TouchedBefore : {M S : Type 0} → Kind M S → Type 0
@@ -124,3 +124,16 @@ ByteTaken {M} K =
 -- The number of a byte tells what it ended: 0 nothing, 1 an undamaged frame, 2 a damaged one (01 Numbers given back).
 abbrev pub NumberTold : {M S : Type 0} → Kind M S → Type 0
 NumberTold {M} K = (n : Net M) (b : Byte) → Numbered (taken (n .receiver) (b .value) (b .mark) .answer) (byteStep K n b .number)
+
+-- the module at a place after a tick, by the sample at that place of the list
+abbrev pub handedIn : {M S : Type 0} → Kind M S → Option S → M → M
+handedIn K none m = m
+handedIn K (some x) m = K .tick x m
+
+-- After a tick the module at place i is the one that was there, ticked with the sample at place i of the list, whatever the other places are handed;
+-- the chain is as long as it was (02 P11).
+abbrev pub OwnSample : {M S : Type 0} → Kind M S → Type 0
+OwnSample {M} {S} K =
+    (xs : List S) (ms : List M)
+    → ((i : ℕ) → getElem? (timed K xs ms) i ≡ Option·map (handedIn K (getElem? xs i)) (getElem? ms i))
+    × (length (timed K xs ms) ≡ length ms)

@@ -16,7 +16,7 @@ use Rattle.api_rules.proofs.Kept.{kept, holds}
 use Rattle.api_rules.proofs.Unchanged.{unchanged}
 use Rattle.api_rules.proofs.Room.{written-room}
 use Rattle.demands_history_rules.specs.Events.{event}
-use Rattle.demands_history_rules.specs.Calls.{Call, byte, servoSample, ioSample, tick, Handed, refusals, leaves, writes, does}
+use Rattle.demands_history_rules.specs.Calls.{Call, byte, tick, Handed, refusals, leaves, writes, does}
 
 -- a call is done or refused
 pub passes? : (ls : List Line) → Passes ls ⊎ Refuses ls
@@ -29,34 +29,24 @@ passes? ls = at (eqb (first ls) 0) refl
 -- every call keeps a valid record valid
 pub call-kept : (net : List ℕ) (c : Call) → Handed c → ValidRecord net → ValidRecord (leaves net c)
 call-kept net (byte mark x room) h v = kept .byte net mark x room h v
-call-kept net (servoSample place raw power ad) h v = kept .servoSample net place raw power ad h v
-call-kept net (ioSample place inputs ad1 ad2 ad3 counter) h v = kept .ioSample net place inputs ad1 ad2 ad3 counter h v
-call-kept net tick h v = kept .tick net v
+call-kept net (tick samples) h v = kept .tick net samples h v
 
 -- a refused call leaves the record as it was, and writes nothing
 pub refused-leaves : (net : List ℕ) (c : Call) → Refuses (refusals net c) → leaves net c ≡ net
 refused-leaves net (byte mark x room) r = unchanged .byte net mark x room r .netKept
-refused-leaves net (servoSample place raw power ad) r = unchanged .servoSample net place raw power ad r
-refused-leaves net (ioSample place inputs ad1 ad2 ad3 counter) r = unchanged .ioSample net place inputs ad1 ad2 ad3 counter r
-refused-leaves net tick r = unchanged .tick net r
+refused-leaves net (tick samples) r = unchanged .tick net samples r
 
 pub refused-writes : (net : List ℕ) (c : Call) → Refuses (refusals net c) → writes net c ≡ []
 refused-writes net (byte mark x room) r = rw (unchanged .byte net mark x room r .written) refl
-refused-writes net (servoSample place raw power ad) r = refl
-refused-writes net (ioSample place inputs ad1 ad2 ad3 counter) r = refl
-refused-writes net tick r = refl
+refused-writes net (tick samples) r = refl
 
 -- a call that is not refused does what its event does, and writes the replies to it
 pub passed-leaves : (net : List ℕ) (c : Call) → Handed c → ValidRecord net → Passes (refusals net c)
-    → netIn slots (leaves net c) ≡ event kind (does c) (netIn slots net) .net
+    → netIn slots (leaves net c) ≡ event kind (does (netIn slots net) c) (netIn slots net) .net
 passed-leaves net (byte mark x room) h v p = holds .byte net mark x room h (v .1) p
-passed-leaves net (servoSample place raw power ad) h v p = holds .servoSample net place raw power ad h (v .1) p
-passed-leaves net (ioSample place inputs ad1 ad2 ad3 counter) h v p = holds .ioSample net place inputs ad1 ad2 ad3 counter h (v .1) p
-passed-leaves net tick h v p = holds .tick net (v .1) p
+passed-leaves net (tick samples) h v p = holds .tick net samples h (v .1) p
 
-pub passed-writes : (net : List ℕ) (c : Call) → Passes (refusals net c) → writes net c ≡ flat (event kind (does c) (netIn slots net) .replies)
+pub passed-writes : (net : List ℕ) (c : Call) → Passes (refusals net c) → writes net c ≡ flat (event kind (does (netIn slots net) c) (netIn slots net) .replies)
 passed-writes net (byte mark x room) p =
     written-room net mark x room .begins p ∙ ap flat (sym (append-nil (stepOf net mark x .replies)))
-passed-writes net (servoSample place raw power ad) p = refl
-passed-writes net (ioSample place inputs ad1 ad2 ad3 counter) p = refl
-passed-writes net tick p = refl
+passed-writes net (tick samples) p = refl

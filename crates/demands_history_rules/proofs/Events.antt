@@ -1,12 +1,11 @@
 -- What one event makes of each place. Assumes nothing.
-use mathlib.Core.Path.{_≡_, refl, sym, ap, ap₂, fun-ext, _∙_}
-use mathlib.Core.List.{List, [], _∷_, map, append-nil}
+use mathlib.Core.Path.{_≡_, refl, sym, ap, fun-ext, _∙_}
+use mathlib.Core.List.{List, [], _∷_, append-nil}
 use mathlib.Core.Bool.{Bool, true, false, cond, true≢false}
 use mathlib.Core.Option.{Option, some, none, Option·map}
 use Prim.Native.Nat.{ℕ, zero, suc, _<_}
 use native.Mathlib.Omega.{arith}
 use lib.ListN.{length, getElem?}
-use lib.Dec.{eqb, eqb·zero-suc, eqb·suc-zero, eqb·suc-suc}
 use Rattle.line_receiver.specs.declared.Receiver.{Receiver}
 use Rattle.line_receiver.specs.declared.Answer.{Answer}
 use Rattle.line_receiver.specs.declared.Answer.the-variants.{Ended, Nothing}
@@ -15,39 +14,24 @@ use Rattle.line_receiver.specs.Frames.{Byte, Frame, Reading, waiting, ended, re
 use Rattle.line_receiver.proofs.Holding.{reads-on, reads-end}
 use Rattle.line_receiver.proofs.Marked.{marked}
 use Rattle.module_rules.specs.Kind.{Kind, executed, replied}
-use Rattle.chain_rules.specs.Chain.{Net, Reply, Step, repliesOf, once, addresses, touched, handed, said, repliesFrom, changed}
+use Rattle.chain_rules.specs.Chain.{Net, Reply, Step, repliesOf, once, addresses, touched, handed, said, repliesFrom}
+use Rattle.chain_rules.specs.Promises.{handedIn}
 use Rattle.chain_rules.proofs.Touching.{touched-before}
+use Rattle.chain_rules.proofs.Timing.{own-sample}
 use Rattle.chain_rules.proofs.Replies.{replies-are}
 use Rattle.chain_rules.proofs.Bytes.{step-on, step-end}
-use Rattle.demands_history_rules.specs.Events.{Event, sent, sampled, ticked, Outcome, after, taking, event, Reads, FramesAreWhole, ofFrame, meets, own, ownReply}
+use Rattle.demands_history_rules.specs.Events.{Event, sent, ticked, Outcome, after, taking, event, Reads, FramesAreWhole, ofFrame, ownTick, met, alone, aloneReplies}
 
 pub frames-are-whole : FramesAreWhole
 frames-are-whole address command ds last h e = (_, marked address command ds last h e)
 
 -- one event is a whole frame, or no frame
-abbrev pub WholeEvent : {S : Type 0} → Event S → Type 0
+abbrev pub WholeEvent : {T : Type 0} → Event T → Type 0
 WholeEvent (sent bs) = (f : Frame) × Reads bs f
-WholeEvent (sampled place x) = Unit {0}
-WholeEvent ticked = Unit {0}
+WholeEvent (ticked x) = Unit {0}
 
-of-frame : {A : Type 0} (z : A) (g : Frame → A) (bs : List Byte) (f : Frame) → Reads bs f → ofFrame z g bs ≡ g f
+pub of-frame : {A : Type 0} (z : A) (g : Frame → A) (bs : List Byte) (f : Frame) → Reads bs f → ofFrame z g bs ≡ g f
 of-frame {A} z g bs f e = ap (λ (x : Reading). elim x as (λ (y : Reading). A) [ waiting r ↦ z | ended f r rest ↦ g f ]) e
-
-once-cond : (t : Bool) (w : List ℕ) → once (cond t w []) ≡ cond t (once w) []
-once-cond true w = refl
-once-cond false w = refl
-
-pub map-same : {M : Type 0} (x : Option M) → Option·map (λ (m : M). m) x ≡ x
-map-same none = refl
-map-same (some m) = refl
-
-pub changed-at : {M : Type 0} (g : M → M) (j : ℕ) (ms : List M) (i : ℕ)
-    → getElem? (changed g j ms) i ≡ Option·map (λ (m : M). cond (eqb i j) (g m) m) (getElem? ms i)
-changed-at g j [] i = refl
-changed-at g zero (m ∷ ms) zero = refl
-changed-at g zero (m ∷ ms) (suc i) = rw (eqb·suc-zero i) (sym (map-same (getElem? ms i)))
-changed-at g (suc j) (m ∷ ms) zero = rw (eqb·zero-suc j)
-changed-at g (suc j) (m ∷ ms) (suc i) = rw (eqb·suc-suc i j) (changed-at g j ms i)
 
 -- where there is one there are as many
 pub below : {M : Type 0} (ms : List M) (i : ℕ) (m : M) → getElem? ms i ≡ some m → i < length ms
@@ -55,20 +39,14 @@ below [] i m e = let z : _≡_ {A = Bool} true false = cc in absurd (true≢fals
 below (x ∷ ms) zero m e = omega arith
 below (x ∷ ms) (suc i) m e = let h = below ms i m e in omega arith
 
-pub map-at : {M A : Type 0} (g : M → A) (ms : List M) (i : ℕ) → getElem? (map g ms) i ≡ Option·map g (getElem? ms i)
-map-at g [] i = refl
-map-at g (m ∷ ms) zero = refl
-map-at g (m ∷ ms) (suc i) = map-at g ms i
-
 -- what is said by the module at a place, if there is one
 abbrev pub fromSome : {M A : Type 0} → (M → List A) → Option M → List A
 fromSome g none = []
 fromSome g (some m) = g m
 
-pub from-nothing : {M A : Type 0} (t : Bool) (x : Option M) → [] ≡ fromSome {A = A} (λ (m : M). cond t [] []) x
-from-nothing t none = refl
-from-nothing true (some m) = refl
-from-nothing false (some m) = refl
+pub from-nothing : {M A : Type 0} (x : Option M) → [] ≡ fromSome {A = A} (λ (m : M). []) x
+from-nothing none = refl
+from-nothing (some m) = refl
 
 module _ {M S : Type 0} (K : Kind M S) where
   -- a network after a frame, and what was replied
@@ -104,39 +82,56 @@ module _ {M S : Type 0} (K : Kind M S) where
     pub whole-event : (bs : List Byte) (f : Frame) → Reads bs f → taking K bs n ≡ framed f idle (n .modules)
     whole-event bs f q = whole bs n f idle (rw idling q)
 
-    pub event-idle : (e : Event S) → WholeEvent e → event K e n .net .receiver ≡ idle
+    pub event-idle : (e : Event (List S)) → WholeEvent e → event K e n .net .receiver ≡ idle
     event-idle (sent bs) w = ap (λ (o : Outcome M). o .net .receiver) (whole-event bs (w .0) (w .1))
-    event-idle (sampled j x) w = idling
-    event-idle ticked w = idling
+    event-idle (ticked xs) w = idling
 
-    pub event-at : (e : Event S) (i : ℕ) → WholeEvent e
-        → getElem? (event K e n .net .modules) i
-        ≡ Option·map (λ (m : M). cond (meets (addresses K (n .modules)) i e) (own K m e) m) (getElem? (n .modules) i)
+    -- whether the frame of some bytes touches place i
+    abbrev touching : ℕ → Frame → Bool
+    touching i f = touched true (f .address) (addresses K (n .modules)) i
+
+    met-frame : (bs : List Byte) (f : Frame) (i : ℕ) → Reads bs f → met {S = S} (addresses K (n .modules)) i (sent bs) ≡ cond (touching i f) (sent bs ∷ []) []
+    met-frame bs f i q = of-frame [] (λ f. cond (touching i f) (sent bs ∷ []) []) bs f q
+
+    -- of a module that meets a frame, or does not
+    alone-frame : (t : Bool) (bs : List Byte) (f : Frame) (m : M) → Reads bs f → cond t (executed K f m) m ≡ alone K m (cond t (sent bs ∷ []) [])
+    alone-frame true bs f m q = sym (of-frame m (λ f. executed K f m) bs f q)
+    alone-frame false bs f m q = refl
+
+    replies-frame : (t : Bool) (bs : List Byte) (f : Frame) (m : M) → Reads bs f → once (cond t (replied K f m) []) ≡ aloneReplies K m (cond t (sent bs ∷ []) [])
+    replies-frame true bs f m q = sym (append-nil _ ∙ of-frame [] (λ f. once (replied K f m)) bs f q)
+    replies-frame false bs f m q = refl
+
+    -- of one that meets a tick with its own sample, or has none
+    alone-tick : (o : Option S) (m : M) → handedIn K o m ≡ alone K m (ownTick o)
+    alone-tick none m = refl
+    alone-tick (some x) m = refl
+
+    replies-tick : (o : Option S) (x : Option M) → [] ≡ fromSome (λ (m : M). aloneReplies K m (ownTick o)) x
+    replies-tick none x = from-nothing x
+    replies-tick (some y) none = refl
+    replies-tick (some y) (some m) = refl
+
+    pub event-at : (e : Event (List S)) (i : ℕ) → WholeEvent e
+        → getElem? (event K e n .net .modules) i ≡ Option·map (λ (m : M). alone K m (met (addresses K (n .modules)) i e)) (getElem? (n .modules) i)
     event-at (sent bs) i (f, q) =
         ap (λ (o : Outcome M). getElem? (o .net .modules) i) (whole-event bs f q)
         ∙ touched-before K f (n .modules) i
-        ∙ ap₂ (λ (t : Bool) (g : M → M). Option·map (λ (m : M). cond t (g m) m) (getElem? (n .modules) i))
-        (sym (of-frame false (λ f. touched true (f .address) (addresses K (n .modules)) i) bs f q))
-        (fun-ext (λ m. sym (of-frame m (λ f. executed K f m) bs f q)))
-    event-at (sampled j x) i w = changed-at (K .sample x) j (n .modules) i
-    event-at ticked i w = map-at (K .tick) (n .modules) i
+        ∙ ap (λ (g : M → M). Option·map g (getElem? (n .modules) i)) (fun-ext (λ m. alone-frame (touching i f) bs f m q))
+        ∙ ap (λ (es : List (Event S)). Option·map (λ (m : M). alone K m es) (getElem? (n .modules) i)) (sym (met-frame bs f i q))
+    event-at (ticked xs) i w =
+        own-sample K xs (n .modules) .0 i
+        ∙ ap (λ (g : M → M). Option·map g (getElem? (n .modules) i)) (fun-ext (λ m. alone-tick (getElem? xs i) m))
 
-    pub event-replies : (e : Event S) (i : ℕ) → WholeEvent e
-        → repliesOf i (event K e n .replies)
-        ≡ fromSome (λ (m : M). cond (meets (addresses K (n .modules)) i e) (ownReply K m e) []) (getElem? (n .modules) i)
+    pub event-replies : (e : Event (List S)) (i : ℕ) → WholeEvent e
+        → repliesOf i (event K e n .replies) ≡ fromSome (λ (m : M). aloneReplies K m (met (addresses K (n .modules)) i e)) (getElem? (n .modules) i)
     event-replies (sent bs) i (f, q) =
         ap (λ (o : Outcome M). repliesOf i (o .replies)) (whole-event bs f q)
         ∙ go (getElem? (n .modules) i) refl
-        ∙ ap₂ (λ (t : Bool) (g : M → List (List ℕ)). fromSome (λ (m : M). cond t (g m) []) (getElem? (n .modules) i))
-        (sym (of-frame false (λ f. touched true (f .address) (addresses K (n .modules)) i) bs f q))
-        (fun-ext (λ m. sym (of-frame [] (λ f. once (replied K f m)) bs f q)))
+        ∙ ap (λ (es : List (Event S)). fromSome (λ (m : M). aloneReplies K m es) (getElem? (n .modules) i)) (sym (met-frame bs f i q))
       where
         go : (x : Option M) → getElem? (n .modules) i ≡ x
-            → repliesOf i (repliesFrom 0 (said K f true (n .modules)))
-            ≡ fromSome (λ (m : M). cond (touched true (f .address) (addresses K (n .modules)) i) (once (replied K f m)) []) x
+            → repliesOf i (repliesFrom 0 (said K f true (n .modules))) ≡ fromSome (λ (m : M). aloneReplies K m (cond (touching i f) (sent bs ∷ []) [])) x
         go none e = replies-are K .1 f (n .modules) i e
-        go (some m) e =
-            replies-are K .0 f (n .modules) i m e
-            ∙ once-cond (touched true (f .address) (addresses K (n .modules)) i) (replied K f m)
-    event-replies (sampled j x) i w = from-nothing (eqb i j) (getElem? (n .modules) i)
-    event-replies ticked i w = from-nothing true (getElem? (n .modules) i)
+        go (some m) e = replies-are K .0 f (n .modules) i m e ∙ replies-frame (touching i f) bs f m q
+    event-replies (ticked xs) i w = replies-tick (getElem? xs i) (getElem? (n .modules) i)

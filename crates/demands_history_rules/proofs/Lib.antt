@@ -3,3 +3,4 @@ pub mod Alone
 pub mod Along
 pub mod Singly
 pub mod Calls
+pub mod Older

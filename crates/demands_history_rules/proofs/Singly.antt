@@ -4,7 +4,7 @@ use mathlib.Core.List.{List, [], _∷_, _++_, map, append-nil, append-assoc}
 use Rattle.line_receiver.specs.Frames.{Byte}
 use Rattle.module_rules.specs.Kind.{Kind}
 use Rattle.chain_rules.specs.Chain.{Net, Reply, byteStep}
-use Rattle.demands_history_rules.specs.Events.{Event, sent, sampled, ticked, Outcome, after, taking, event, run, singly}
+use Rattle.demands_history_rules.specs.Events.{Event, sent, ticked, Outcome, after, taking, event, run, singly}
 
 module _ {M S : Type 0} (K : Kind M S) where
   -- replies in front of replies in front of an outcome
@@ -12,7 +12,7 @@ module _ {M S : Type 0} (K : Kind M S) where
   after-after x y o = ap (λ (l : List Reply). record { net = o .net; replies = l }) (append-assoc x y (o .replies))
 
   -- bytes one by one, before more of a history
-  bytes-singly : (bs : List Byte) (h : List (Event S)) (n : Net M)
+  bytes-singly : (bs : List Byte) (h : List (Event (List S))) (n : Net M)
       → run K (map (λ (b : Byte). sent (b ∷ [])) bs ++ h) n ≡ after (taking K bs n .replies) (run K h (taking K bs n .net))
   bytes-singly [] h n = refl
   bytes-singly (b ∷ bs) h n =
@@ -20,8 +20,7 @@ module _ {M S : Type 0} (K : Kind M S) where
       ∙ ap (after (byteStep K n b .replies)) (bytes-singly bs h (byteStep K n b .net))
       ∙ sym (after-after (byteStep K n b .replies) (taking K bs (byteStep K n b .net) .replies) (run K h (taking K bs (byteStep K n b .net) .net)))
 
-  pub run-singly : (h : List (Event S)) (n : Net M) → run K (singly h) n ≡ run K h n
+  pub run-singly : (h : List (Event (List S))) (n : Net M) → run K (singly h) n ≡ run K h n
   run-singly [] n = refl
   run-singly (sent bs ∷ h) n = bytes-singly bs (singly h) n ∙ ap (after (taking K bs n .replies)) (run-singly h (taking K bs n .net))
-  run-singly (sampled place x ∷ h) n = ap (after []) (run-singly h (event K (sampled place x) n .net))
-  run-singly (ticked ∷ h) n = ap (after []) (run-singly h (event K ticked n .net))
+  run-singly (ticked xs ∷ h) n = ap (after []) (run-singly h (event K (ticked xs) n .net))

@@ -1,22 +1,21 @@
--- A chain of any modules through a history: frames as bytes with their marks, samples and ticks, run byte by byte.
+-- A chain of any modules through a history: frames as bytes with their marks, and ticks with their samples, run byte by byte.
 use mathlib.Core.Path.{_≡_}
 use Prim.Native.Nat.{ℕ, _/_, _<_}
 use mathlib.Core.List.{List, [], _∷_, _++_, map}
-use mathlib.Core.Bool.{Bool, true, false, cond}
+use mathlib.Core.Bool.{true, cond}
 use mathlib.Core.Logic.{_⊎_}
-use lib.ListN.{length}
-use lib.Dec.{eqb}
+use mathlib.Core.Option.{Option, some, none}
+use lib.ListN.{length, getElem?}
 use Rattle.line_receiver.specs.Receive.{idle}
 use Rattle.line_receiver.specs.Frames.{Byte, Frame, waiting, ended, reads, header}
 use Rattle.module_rules.specs.declared.Address.{Address}
 use Rattle.module_rules.specs.Kind.{Kind, executed, replied, Along}
-use Rattle.chain_rules.specs.Chain.{Net, Reply, once, addresses, touched, byteStep, changed}
+use Rattle.chain_rules.specs.Chain.{Net, Reply, once, addresses, touched, byteStep, timed}
 
--- what happens to a network: the bytes of a frame come, a sample for a place, a tick
-pub data Event (S : Type 0) : Type 0 where
-  sent : List Byte → Event S
-  sampled : ℕ → S → Event S
-  ticked : Event S
+-- what happens: the bytes of a frame come, or a tick with what it carries. A network's tick carries a list of samples, a module's its own (02 P11).
+pub data Event (T : Type 0) : Type 0 where
+  sent : List Byte → Event T
+  ticked : T → Event T
 
 -- the network then, and all replies with their places, the earliest first
 pub record Outcome (M : Type 0) : Type 0 where
@@ -32,26 +31,25 @@ abbrev pub taking : {M S : Type 0} → Kind M S → List Byte → Net M → Outc
 taking K [] n = record { net = n; replies = [] }
 taking K (b ∷ bs) n = after (byteStep K n b .replies) (taking K bs (byteStep K n b .net))
 
--- an event: a sample changes the module at its place, a tick every module
-abbrev pub event : {M S : Type 0} → Kind M S → Event S → Net M → Outcome M
+-- an event: a tick changes every module, each by its own sample
+abbrev pub event : {M S : Type 0} → Kind M S → Event (List S) → Net M → Outcome M
 event K (sent bs) n = taking K bs n
-event K (sampled place x) n = record { net = record { receiver = n .receiver; modules = changed (K .sample x) place (n .modules) }; replies = [] }
-event K ticked n = record { net = record { receiver = n .receiver; modules = map (K .tick) (n .modules) }; replies = [] }
+event K (ticked xs) n = record { net = record { receiver = n .receiver; modules = timed K xs (n .modules) }; replies = [] }
 
 -- a history: its events one after another
-abbrev pub run : {M S : Type 0} → Kind M S → List (Event S) → Net M → Outcome M
+abbrev pub run : {M S : Type 0} → Kind M S → List (Event (List S)) → Net M → Outcome M
 run K [] n = record { net = n; replies = [] }
 run K (e ∷ h) n = after (event K e n .replies) (run K h (event K e n .net))
 
 -- the network with h of each module
-abbrev pub each : {M : Type 0} → (M → M) → Net M → Net M
+abbrev pub each : {M N : Type 0} → (M → N) → Net M → Net N
 each h n = record { receiver = n .receiver; modules = map h (n .modules) }
 
 -- Where one kind of module is another's along h, their networks go so through any history, with the same replies.
 abbrev pub RunsAlong : {M S : Type 0} → Kind M S → Kind M S → (M → M) → Type 0
 RunsAlong {M} {S} K L h =
     Along K L h
-    → (es : List (Event S)) (n : Net M)
+    → (es : List (Event (List S))) (n : Net M)
     → run L es (each h n) ≡ record { net = each h (run K es n .net); replies = run K es n .replies }
 
 -- these bytes, from an idle receiver, are the frame f: it ends with the last of them and not sooner, and leaves the receiver idle
@@ -70,59 +68,57 @@ abbrev pub Harmless : Frame → Type 0
 Harmless f = (f .damaged ≡ true) ⊎ ((f .code ≡ 1 → ⊥) × (f .code ≡ 15 → ⊥))
 
 -- every frame of a history is whole, and of this sort
-abbrev pub Frames : {S : Type 0} → (Frame → Type 0) → List (Event S) → Type 0
+abbrev pub Frames : {T : Type 0} → (Frame → Type 0) → List (Event T) → Type 0
 Frames P [] = Unit {0}
 Frames P (sent bs ∷ h) = ((f : Frame) × Reads bs f × P f) × Frames P h
-Frames P (sampled place x ∷ h) = Frames P h
-Frames P (ticked ∷ h) = Frames P h
+Frames P (ticked x ∷ h) = Frames P h
 
 -- any frames, so long as they are whole
-abbrev pub Whole : {S : Type 0} → List (Event S) → Type 0
+abbrev pub Whole : {T : Type 0} → List (Event T) → Type 0
 Whole = Frames (λ f. Unit {0})
 
 -- whole frames with no undamaged Set Address and no undamaged Hard Reset
-abbrev pub Ordinary : {S : Type 0} → List (Event S) → Type 0
+abbrev pub Ordinary : {T : Type 0} → List (Event T) → Type 0
 Ordinary = Frames Harmless
 
 -- a history as the calls hand it over, a byte at a time
-abbrev pub singly : {S : Type 0} → List (Event S) → List (Event S)
+abbrev pub singly : {T : Type 0} → List (Event T) → List (Event T)
 singly [] = []
 singly (sent bs ∷ h) = map (λ (b : Byte). sent (b ∷ [])) bs ++ singly h
-singly (sampled place x ∷ h) = sampled place x ∷ singly h
-singly (ticked ∷ h) = ticked ∷ singly h
+singly (ticked x ∷ h) = ticked x ∷ singly h
 
 -- something about the frame that bytes come to, or this if they come to none
 abbrev pub ofFrame : {A : Type 0} → A → (Frame → A) → List Byte → A
 ofFrame z g bs = elim (reads bs idle) [ waiting r ↦ z | ended f r rest ↦ g f ]
 
--- whether place i of a chain with these addresses meets an event: a frame that touches it, a sample for it, any tick
-abbrev pub meets : {S : Type 0} → List Address → ℕ → Event S → Bool
-meets ws i (sent bs) = ofFrame false (λ f. touched true (f .address) ws i) bs
-meets ws i (sampled place x) = eqb i place
-meets ws i ticked = true
+-- the tick that a module meets with its own sample, if there is one for it
+abbrev pub ownTick : {S : Type 0} → Option S → List (Event S)
+ownTick none = []
+ownTick (some x) = ticked x ∷ []
 
--- the events that place i meets, in their order, all judged by the same addresses
-abbrev pub metBy : {S : Type 0} → List Address → ℕ → List (Event S) → List (Event S)
+-- what place i of a chain with these addresses meets of an event: the frame, if it touches it; of a tick its own sample, and no other's
+abbrev pub met : {S : Type 0} → List Address → ℕ → Event (List S) → List (Event S)
+met ws i (sent bs) = ofFrame [] (λ f. cond (touched true (f .address) ws i) (sent bs ∷ []) []) bs
+met ws i (ticked xs) = ownTick (getElem? xs i)
+
+-- what place i meets of a history, in its order, all judged by the same addresses
+abbrev pub metBy : {S : Type 0} → List Address → ℕ → List (Event (List S)) → List (Event S)
 metBy ws i [] = []
-metBy ws i (e ∷ h) = cond (meets ws i e) (e ∷ metBy ws i h) (metBy ws i h)
+metBy ws i (e ∷ h) = met ws i e ++ metBy ws i h
 
 -- the same, each judged by the addresses as they are when it comes
-abbrev pub metInTurn : {M S : Type 0} → Kind M S → ℕ → List (Event S) → Net M → List (Event S)
+abbrev pub metInTurn : {M S : Type 0} → Kind M S → ℕ → List (Event (List S)) → Net M → List (Event S)
 metInTurn K i [] n = []
-metInTurn K i (e ∷ h) n =
-    let later : List (Event _) = metInTurn K i h (event K e n .net) in
-    cond (meets (addresses K (n .modules)) i e) (e ∷ later) later
+metInTurn K i (e ∷ h) n = met (addresses K (n .modules)) i e ++ metInTurn K i h (event K e n .net)
 
 -- what a module by itself makes of an event that it meets, and what it replies to it
 abbrev pub own : {M S : Type 0} → Kind M S → M → Event S → M
 own K m (sent bs) = ofFrame m (λ f. executed K f m) bs
-own K m (sampled place x) = K .sample x m
-own K m ticked = K .tick m
+own K m (ticked x) = K .tick x m
 
 abbrev pub ownReply : {M S : Type 0} → Kind M S → M → Event S → List (List ℕ)
 ownReply K m (sent bs) = ofFrame [] (λ f. once (replied K f m)) bs
-ownReply K m (sampled place x) = []
-ownReply K m ticked = []
+ownReply K m (ticked x) = []
 
 -- a module by itself after events that it meets, and its replies to them
 abbrev pub alone : {M S : Type 0} → Kind M S → M → List (Event S) → M

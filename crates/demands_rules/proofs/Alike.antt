@@ -2,7 +2,7 @@
 use mathlib.Core.Path.{_≡_, refl, sym, ap, ap₂, subst, _∙_}
 use mathlib.Core.Logic.{_⊎_, inl, inr}
 use mathlib.Core.Bool.{Bool, true, false, false≢true}
-use Prim.Native.Nat.{ℕ, _+_, _-_, _*_, _%_, _^_, _≤_, _<_}
+use Prim.Native.Nat.{ℕ, _+_, _*_, _%_, _^_, _≤_, _<_}
 use native.Mathlib.Omega.{arith}
 use native.Mathlib.Nat.{le-refl}
 use borrow.Author.Tests.{leb-true}
@@ -17,6 +17,7 @@ use Rattle.servo_motion.proofs.Velocity.{velocity}
 use Rattle.servo_rules.specs.declared.Mode.{Mode}
 use Rattle.servo_rules.specs.declared.Mode.the-variants.{Off, Pwm, Hold, Velocity, Trapezoid}
 use Rattle.servo_rules.specs.declared.Run.{Run}
+use Rattle.servo_rules.specs.declared.Sample.{Sample}
 use Rattle.servo_rules.specs.declared.Servo.{Servo}
 use Rattle.servo_rules.specs.State.{position, idled, off}
 use Rattle.servo_rules.specs.Perform.{shifted, resetPosition}
@@ -72,9 +73,9 @@ pub shift-alike : (m : Servo) → Fits m → Alike m (resetPosition m)
 unfolding resetPosition shifted
 shift-alike m t =
     let g = good m t in
-    let raw : ℕ = m .samples .latched .raw in
+    let raw : ℕ = m .latched .raw in
     let offset : ℕ = m .counts .offset in
-    let hr : raw < 2 ^ 32 = omega (arith, g .samples .1 .0) in
+    let hr : raw < 2 ^ 32 = omega (arith, g .latched .1 .1) in
     let ho : offset < 2 ^ 32 = omega (arith, g .counts .0) in
     let s : ℕ = m .run .profile .setpoint in
     let hs : s < 2 ^ 48 = g .sane .profile .setpoint in
@@ -148,9 +149,9 @@ steps Trapezoid p = record {
 abbrev Goes : Run → Run → Type 0
 Goes r n = (n .drive .mode ≡ Off) ⊎ ((n .drive .mode ≡ r .drive .mode) × (n .drive .pulse ≡ r .drive .pulse) × Steps (r .drive .mode) (r .profile) (n .profile))
 
-pub tick-alike : (m : Servo) → (ticked m .run .drive .mode ≡ Off) ⊎ Alike m (ticked m)
+pub tick-alike : (x : Sample) (m : Servo) → (ticked x m .run .drive .mode ≡ Off) ⊎ Alike m (ticked x m)
 unfolding pulsed tripped idled off advanced ticked
-tick-alike m = by (tick-ends (Goes (m .run)) m (record {
+tick-alike x m = by (tick-ends (Goes (m .run)) x m (record {
   low = λ q. inl refl;
   off = λ q. inr (refl, refl, stays (m .run .drive .mode) (m .run .profile));
   pwm = λ q. inr (refl, refl, stays (m .run .drive .mode) (m .run .profile));
@@ -158,7 +159,7 @@ tick-alike m = by (tick-ends (Goes (m .run)) m (record {
   trip = λ q. inl refl;
 }))
   where
-    by : Goes (m .run) (ticked m .run) → (ticked m .run .drive .mode ≡ Off) ⊎ Alike m (ticked m)
+    by : Goes (m .run) (ticked x m .run) → (ticked x m .run .drive .mode ≡ Off) ⊎ Alike m (ticked x m)
     by (inl e) = inl e
     by (inr (d, u, s)) = inr (record {
       mode = d;

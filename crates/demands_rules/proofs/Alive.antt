@@ -1,13 +1,14 @@
 -- Not by being dead: a history in two orders, in which a servo and an I/O module execute, store, drive and reply; computed, and by demand 3,
 -- whose hypotheses it meets. Assumes nothing.
-use mathlib.Core.Path.{_≡_, refl, ap, _∙_}
+use mathlib.Core.Path.{_≡_, refl, sym, ap, _∙_}
 use Prim.Native.Nat.{ℕ, zero, suc, _<_, _≤_}
 use native.Mathlib.Omega.{arith}
 use mathlib.Core.List.{List, [], _∷_, _++_}
 use mathlib.Core.Bool.{true, false}
 use mathlib.Core.Logic.{inl, inr}
+use mathlib.Core.Option.{Option, some, none}
 use lib.Count.{ones}
-use lib.ListN.{length, replicate, length-replicate}
+use lib.ListN.{length, getElem?, replicate, length-replicate}
 use Rattle.line_receiver.specs.Receive.{idle, taken}
 use Rattle.line_receiver.specs.Frames.{Byte, Frame, reads, header, clean, written, values}
 use Rattle.line_receiver.proofs.Read.{read}
@@ -32,15 +33,17 @@ use Rattle.servo_rules.specs.Answers.{done, statusOf, numbersOf, outputsFrom}
 use Rattle.types_rules.specs.Table.{servo, inout}
 use Rattle.types_rules.specs.Types.{Module, AnySample, kind, slots}
 use Rattle.net_rules.specs.Record.{recordSize, roomSize, netIn}
-use Rattle.net_rules.specs.Calls.{byteOf, setUp}
+use Rattle.net_rules.specs.Calls.{byteOf, setUp, allTyped, allInRange}
+use Rattle.base_layout.specs.First.{first}
+use Rattle.api_rules.specs.Table.{tickTable}
 use Rattle.api_rules.specs.Calls.{setupRecord}
 use Rattle.api_rules.specs.Promises.{ValidRecord}
-use Rattle.demands_history_rules.specs.Events.{Event, sent, sampled, ticked, run, Reads, Harmless, Ordinary, metBy}
+use Rattle.demands_history_rules.specs.Events.{Event, sent, ticked, run, Reads, Harmless, Ordinary, metBy}
 use Rattle.demands_history_rules.specs.Calls.{leftBy}
 use Rattle.demands_rules.specs.Question.{fed}
-use Rattle.demands_rules.specs.Order.{MeetsTheSame, Lives, Alive}
+use Rattle.demands_rules.specs.Order.{MeetsTheSame, Lives, Alive, ThreeCases}
 use Rattle.demands_rules.proofs.Calls.{from-setup, any-calls}
-use Rattle.demands_rules.proofs.Order.{keeps-address, order-does-not-matter, order-of-all, by-calls}
+use Rattle.demands_rules.proofs.Order.{keeps-address, order-does-not-matter, order-of-all, by-calls, own-ticks}
 use Rattle.demands_rules.proofs.OnTheLine.{small, fed-handed, fed-two, fed-both}
 
 -- a servo and an I/O module
@@ -48,19 +51,22 @@ abbrev types : List ℕ
 types = Servos.typeNumber ∷ Inout.typeNumber ∷ []
 
 abbrev History : Type 0
-History = List (Event AnySample)
+History = List (Event (List AnySample))
 
 -- a frame as the host writes it, without marks
-abbrev frame : ℕ → ℕ → List ℕ → Event AnySample
+abbrev frame : ℕ → ℕ → List ℕ → Event (List AnySample)
 frame address code ds = sent (clean (written address code ds))
+
+-- the samples of a tick: a count of 5 and good power for the servo, and for the I/O module this A/D value
+abbrev measured : ℕ → List AnySample
+measured ad1 = (servo, record { raw = 5; power = 1; ad = 0 }) ∷ (inout, record { inputs = 0; ad1 = ad1; ad2 = 0; ad3 = 0; counter = 0 }) ∷ []
 
 -- after setup the servo gets address 1 and the I/O module 2; the servo has good power, no error bit, output limit 255 and its amplifier on
 abbrev prepared : History
 prepared =
     frame 0 1 (1 ∷ 0xFF ∷ [])
     ∷ frame 0 1 (2 ∷ 0xFF ∷ [])
-    ∷ sampled 0 (servo, record { raw = 5; power = 1; ad = 0 })
-    ∷ ticked
+    ∷ ticked (measured 0)
     ∷ frame 1 11 []
     ∷ frame 1 6 (0 ∷ 0 ∷ 0 ∷ 0 ∷ 0 ∷ 0 ∷ 0 ∷ 0 ∷ 255 ∷ 0 ∷ 0 ∷ 0 ∷ 1 ∷ 0 ∷ 1 ∷ [])
     ∷ frame 1 7 (1 ∷ [])
@@ -73,19 +79,18 @@ ready = run kind prepared (setUp types) .net
 abbrev toServo : History
 toServo = frame 1 4 (0x08 ∷ 100 ∷ []) ∷ sent (header ∷ byteOf 1 true ∷ clean (15 ∷ 16 ∷ [])) ∷ frame 1 5 [] ∷ []
 
--- for the I/O module: its twelve bits become outputs, 0x234 is put out, a sample
+-- for the I/O module: its twelve bits become outputs, 0x234 is put out
 abbrev toInout : History
 toInout =
     frame 2 0 (0 ∷ 0 ∷ [])
     ∷ frame 2 6 (0x34 ∷ 0x02 ∷ [])
-    ∷ sampled 1 (inout, record { inputs = 0; ad1 = 77; ad2 = 0; ad3 = 0; counter = 0 })
     ∷ []
 
 -- each is asked: the servo for its position, the I/O module for its bits and the first A/D value
-abbrev askServo : Event AnySample
+abbrev askServo : Event (List AnySample)
 askServo = frame 1 3 (1 ∷ [])
 
-abbrev askInout : Event AnySample
+abbrev askInout : Event (List AnySample)
 askInout = frame 2 3 (3 ∷ [])
 
 -- two lists, by turns
@@ -96,10 +101,10 @@ turns (e ∷ g) (d ∷ h) = e ∷ d ∷ turns g h
 
 -- the servo first and then the I/O module; and by turns, the I/O module first
 abbrev oneByOne : History
-oneByOne = toServo ++ toInout ++ ticked ∷ askServo ∷ askInout ∷ []
+oneByOne = toServo ++ toInout ++ ticked (measured 77) ∷ askServo ∷ askInout ∷ []
 
 abbrev inTurns : History
-inTurns = turns toInout toServo ++ ticked ∷ askInout ∷ askServo ∷ []
+inTurns = turns toInout toServo ++ ticked (measured 77) ∷ askInout ∷ askServo ∷ []
 
 -- ---- what they come to
 
@@ -108,8 +113,7 @@ firstAddress [] = 0
 firstAddress (sent [] ∷ h) = 0
 firstAddress (sent (a ∷ []) ∷ h) = 0
 firstAddress (sent (a ∷ b ∷ bs) ∷ h) = b .value
-firstAddress (sampled i x ∷ h) = 0
-firstAddress (ticked ∷ h) = 0
+firstAddress (ticked xs ∷ h) = 0
 
 -- the addresses of the ready network, computed once
 ws : List Address
@@ -270,3 +274,48 @@ called =
     (fed-two room (noOp 2) (noOp 1) addressed enough addressed-valid (small (values (noOp 2 ++ noOp 1)) refl))
     (λ i h. rw (holds-addressed, addressed-ws) (same-met i))
     .0
+
+-- ---- ticks with other samples, a tick that is refused, and a frame for nobody
+
+-- the lists of two ticks: the I/O module's input bits are 4,096 in the first, and 0 in the second
+abbrev inputsFar : List ℕ
+inputsFar = 0 ∷ 1 ∷ replicate 8 0 ++ 2 ∷ 0 ∷ 16 ∷ replicate 7 0
+
+abbrev inputsNone : List ℕ
+inputsNone = 0 ∷ 1 ∷ replicate 8 0 ++ 2 ∷ replicate 9 0
+
+holds-lent : netIn slots lent ≡ setUp types
+holds-lent = from-setup zeros types refl .1
+
+-- the first A/D value that an I/O module has latched
+latchedAd : Option Module → ℕ
+latchedAd none = 0
+latchedAd (some (servo, m)) = 0
+latchedAd (some (inout, m)) = m .latched .ad1
+
+other-ad : getElem? (run kind (ticked (measured 77) ∷ []) (setUp types) .net .modules) 1 ≡ getElem? (run kind (ticked (measured 78) ∷ []) (setUp types) .net .modules) 1 → ⊥
+unfolding latchedAd
+other-ad e = let z : _≡_ {A = ℕ} 77 78 = ap latchedAd e in omega arith
+
+far-refused : first (tickTable lent inputsFar) ≡ 14
+unfolding allTyped allInRange
+far-refused = rw (valid .0, holds-lent) refl
+
+none-done : first (tickTable lent inputsNone) ≡ 0
+unfolding allTyped allInRange
+none-done = rw (valid .0, holds-lent) refl
+
+either-side : run kind (sent (noOp 9) ∷ ticked (measured 77) ∷ []) (setUp types) ≡ run kind (ticked (measured 77) ∷ sent (noOp 9) ∷ []) (setUp types)
+unfolding taken byteStep Tick.ticked
+either-side = refl
+
+pub three-cases : ThreeCases lent (setUp types) (measured 77) (measured 78) inputsFar inputsNone (noOp 9)
+three-cases = record {
+  holds = holds-lent;
+  servoTheSame = refl;
+  inoutNot = other-ad;
+  fourteen = far-refused;
+  done = none-done;
+  asIfNone = own-ticks .refused lent inputsFar inputsNone (λ e. let z : _≡_ {A = ℕ} 14 0 = sym far-refused ∙ e in omega arith);
+  eitherSide = either-side;
+}

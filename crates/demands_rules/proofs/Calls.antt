@@ -12,13 +12,13 @@ use Rattle.net_rules.specs.Record.{chainMost, netIn, stored}
 use Rattle.net_rules.proofs.Valid.{valid-is}
 use Rattle.net_rules.proofs.Stored as Stored
 use Rattle.net_rules.proofs.Stored.{there, stored-twice}
-use Rattle.api_rules.specs.Table.{byteTable, servoSampleTable, ioSampleTable, tickTable}
-use Rattle.api_rules.specs.Calls.{byteRecord, sampleRecord, tickRecord}
+use Rattle.api_rules.specs.Table.{byteTable, tickTable}
+use Rattle.api_rules.specs.Calls.{byteRecord, tickRecord}
 use Rattle.api_rules.specs.Promises.{ValidRecord, Refuses, Passes}
 use Rattle.api_rules.proofs.Kept.{kept, holds}
 use Rattle.api_rules.proofs.Refused.{refused, done}
 use Rattle.demands_history_rules.specs.Events.{Event, event, run}
-use Rattle.demands_history_rules.specs.Calls.{Call, byte, servoSample, ioSample, tick, AllHanded, refusals, leaves, leftBy, writes, writtenBy, does, doneBy}
+use Rattle.demands_history_rules.specs.Calls.{Call, byte, tick, AllHanded, refusals, leaves, leftBy, writes, writtenBy, does, doneBy}
 use Rattle.demands_history_rules.proofs.Calls.{passes?, call-kept, refused-leaves, refused-writes, passed-leaves, passed-writes}
 use Rattle.demands_rules.proofs.Types.{typeOf, types, event-types, call-types, same-sizes}
 use Rattle.demands_rules.specs.Motion.{FromSetup, AnyCalls, RefusedIsNoStep}
@@ -32,13 +32,13 @@ flat-append (x ∷ xs) ys =
     ap (λ (l : List ℕ). x .bytes ++ l) (flat-append xs ys) ∙ sym (append-assoc (x .bytes) (flat xs) (flat ys))
 
 -- the events of a list of calls, by whether the first is refused
-pub done-passed : (c : Call) (cs : List Call) (net : List ℕ) → Passes (refusals net c) → doneBy (c ∷ cs) net ≡ does c ∷ doneBy cs (leaves net c)
+pub done-passed : (c : Call) (cs : List Call) (net : List ℕ) → Passes (refusals net c) → doneBy (c ∷ cs) net ≡ does (netIn slots net) c ∷ doneBy cs (leaves net c)
 done-passed c cs net p =
-    ap (λ (l : List (Event AnySample)). l ++ doneBy cs (leaves net c)) (sym (done (refusals net c) [] (does c ∷ []) refl p))
+    ap (λ (l : List (Event (List AnySample))). l ++ doneBy cs (leaves net c)) (sym (done (refusals net c) [] (does (netIn slots net) c ∷ []) refl p))
 
 done-refused : (c : Call) (cs : List Call) (net : List ℕ) → Refuses (refusals net c) → doneBy (c ∷ cs) net ≡ doneBy cs (leaves net c)
 done-refused c cs net r =
-    ap (λ (l : List (Event AnySample)). l ++ doneBy cs (leaves net c)) (sym (refused (refusals net c) [] (does c ∷ []) refl r))
+    ap (λ (l : List (Event (List AnySample))). l ++ doneBy cs (leaves net c)) (sym (refused (refusals net c) [] (does (netIn slots net) c ∷ []) refl r))
 
 -- ---- the bytes that hold nothing
 
@@ -48,12 +48,10 @@ record Left (net r : List ℕ) : Type 0 where
   types : types (net′ .modules) ≡ types (netIn slots net .modules)
   left : r ≡ stored slots net′ net
 
-passed-stored : (net : List ℕ) (c : Call) → Passes (refusals net c) → leaves net c ≡ stored slots (event kind (does c) (netIn slots net) .net) net
-unfolding byteRecord sampleRecord tickRecord
+passed-stored : (net : List ℕ) (c : Call) → Passes (refusals net c) → leaves net c ≡ stored slots (event kind (does (netIn slots net) c) (netIn slots net) .net) net
+unfolding byteRecord tickRecord
 passed-stored net (byte mark x room) p = sym (done (byteTable net mark room) net _ refl p)
-passed-stored net (servoSample place raw power ad) p = sym (done (servoSampleTable net place power) net _ refl p)
-passed-stored net (ioSample place inputs ad1 ad2 ad3 counter) p = sym (done (ioSampleTable net place inputs) net _ refl p)
-passed-stored net tick p = sym (done (tickTable net) net _ refl p)
+passed-stored net (tick samples) p = sym (done (tickTable net samples) net _ refl p)
 
 left-by : (net : List ℕ) (c : Call) → ValidRecord net → Left net (leaves net c)
 left-by net c v = at (passes? (refusals net c))
@@ -62,7 +60,7 @@ left-by net c v = at (passes? (refusals net c))
     same e = record { net′ = netIn slots net; types = refl; left = e ∙ sym (there lawful net (v .1) (v .0)) }
 
     at : Passes (refusals net c) ⊎ Refuses (refusals net c) → Left net (leaves net c)
-    at (inl p) = record { net′ = event kind (does c) (netIn slots net) .net; types = event-types c (netIn slots net); left = passed-stored net c p }
+    at (inl p) = record { net′ = event kind (does (netIn slots net) c) (netIn slots net) .net; types = event-types c (netIn slots net); left = passed-stored net c p }
     at (inr r) = same (refused-leaves net c r)
 
 -- as many modules as there are types
@@ -91,24 +89,24 @@ ran : (net : List ℕ) (cs : List Call) → ValidRecord net → AllHanded cs →
 ran net [] v h = record { valid = v; network = refl; replies = refl }
 ran net (c ∷ cs) v h = at (passes? (refusals net c)) (ran (leaves net c) cs (call-kept net c (h .0) v) (h .1))
   where
-    later : List (Event AnySample)
+    later : List (Event (List AnySample))
     later = doneBy cs (leaves net c)
 
     at : Passes (refusals net c) ⊎ Refuses (refusals net c) → Ran (leaves net c) cs → Ran net (c ∷ cs)
     at (inl p) t =
-        let e : netIn slots (leaves net c) ≡ event kind (does c) (netIn slots net) .net = passed-leaves net c (h .0) v p in
+        let e : netIn slots (leaves net c) ≡ event kind (does (netIn slots net) c) (netIn slots net) .net = passed-leaves net c (h .0) v p in
         let d = done-passed c cs net p in
-        let says : List Reply = event kind (does c) (netIn slots net) .replies in
+        let says : List Reply = event kind (does (netIn slots net) c) (netIn slots net) .replies in
         record {
           valid = t .valid;
           network =
               t .network
               ∙ ap (λ (n : Net Module). run kind later n .net) e
-              ∙ ap (λ (l : List (Event AnySample)). run kind l (netIn slots net) .net) (sym d);
+              ∙ ap (λ (l : List (Event (List AnySample))). run kind l (netIn slots net) .net) (sym d);
           replies =
               ap₂ (λ (a b : List ℕ). a ++ b) (passed-writes net c p) (t .replies ∙ ap (λ (n : Net Module). flat (run kind later n .replies)) e)
-              ∙ sym (flat-append says (run kind later (event kind (does c) (netIn slots net) .net) .replies))
-              ∙ ap (λ (l : List (Event AnySample)). flat (run kind l (netIn slots net) .replies)) (sym d);
+              ∙ sym (flat-append says (run kind later (event kind (does (netIn slots net) c) (netIn slots net) .net) .replies))
+              ∙ ap (λ (l : List (Event (List AnySample))). flat (run kind l (netIn slots net) .replies)) (sym d);
         }
     at (inr r) t =
         let e : netIn slots (leaves net c) ≡ netIn slots net = ap (netIn slots) (refused-leaves net c r) in
@@ -118,12 +116,12 @@ ran net (c ∷ cs) v h = at (passes? (refusals net c)) (ran (leaves net c) cs (c
           network =
               t .network
               ∙ ap (λ (n : Net Module). run kind later n .net) e
-              ∙ ap (λ (l : List (Event AnySample)). run kind l (netIn slots net) .net) (sym d);
+              ∙ ap (λ (l : List (Event (List AnySample))). run kind l (netIn slots net) .net) (sym d);
           replies =
               ap (λ (l : List ℕ). l ++ writtenBy cs (leaves net c)) (refused-writes net c r)
               ∙ t .replies
               ∙ ap (λ (n : Net Module). flat (run kind later n .replies)) e
-              ∙ ap (λ (l : List (Event AnySample)). flat (run kind l (netIn slots net) .replies)) (sym d);
+              ∙ ap (λ (l : List (Event (List AnySample))). flat (run kind l (netIn slots net) .replies)) (sym d);
         }
 
 types-after : (net : List ℕ) (cs : List Call) → ValidRecord net → AllHanded cs → types (netIn slots (leftBy cs net) .modules) ≡ types (netIn slots net .modules)

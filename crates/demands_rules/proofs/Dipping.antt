@@ -17,7 +17,6 @@ use Rattle.chain_rules.specs.Chain.{addresses, touched}
 use Rattle.servo_rules.specs.declared.Mode.the-variants.{Off, Velocity, Trapezoid}
 use Rattle.servo_rules.specs.declared.Sample.{Sample}
 use Rattle.servo_rules.specs.declared.Servo.{Servo}
-use Rattle.servo_rules.specs.State.{sampled}
 use Rattle.servo_rules.specs.Tick.{ticked}
 use Rattle.servo_rules.specs.Answers.{enableLine, execute}
 use Rattle.servo_rules.specs.StopPromises.{Released}
@@ -32,36 +31,33 @@ use Rattle.types_rules.specs.Table.{servo}
 use Rattle.types_rules.specs.Types.{kind, slots}
 use Rattle.types_rules.proofs.Promised.{every-type}
 use Rattle.net_rules.specs.Record.{netIn}
-use Rattle.api_rules.specs.Table.{byteTable, tickTable}
+use Rattle.api_rules.specs.Table.{byteTable}
 use Rattle.api_rules.specs.Calls.{setupRecord}
 use Rattle.api_rules.specs.Promises.{Passes, ValidRecord}
-use Rattle.api_rules.proofs.Refused.{done}
+use Rattle.api_rules.proofs.TickBounds.{own-ten}
 use Rattle.api_rules.proofs.Kept.{kept}
 use Rattle.demands_history_rules.specs.Calls.{Call, byte, tick, AllHanded, leaves, leftBy}
 use Rattle.demands_history_rules.proofs.Calls.{call-kept}
 use Rattle.demands_rules.specs.Motion.{AtRest, At}
-use Rattle.demands_rules.specs.Place.{after, Stands, Executed, inTime}
+use Rattle.demands_rules.specs.Place.{servoSampleAt, after, Stands, Executed}
 use Rattle.demands_rules.specs.Dip.{ComesBack, OffUntilStarted, LastSwitch, Switched, notYet, byStop, byReset, LineOf, EnabledWasSent}
 use Rattle.demands_rules.proofs.Motion.{resting-rests}
-use Rattle.demands_rules.proofs.Making.{Made, same, framed, measured, timed, made, set-up-is}
+use Rattle.demands_rules.proofs.Making.{same, framed, timed, set-up-is}
 use Rattle.demands_rules.proofs.Placing.{stood-before, untouched, Only, executed-by, calm, Carries, carried, carried-on}
 use Rattle.demands_rules.proofs.Sending.{none-on, none-yet}
 use Rattle.demands_rules.proofs.EveryCall.{never}
-use Rattle.demands_rules.proofs.OnTheLine.{tick-goes}
 
--- ---- what frames keep but for those such as Q that are executed, and samples and ticks always, is kept through calls with none such
+-- ---- what frames keep but for those such as Q that are executed, and ticks always, is kept through calls with none such
 pub record Lasts (Q : Frame → Type 0) (P : Servo → Type 0) : Type 0 where
   pub frame : (f : Frame) (alone : Bool) (m : Servo) → P m → (f .damaged ≡ false → execute f alone m .station .cause ≡ 0 → Q f → ⊥) → P (execute f alone m)
-  pub sampling : (x : Sample) (m : Servo) → P m → P (sampled x m)
-  pub tick : (m : Servo) → P m → P (ticked m)
+  pub tick : (x : Sample) (m : Servo) → P m → P (ticked x m)
 
 module _ (Q : Frame → Type 0) (P : Servo → Type 0) (l : Lasts Q P) (net : List ℕ) (cs : List Call) (i : ℕ) where
   lasts-on : ((j : ℕ) (f : Frame) → Executed net cs i j f → Q f → ⊥) → Carries net cs i (λ n k. P k)
   lasts-on u n _ m _ g w st (same c _ _) st′ o p = p
   lasts-on u n _ m k g w st (framed mark x room d goes a t) st′ o p =
       l .frame (frameIn (netIn slots (after net cs i n) .receiver) d) _ m p (calm net cs i n mark x room Q d k g goes t a o (u n))
-  lasts-on u n _ m _ g w st (measured c x _ _ _) st′ o p = l .sampling x m p
-  lasts-on u n _ m _ g w st (timed _) st′ o p = l .tick m p
+  lasts-on u n _ m _ g w st (timed samples _ _) st′ o p = l .tick (servoSampleAt samples i) m p
 
   pub lasts : (m k : Servo) → ValidRecord net → AllHanded cs → At net i m → At (leftBy cs net) i k
       → ((j : ℕ) (f : Frame) → Executed net cs i j f → Q f → ⊥) → P m → P k
@@ -72,12 +68,11 @@ module _ (Q : Frame → Type 0) (P : Servo → Type 0) (l : Lasts Q P) (net : Li
 amplifier-lasts : (b : Bool) → Lasts Switches (λ k. k .run .drive .amplifier ≡ b)
 amplifier-lasts b = record {
   frame = λ f alone m p n. amplifier-bit .frame f alone m n ∙ p;
-  sampling = λ x m p. p;
-  tick = λ m p. amplifier-bit .tick m ∙ p;
+  tick = λ x m p. amplifier-bit .tick x m ∙ p;
 }
 
 -- with power 1 the line is the bit
-line-is : (m k : Servo) → k .run .drive .amplifier ≡ m .run .drive .amplifier → m .samples .latched .power ≡ 1 → k .samples .latched .power ≡ 1
+line-is : (m k : Servo) → k .run .drive .amplifier ≡ m .run .drive .amplifier → m .latched .power ≡ 1 → k .latched .power ≡ 1
     → enableLine k ≡ enableLine m
 line-is m k e p q = at (m .run .drive .amplifier) refl
   where
@@ -93,7 +88,7 @@ comes-back net cs i m k v h e q u =
 -- ---- off
 
 released-lasts : Lasts TurnsOn (λ k. Released (k .run))
-released-lasts = record { frame = stays-off .frame; sampling = λ x m r. r; tick = stays-off .tick }
+released-lasts = record { frame = stays-off .frame; tick = stays-off .tick }
 
 off-rests : (m : Servo) → Released (m .run) → AtRest m
 off-rests m r = resting-rests m (record {
@@ -103,24 +98,15 @@ off-rests m r = resting-rests m (record {
   goal = λ q. absurd (distinct Off Trapezoid refl (sym (r .mode) ∙ q));
 })
 
--- a tick of a valid record is not refused
-ticked-at : (net : List ℕ) (i : ℕ) (m : Servo) → ValidRecord net → At net i m → At (leaves net tick) i (ticked m)
-ticked-at net i m v e =
-    let (k, q, d) = made net tick i m tt v e in
-    subst (At (leaves net tick) i) (by k d ∙ sym (done (tickTable net) m (ticked m) refl (tick-goes net (v .0)))) q
-  where
-    by : (k : Servo) → Made net i m tick k → k ≡ inTime net i tick m
-    by _ (same c _ q) = sym q
-    by _ (measured c x _ _ q) = sym q
-    by _ (timed q) = sym q
-
 pub off-until-started : OffUntilStarted
-off-until-started net cs i m k v h e p q =
-    let w : ValidRecord (leaves net tick) = call-kept net tick tt v in
-    let s : At (leaves net tick) i (ticked m) = ticked-at net i m v e in
-    let r : Released (ticked m .run) = ticks m .low p in (
-      λ u. lasts TurnsOn _ released-lasts (leaves net tick) cs i (ticked m) k w h s q u r,
-      λ n. never (leaves net tick) cs i (ticked m) k w h s q (off-rests (ticked m) r) n,
+off-until-started net samples cs i m k v b h e goes p q =
+    let t : List ℕ = leaves net (tick samples) in
+    let x : Sample = servoSampleAt samples i in
+    let w : ValidRecord t = call-kept net (tick samples) b v in
+    let s : At t i (ticked x m) = own-ten net samples i servo m (v .1) b goes e in
+    let r : Released (ticked x m .run) = ticks x m .low p in (
+      λ u. lasts TurnsOn _ released-lasts t cs i (ticked x m) k w h s q u r,
+      λ n. never t cs i (ticked x m) k w h s q (off-rests (ticked x m) r) n,
     )
 
 -- ---- from setup
@@ -197,14 +183,14 @@ module _ (net : List ℕ) (cs : List Call) (i : ℕ) where
   switched-on : Carries net cs i Tells
   switched-on n _ m _ g w st (same c s _) st′ o p = quiet n (λ f x z. untouched net cs i n c g s f (x .met)) (m .run .drive .amplifier) p
   switched-on n _ m _ g w st (framed mark x room d goes a t) st′ o p = framed-tells n mark x room d _ m g goes t a st′ o p
-  switched-on n _ m _ g w st (measured c x y s _) st′ o p = quiet n (λ f x z. untouched net cs i n c g s f (x .met)) (m .run .drive .amplifier) p
-  switched-on n _ m _ g w st (timed _) st′ o p =
-      subst (Switched net cs i (suc n)) (sym (amplifier-bit .tick m)) (quiet n (λ f x z. untouched net cs i n tick g tt f (x .met)) (m .run .drive .amplifier) p)
+  switched-on n _ m _ g w st (timed samples _ _) st′ o p =
+      subst (Switched net cs i (suc n)) (sym (amplifier-bit .tick (servoSampleAt samples i) m))
+      (quiet n (λ f x z. untouched net cs i n (tick samples) g tt f (x .met)) (m .run .drive .amplifier) p)
 
 line-of : (k : Servo) → LineOf (k .run .drive .amplifier) k
 line-of k = record { high = enabled k .high; low = by }
   where
-    by : (k .run .drive .amplifier ≡ false) ⊎ (k .samples .latched .power ≡ 1 → ⊥) → enableLine k ≡ 0
+    by : (k .run .drive .amplifier ≡ false) ⊎ (k .latched .power ≡ 1 → ⊥) → enableLine k ≡ 0
     by (inl e) = enabled k .unset e
     by (inr n) = enabled k .unpowered n
 

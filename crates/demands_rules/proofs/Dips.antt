@@ -26,11 +26,12 @@ use Rattle.servo_rules.specs.Tick.{putOut, pulsed, ran, ticked}
 use Rattle.servo_rules.specs.Answers as Servos
 use Rattle.servo_rules.specs.Answers.{outputsFrom, enableLine}
 use Rattle.types_rules.specs.Types.{Module}
-use Rattle.demands_history_rules.specs.Calls.{Call, byte, servoSample, ioSample, tick, AllHanded, leftBy}
+use Rattle.demands_history_rules.specs.Calls.{Call, byte, tick, AllHanded, leftBy}
 use Rattle.demands_rules.specs.Motion.{At}
 use Rattle.demands_rules.specs.Dip.{Switched, LineOf, Dips}
 use Rattle.demands_rules.proofs.Calls.{any-calls}
 use Rattle.demands_rules.proofs.OnTheLine.{small}
+use Rattle.demands_rules.proofs.Computing.{atPower, power-bytes}
 use Rattle.demands_rules.proofs.Examples.{lit, types, zeros, lent, set-up, valid, calls, are-handed, ends-with}
 use Rattle.demands_rules.proofs.Dipping.{comes-back, enabled-was-sent}
 
@@ -56,7 +57,7 @@ stands-on : At (leftBy cs lent) 0 on
 unfolding taken byteStep asked request execute own stopMeant ticked ones
 stands-on = ap (λ (n : Net Module). getElem? (n .modules) 0) (ends-with orders (small (values orders) refl))
 
-line-high : (enableLine on ≡ 1) × (on .samples .latched .power ≡ 1)
+line-high : (enableLine on ≡ 1) × (on .latched .power ≡ 1)
 unfolding asked request execute own haltOf stopMeant stopped ran ticked ones outputsFrom
 line-high = (refl, refl)
 
@@ -72,13 +73,11 @@ was-switched-on =
 
 -- and then a dip to low and to high power
 abbrev dip : List Call
-dip = servoSample 0 0 0 0 ∷ tick ∷ servoSample 0 0 2 0 ∷ tick ∷ servoSample 0 0 1 0 ∷ tick ∷ []
+dip = tick (atPower 0) ∷ tick (atPower 2) ∷ tick (atPower 1) ∷ []
 
 abbrev isByte : Call → Bool
 isByte (byte mark x room) = true
-isByte (servoSample place raw power ad) = false
-isByte (ioSample place inputs ad1 ad2 ad3 counter) = false
-isByte tick = false
+isByte (tick samples) = false
 
 abbrev NoBytes : List Call → Type 0
 NoBytes [] = Unit {0}
@@ -90,9 +89,9 @@ no-byte (d ∷ cs) zero c n e = let z : d ≡ c = cc in ap isByte (sym z) ∙ n 
 no-byte (d ∷ cs) (suc j) c n e = no-byte cs j c (n .1) e
 
 -- after it, at power 1, the line is high again
-pub comes-back-high : (k : Servo) → At (leftBy dip (leftBy cs lent)) 0 k → k .samples .latched .power ≡ 1 → enableLine k ≡ 1
+pub comes-back-high : (k : Servo) → At (leftBy dip (leftBy cs lent)) 0 k → k .latched .power ≡ 1 → enableLine k ≡ 1
 comes-back-high k e p =
     comes-back (leftBy cs lent) dip 0 on k (any-calls lent cs valid orders-handed .valid)
-    ((omega arith, omega arith), (tt, ((omega arith, omega arith), (tt, ((omega arith, omega arith), (tt, tt))))))
-    stands-on e (λ j f x z. true≢false (no-byte dip j _ (refl, (refl, (refl, (refl, (refl, (refl, tt)))))) (x .met .call))) .back (line-high .1) p
+    (power-bytes 0 refl, (power-bytes 2 refl, (power-bytes 1 refl, tt)))
+    stands-on e (λ j f x z. true≢false (no-byte dip j _ (refl, (refl, (refl, tt))) (x .met .call))) .back (line-high .1) p
     ∙ line-high .0

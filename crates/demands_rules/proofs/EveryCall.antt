@@ -5,13 +5,13 @@ use mathlib.Core.List.{List, [], _∷_}
 use mathlib.Core.Bool.{Bool, true, false}
 use Prim.Native.Nat.{ℕ}
 use lib.Dec.{eqb}
+use Rattle.base_layout.specs.Bytes.{Bytes}
 use Rattle.line_receiver.specs.declared.Answer.the-variants.{Ended}
 use Rattle.line_receiver.specs.Receive.{taken}
 use Rattle.line_receiver.specs.Frames.{Frame, frameIn}
 use Rattle.module_rules.specs.Touch.{individually}
 use Rattle.chain_rules.specs.Chain.{Net, addresses, touched}
 use Rattle.servo_rules.specs.declared.Servo.{Servo}
-use Rattle.servo_rules.specs.State.{sampled}
 use Rattle.servo_rules.specs.RestPromises.{Resting, following}
 use Rattle.servo_rules.proofs.AtRest.{stays-resting}
 use Rattle.servo_slot_rules.specs.Promises.{Fits}
@@ -22,8 +22,9 @@ use Rattle.net_rules.specs.Calls.{byteOf}
 use Rattle.api_rules.specs.Promises.{ValidRecord}
 use Rattle.demands_history_rules.specs.Calls.{Call, byte, tick, Handed, AllHanded, leaves, leftBy}
 use Rattle.demands_history_rules.proofs.Calls.{call-kept}
+use Rattle.demands_rules.specs.Place.{servoSampleAt}
 use Rattle.demands_rules.specs.Motion.{Moves, Bound, SetsOut, Begins, out, LoadStarts, byStart, byLoad, Starts, ofLoad, byStopHere, At, LineStarts, CallStarts, EveryCall, StartedBy, Never}
-use Rattle.demands_rules.proofs.Making.{same-place, fits-at, Made, same, framed, measured, timed, made, set-up-is}
+use Rattle.demands_rules.proofs.Making.{same-place, fits-at, Made, same, framed, timed, made, set-up-is}
 use Rattle.demands_rules.proofs.Motion.{resting-rests, rests-resting, frame-sets-out, frame-starts, frame-rests, ticked-bound, ticked-moves, ticked-rests, nothing-begins}
 
 -- ---- what begins motion
@@ -52,7 +53,7 @@ line-starts Such whole n i m mark x d e t s =
     }
 
 command : (net : List ℕ) (c : Call) (i : ℕ) (m k : Servo) → Handed c → ValidRecord net → At net i m → At (leaves net c) i k
-    → (c ≡ tick → ⊥) → (Begins m k → CallStarts Starts net i m c) × (SetsOut m k → CallStarts LoadStarts net i m c)
+    → ((samples : List ℕ) → c ≡ tick samples → ⊥) → (Begins m k → CallStarts Starts net i m c) × (SetsOut m k → CallStarts LoadStarts net i m c)
 command net c i m k h v e q n =
     let (k′, q′, d) = made net c i m h v e in
     let z : k′ ≡ k = same-place (netIn slots (leaves net c) .modules) i k′ k q′ q in
@@ -61,29 +62,27 @@ command net c i m k h v e q n =
     none : (k : Servo) {A B : Type 0} → k .run ≡ m .run → following k ≡ following m → (Begins m k → A) × (SetsOut m k → B)
     none k r f = (λ b. absurd (nothing-begins m k r f b), λ b. absurd (nothing-begins m k r f (out b)))
 
-    by : (c : Call) (k : Servo) → Made net i m c k → (c ≡ tick → ⊥) → (Begins m k → CallStarts Starts net i m c) × (SetsOut m k → CallStarts LoadStarts net i m c)
+    by : (c : Call) (k : Servo) → Made net i m c k → ((samples : List ℕ) → c ≡ tick samples → ⊥) → (Begins m k → CallStarts Starts net i m c) × (SetsOut m k → CallStarts LoadStarts net i m c)
     by _ _ (same c _ _) n = none m refl refl
     by _ _ (framed mark x room d goes a t) n = (
       λ b. (goes, line-starts Starts undamaged (netIn slots net) i m mark x d a t (frame-starts _ _ m (fits-at net i m v e) b)),
       λ b. (goes, line-starts LoadStarts load-undamaged (netIn slots net) i m mark x d a t (frame-sets-out _ _ m (fits-at net i m v e) b)),
     )
-    by _ _ (measured c x u _ _) n = none (sampled x m) refl refl
-    by _ _ (timed _) n = absurd (n refl)
+    by _ _ (timed samples _ _) n = absurd (n samples refl)
 
-tick-call : (net : List ℕ) (i : ℕ) (m k : Servo) → ValidRecord net → At net i m → At (leaves net tick) i k
+tick-call : (net samples : List ℕ) (i : ℕ) (m k : Servo) → Bytes samples → ValidRecord net → At net i m → At (leaves net (tick samples)) i k
     → ((Moves m → ⊥) → Moves k → Bound m) × (Bound k → Bound m)
-tick-call net i m k v e q =
-    let (k′, q′, d) = made net tick i m tt v e in
-    let z : k′ ≡ k = same-place (netIn slots (leaves net tick) .modules) i k′ k q′ q in
+tick-call net samples i m k b v e q =
+    let (k′, q′, d) = made net (tick samples) i m b v e in
+    let z : k′ ≡ k = same-place (netIn slots (leaves net (tick samples)) .modules) i k′ k q′ q in
     subst (λ (k : Servo). ((Moves m → ⊥) → Moves k → Bound m) × (Bound k → Bound m)) z (by k′ d)
   where
     t : Fits m
     t = fits-at net i m v e
 
-    by : (k : Servo) → Made net i m tick k → ((Moves m → ⊥) → Moves k → Bound m) × (Bound k → Bound m)
+    by : (k : Servo) → Made net i m (tick samples) k → ((Moves m → ⊥) → Moves k → Bound m) × (Bound k → Bound m)
     by _ (same c _ _) = (λ n z. absurd (n z), λ b. b)
-    by _ (measured c x u _ _) = absurd (u refl)
-    by _ (timed _) = (ticked-moves m t, ticked-bound m t)
+    by _ (timed _ _ _) = (ticked-moves (servoSampleAt samples i) m t, ticked-bound (servoSampleAt samples i) m t)
 
 pub every-call : EveryCall
 every-call = record {
@@ -103,8 +102,7 @@ stays net _ i m _ t r (framed mark x room d goes a u) = at (frame-rests (frameIn
         → CallStarts LoadStarts net i m (byte mark x room) ⊎ A
     at (inl s) = inl (goes, line-starts LoadStarts load-undamaged (netIn slots net) i m mark x d a u s)
     at (inr z) = inr z
-stays net _ i m _ t r (measured c x u _ _) = inr (stays-resting .sampling x m r)
-stays net _ i m _ t r (timed _) = inr (ticked-rests m t r)
+stays net _ i m _ t r (timed samples _ _) = inr (ticked-rests (servoSampleAt samples i) m t r)
 
 -- a start in what comes after the first call
 later-start : (c : Call) (cs : List Call) (net : List ℕ) (i : ℕ) → StartedBy cs (leaves net c) i → StartedBy (c ∷ cs) net i

@@ -1,5 +1,5 @@
 -- Beside the theorems of demands 1 and 2: servos, frames, calls and records that meet what they ask for, computed. Assumes nothing.
-use mathlib.Core.Path.{_≡_, refl, sym, ap, _∙_}
+use mathlib.Core.Path.{_≡_, refl, sym, ap, ap₂, _∙_}
 use mathlib.Core.Logic.{inl, inr}
 use mathlib.Core.List.{List, [], _∷_, _++_, append-nil}
 use mathlib.Core.Bool.{true, false}
@@ -26,7 +26,7 @@ use Rattle.servo_rules.specs.declared.Mode.the-variants.{Pwm, Velocity, Trapezo
 use Rattle.servo_rules.specs.declared.Servo.{Servo}
 use Rattle.servo_rules.specs.Carried.{needed, carriedIn, inRange}
 use Rattle.servo_rules.specs.Asks.{loadMeant, haltOf, stopMeant, own}
-use Rattle.servo_rules.specs.State.{started, sampled, idled}
+use Rattle.servo_rules.specs.State.{started, idled}
 use Rattle.servo_rules.specs.Loads.{wayOf, loadOf, ratesOf, loaded, beginningAt, movable, complete, startable, signedBy, toSpeed, toPlace, start}
 use Rattle.servo_rules.specs.Perform.{holding, stopped}
 use Rattle.servo_rules.specs.Tick.{advanced, servoed, ran, ticked}
@@ -37,14 +37,14 @@ use Rattle.servo_slot_rules.proofs.Within.{kept}
 use Rattle.types_rules.specs.Table.{servo}
 use Rattle.types_rules.specs.Types.{Module, AnySample, kind, slots}
 use Rattle.net_rules.specs.Record.{recordSize, roomSize, netIn}
-use Rattle.net_rules.specs.Calls.{setUp}
+use Rattle.net_rules.specs.Calls.{setUp, samplesIn, samplesFor}
 use Rattle.host_rules.specs.Writing.{writtenOf}
 use Rattle.api_rules.specs.Table.{setupTable}
-use Rattle.api_rules.specs.Calls.{setupRecord, servoSampleOf}
+use Rattle.api_rules.specs.Calls.{setupRecord}
 use Rattle.api_rules.specs.Promises.{Passes, Refuses, ValidRecord}
 use Rattle.demands_history_rules.specs.Events.{Event, sent, run, singly, Reads}
 use Rattle.demands_history_rules.specs.Events as Events
-use Rattle.demands_history_rules.specs.Calls.{Call, byte, servoSample, tick, AllHanded, refusals, leaves, leftBy, doneBy}
+use Rattle.demands_history_rules.specs.Calls.{Call, byte, tick, AllHanded, refusals, leaves, leftBy, doneBy}
 use Rattle.demands_history_rules.proofs.Singly.{run-singly}
 use Rattle.demands_history_rules.proofs.Calls.{call-kept}
 use Rattle.demands_rules.specs.Motion.{Moves, AtRest, moving, bound, Begins, out, put, turnedOn, Starts, At, StartedBy}
@@ -54,7 +54,9 @@ use Rattle.demands_rules.specs.Sent.{MoveSent, PulseSent, WasSent}
 use Rattle.demands_rules.proofs.Motion.{resting-rests, frame-starts}
 use Rattle.demands_rules.proofs.Sent.{what-moves-was-sent}
 use Rattle.demands_rules.proofs.EveryCall.{every-call, never}
-use Rattle.demands_rules.proofs.OnTheLine.{small, tick-goes, fed-handed, fed-done, question-on-the-line}
+use Rattle.demands_rules.proofs.OnTheLine.{small, fed-handed, fed-done, question-on-the-line}
+use Rattle.demands_rules.proofs.Types.{types as typesOf}
+use Rattle.demands_rules.proofs.Computing.{Lone, atPower, tick-goes, power-bytes}
 
 -- ---- a servo and frames for it
 
@@ -63,7 +65,7 @@ undamaged code ds = record { address = 0; code = code; content = ds; damaged = f
 
 -- a servo that has seen power 1 and a Clear Bits: it could start, if a load waited
 abbrev pub lit : Servo
-lit = ticked (sampled (record { raw = 0; power = 1; ad = 0 }) started)
+lit = ticked (record { raw = 0; power = 1; ad = 0 }) started
 
 abbrev awake : Servo
 awake = execute (undamaged 11 []) true lit
@@ -102,7 +104,7 @@ some-number n z e q = let h : n + 1 ≡ 0 = ap natAbs (sym e ∙ q) in omega ari
 awake-fits : Fits awake
 awake-fits =
     kept .frame (undamaged 11 []) true _ (λ i. omega arith)
-    (kept .tick _ (kept .sampling _ _ (omega arith, ((omega arith, omega arith), omega arith)) (kept .power)))
+    (kept .tick _ _ ((omega arith, omega arith), (omega arith, omega arith)) (kept .power))
 
 rests : AtRest awake
 unfolding Any.execute Any.request asked own ticked ran distance difference signed
@@ -131,11 +133,11 @@ pub starts : Starts speed true awake
 starts = frame-starts speed true awake awake-fits by-load
 
 -- the speed laws of both modes speak of ticks that there are
-pub climbs : (execute speed true awake .run .drive .mode ≡ Velocity) × (ticked (execute speed true awake) .run .drive .mode ≡ Velocity) × Moves (ticked (execute speed true awake))
+pub climbs : (execute speed true awake .run .drive .mode ≡ Velocity) × (ticked (record { raw = 0; power = 1; ad = 0 }) (execute speed true awake) .run .drive .mode ≡ Velocity) × Moves (ticked (record { raw = 0; power = 1; ad = 0 }) (execute speed true awake))
 unfolding Any.execute Any.request asked own ticked ran loadMeant carriedIn inRange loaded loadOf ratesOf wayOf startable complete start beginningAt toSpeed signedBy ones servoed advanced byVelocity stepped moved toward difference signed Filter.held Filter.drive Filter.limited Filter.filtered
 climbs = (refl, refl, inl (some-number 99 _ refl))
 
-pub travels : (execute go true (execute move true awake) .run .drive .mode ≡ Trapezoid) × (ticked (execute go true (execute move true awake)) .run .drive .mode ≡ Trapezoid)
+pub travels : (execute go true (execute move true awake) .run .drive .mode ≡ Trapezoid) × (ticked (record { raw = 0; power = 1; ad = 0 }) (execute go true (execute move true awake)) .run .drive .mode ≡ Trapezoid)
 unfolding Any.execute Any.request asked own ticked ran loadMeant carriedIn inRange loaded loadOf ratesOf wayOf startable complete movable same start beginningAt toPlace distance difference signed ones servoed advanced byTrapezoid trapezoid stepped moved Filter.held Filter.drive Filter.limited Filter.filtered terms stop pick greatest nextSpeed
 travels = (refl, refl)
 
@@ -205,37 +207,38 @@ carriage-stays =
     (refl, refl, refl)
     (ap (λ (n : Net Module). touched true 0 (addresses kind (n .modules)) 0) held)
 
--- ---- histories of calls that end in motion: a sample of good power, a tick, and then the bytes of Clear Bits and of orders
+-- ---- histories of calls that end in motion: a tick with good power, and then the bytes of Clear Bits and of orders
+
+abbrev pub lone : Lone lent
+lone = ap (λ (n : Net Module). typesOf (n .modules)) held
 
 abbrev pub calls : List Byte → List Call
-calls orders = servoSample 0 0 1 0 ∷ tick ∷ fed room orders
+calls orders = tick (atPower 1) ∷ fed room orders
 
-abbrev pub happens : List Byte → List (Event AnySample)
-happens orders = Events.sampled 0 (servoSampleOf 0 1 0) ∷ Events.ticked ∷ sent orders ∷ []
+abbrev pub happens : List Byte → List (Event (List AnySample))
+happens orders = Events.ticked ((servo, record { raw = 0; power = 1; ad = 0 }) ∷ []) ∷ sent orders ∷ []
 
-abbrev sampledLent : List ℕ
-sampledLent = leaves lent (servoSample 0 0 1 0)
-
-sampled-valid : ValidRecord sampledLent
-sampled-valid = call-kept lent (servoSample 0 0 1 0) (omega arith, omega arith) valid
+-- the list that the tick is handed
+handed-in : samplesFor (netIn slots lent) (atPower 1) ≡ (servo, record { raw = 0; power = 1; ad = 0 }) ∷ []
+unfolding samplesIn
+handed-in = ap (λ (n : Net Module). samplesFor n (atPower 1)) held
 
 module _ (orders : List Byte) (small : AreBytes (values orders)) where
   pub are-handed : AllHanded (calls orders)
-  are-handed = ((omega arith, omega arith), (tt, fed-handed room orders small))
+  are-handed = (power-bytes 1 refl, fed-handed room orders small)
 
   all-done : doneBy (calls orders) lent ≡ singly (happens orders)
   all-done =
-      done-passed (servoSample 0 0 1 0) (tick ∷ fed room orders) lent (rw (valid .0, held) refl)
-      ∙ ap (λ (l : List (Event AnySample)). Events.sampled 0 (servoSampleOf 0 1 0) ∷ l)
-      (done-passed tick (fed room orders) sampledLent (tick-goes sampledLent (sampled-valid .0))
-      ∙ ap (λ (l : List (Event AnySample)). Events.ticked ∷ l)
-      (fed-done room orders (leaves sampledLent tick) enough (call-kept sampledLent tick tt sampled-valid) small ∙ sym (append-nil _)))
+      let t : Call = tick (atPower 1) in
+      done-passed t (fed room orders) lent (tick-goes 1 refl lent valid lone)
+      ∙ ap₂ (λ (xs : List AnySample) (l : List (Event (List AnySample))). Events.ticked xs ∷ l) handed-in
+      (fed-done room orders (leaves lent t) enough (call-kept lent t (power-bytes 1 refl) valid) small ∙ sym (append-nil _))
 
   -- the network that the record holds then, and the servo that the orders make
   pub ends-with : netIn slots (leftBy (calls orders) lent) ≡ run kind (happens orders) (setUp types) .net
   ends-with =
       any-calls lent (calls orders) valid are-handed .network
-      ∙ ap (λ (l : List (Event AnySample)). run kind l (netIn slots lent) .net) all-done
+      ∙ ap (λ (l : List (Event (List AnySample))). run kind l (netIn slots lent) .net) all-done
       ∙ ap (λ (o : Events.Outcome Module). o .net) (run-singly kind (happens orders) (netIn slots lent))
       ∙ ap (λ (n : Net Module). run kind (happens orders) n .net) held
 

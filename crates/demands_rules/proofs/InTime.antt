@@ -14,22 +14,20 @@ use Rattle.line_receiver.specs.Receive.{taken}
 use Rattle.line_receiver.specs.Frames.{Frame, frameIn}
 use Rattle.module_rules.specs.Touch.{individually}
 use Rattle.servo_rules.specs.declared.Servo.{Servo}
-use Rattle.servo_rules.specs.State.{sampled}
 use Rattle.servo_rules.specs.Tick.{ticked}
 use Rattle.servo_rules.specs.Answers.{withCause, execute}
 use Rattle.servo_rules.proofs.Keeping.{either}
 use Rattle.types_rules.specs.Types.{slots}
 use Rattle.net_rules.specs.Record.{netIn}
 use Rattle.base_layout.specs.First.{first}
-use Rattle.api_rules.specs.Table.{servoSampleTable, tickTable}
-use Rattle.api_rules.specs.Calls.{unless}
+use Rattle.api_rules.specs.Table.{tickTable}
 use Rattle.api_rules.specs.Promises.{ValidRecord}
-use Rattle.demands_history_rules.specs.Calls.{Call, byte, servoSample, ioSample, tick, AllHanded}
+use Rattle.demands_history_rules.specs.Calls.{Call, byte, tick, AllHanded}
 use Rattle.demands_history_rules.proofs.Events.{below}
 use Rattle.demands_rules.specs.Motion.{At}
-use Rattle.demands_rules.specs.Place.{after, Stands, Touched, inTime, throughTime}
+use Rattle.demands_rules.specs.Place.{servoSampleAt, after, Stands, Touched, inTime, throughTime}
 use Rattle.demands_rules.specs.Question.{Missed, IsStart, QuestionInTime}
-use Rattle.demands_rules.proofs.Making.{Made, same, framed, measured, timed, made}
+use Rattle.demands_rules.proofs.Making.{Made, same, framed, timed, made}
 use Rattle.demands_rules.proofs.Placing.{call-at, time-at, valid-after, untouched}
 use Rattle.demands_rules.proofs.Question.{missed-is, start-refused}
 
@@ -42,11 +40,7 @@ either-caused k false x y = refl
 time-cause : (net : List ℕ) (i : ℕ) (c : Call) (k : ℕ) (m : Servo) → inTime net i c (withCause k m) ≡ withCause k (inTime net i c m)
 unfolding ticked
 time-cause net i (byte mark x room) k m = refl
-time-cause net i (servoSample place raw power ad) k m =
-    ap (λ (n : Servo). unless (servoSampleTable net place power) (withCause k m) n) (either-caused k (eqb i place) (sampled _ m) m)
-    ∙ either-caused k (eqb (first (servoSampleTable net place power)) 0) _ m
-time-cause net i (ioSample place inputs ad1 ad2 ad3 counter) k m = refl
-time-cause net i tick k m = either-caused k (eqb (first (tickTable net)) 0) (ticked m) m
+time-cause net i (tick samples) k m = either-caused k (eqb (first (tickTable net samples)) 0) (ticked (servoSampleAt samples i) m) m
 
 abbrev Waits : Bool → Servo → Type 0
 Waits w m = m .settings .load .waits ≡ w
@@ -54,11 +48,8 @@ Waits w m = m .settings .load .waits ≡ w
 time-waits : (net : List ℕ) (i : ℕ) (c : Call) (m : Servo) → inTime net i c m .settings .load .waits ≡ m .settings .load .waits
 unfolding ticked
 time-waits net i (byte mark x room) m = refl
-time-waits net i (servoSample place raw power ad) m =
-    let w : Bool = m .settings .load .waits in
-    either (Waits w) (eqb (first (servoSampleTable net place power)) 0) _ m (either (Waits w) (eqb i place) (sampled _ m) m refl refl) refl
-time-waits net i (ioSample place inputs ad1 ad2 ad3 counter) m = refl
-time-waits net i tick m = either (Waits (m .settings .load .waits)) (eqb (first (tickTable net)) 0) (ticked m) m refl refl
+time-waits net i (tick samples) m =
+    either (Waits (m .settings .load .waits)) (eqb (first (tickTable net samples)) 0) (ticked (servoSampleAt samples i) m) m refl refl
 
 -- two names of one byte give one answer, and one damage
 same-answer : (r : Receiver) (mark y mark′ y′ : ℕ) {room room′ : List ℕ} → some (byte mark y room) ≡ some (byte mark′ y′ room′)
@@ -72,7 +63,7 @@ same-damage : (d b : Bool) → Ended d ≡ Ended b → d ≡ b
 same-damage d b e = cc
 
 module _ (net : List ℕ) (cs : List Call) (i : ℕ) (m : Servo) where
-  -- what samples and ticks alone make of it by the first n calls
+  -- what ticks alone make of it by the first n calls
   abbrev timely : ℕ → Servo
   timely n = throughTime net i (take n cs) m
 
@@ -89,10 +80,8 @@ module _ (net : List ℕ) (cs : List Call) (i : ℕ) (m : Servo) where
     refl,
     time-at cs net i n m (byte mark x room) e,
   )
-  made-by n k _ _ e (measured c x _ _ q) =
-      inl (sym (ap (withCause k) (time-at cs net i n m c e) ∙ sym (time-cause (after net cs i n) i c k (timely n)) ∙ q))
-  made-by n k _ _ e (timed q) =
-      inl (sym (ap (withCause k) (time-at cs net i n m tick e) ∙ sym (time-cause (after net cs i n) i tick k (timely n)) ∙ q))
+  made-by n k _ _ e (timed samples _ q) =
+      inl (sym (ap (withCause k) (time-at cs net i n m (tick samples) e) ∙ sym (time-cause (after net cs i n) i (tick samples) k (timely n)) ∙ q))
 
   module _ (v : ValidRecord net) (h : AllHanded cs) (at : At net i m) (empty : m .settings .load .waits ≡ false) where
     waits-not : (n : ℕ) → n ≤ length cs → timely n .settings .load .waits ≡ false
@@ -133,8 +122,7 @@ module _ (net : List ℕ) (cs : List Call) (i : ℕ) (m : Servo) where
         by : (k : ℕ) → n ≤ length cs → (c : Call) (s : Servo) → getElem? cs n ≡ some c → Made (after net cs i n) i (withCause k (timely n)) c s
             → Stands net cs i (suc n) s → Stands net cs i (suc n) (withCause 3 (timely n))
         by k l _ _ e (same c y _) st = absurd (untouched net cs i n c e y start x)
-        by k l _ _ e (measured c y _ z _) st = absurd (untouched net cs i n c e z start x)
-        by k l _ _ e (timed _) st = absurd (untouched net cs i n tick e tt start x)
+        by k l _ _ e (timed samples _ _) st = absurd (untouched net cs i n (tick samples) e tt start x)
         by k l _ _ e (framed mark y room d goes a u) st =
             let r : Receiver = netIn slots (after net cs i n) .receiver in
             let alone : Bool = individually (r .address) (timely n .station .address) in

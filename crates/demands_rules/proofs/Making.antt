@@ -18,30 +18,28 @@ use Rattle.module_rules.specs.Kind.{executed}
 use Rattle.chain_rules.specs.Chain.{Net, Step, addresses, touched, byteStep}
 use Rattle.chain_rules.proofs.Bytes.{step-on, step-end}
 use Rattle.chain_rules.proofs.Touching.{touched-before}
-use Rattle.servo_rules.specs.declared.Sample.{Sample}
 use Rattle.servo_rules.specs.declared.Servo.{Servo}
-use Rattle.servo_rules.specs.State.{started, sampled}
+use Rattle.servo_rules.specs.State.{started}
 use Rattle.servo_rules.specs.Tick.{ticked}
 use Rattle.servo_rules.specs.Answers.{execute}
 use Rattle.servo_slot_rules.specs.Promises.{Fits}
 use Rattle.types_rules.specs.Table.{ModuleType, servo, inout, Of, rulesOf}
-use Rattle.types_rules.specs.Types.{Module, AnySample, kind, typeIn, slots, powered}
+use Rattle.types_rules.specs.Types.{Module, kind, typeIn, slots, powered}
 use Rattle.types_rules.proofs.Laws.{lawful}
 use Rattle.net_rules.specs.Record.{netIn}
-use Rattle.net_rules.specs.Calls.{byteOf, sampleStep}
+use Rattle.net_rules.specs.Calls.{byteOf}
 use Rattle.net_rules.specs.Promises.{Each}
 use Rattle.net_rules.proofs.Stored as Stored
-use Rattle.api_rules.specs.Table.{setupTable, byteTable, servoSampleTable, tickTable}
-use Rattle.api_rules.specs.Calls.{setupRecord, servoSampleOf, ioSampleOf}
+use Rattle.api_rules.specs.Table.{setupTable, byteTable, tickTable}
+use Rattle.api_rules.specs.Calls.{setupRecord}
 use Rattle.api_rules.specs.Promises.{ValidRecord, Refuses, Passes}
 use Rattle.api_rules.proofs.Kept.{holds}
+use Rattle.api_rules.proofs.TickBounds.{own-ten}
 use Rattle.api_rules.proofs.Refused.{refused, done}
-use Rattle.demands_history_rules.specs.Events.{event}
-use Rattle.demands_history_rules.specs.Calls.{Call, byte, servoSample, ioSample, tick, Handed, refusals, leaves, does}
-use Rattle.demands_history_rules.proofs.Events.{changed-at, map-at}
+use Rattle.demands_history_rules.specs.Calls.{Call, byte, tick, Handed, refusals, leaves}
 use Rattle.demands_history_rules.proofs.Calls.{passes?, refused-leaves, passed-leaves}
 use Rattle.demands_rules.specs.Motion.{At}
-use Rattle.demands_rules.specs.Place.{inTime}
+use Rattle.demands_rules.specs.Place.{servoSampleAt, inTime}
 use Rattle.demands_rules.proofs.Types.{typeOf, call-types}
 
 -- the servo that a module is, if it is one
@@ -70,9 +68,7 @@ abbrev pub Silent : List ℕ → ℕ → Call → Type 0
 Silent net i (byte mark x room) =
     (d : Bool) → Passes (byteTable net mark room) → taken (netIn slots net .receiver) x (eqb mark 1) .answer ≡ Ended d
     → touched true (netIn slots net .receiver .address) (addresses kind (netIn slots net .modules)) i ≡ true → ⊥
-Silent net i (servoSample place raw power ad) = Unit {0}
-Silent net i (ioSample place inputs ad1 ad2 ad3 counter) = Unit {0}
-Silent net i tick = Unit {0}
+Silent net i (tick samples) = Unit {0}
 
 -- what a call can make of the servo m at place i of a record's network
 pub data Made (net : List ℕ) (i : ℕ) (m : Servo) : Call → Servo → Type 0 where
@@ -82,34 +78,23 @@ pub data Made (net : List ℕ) (i : ℕ) (m : Servo) : Call → Servo → Type 0
       → taken (netIn slots net .receiver) x (eqb mark 1) .answer ≡ Ended d
       → touched true (netIn slots net .receiver .address) (addresses kind (netIn slots net .modules)) i ≡ true
       → Made net i m (byte mark x room) (execute (frameIn (netIn slots net .receiver) d) (individually (netIn slots net .receiver .address) (m .station .address)) m)
-  measured : (c : Call) (x : Sample) → (c ≡ tick → ⊥) → Silent net i c → inTime net i c m ≡ sampled x m → Made net i m c (sampled x m)
-  timed : inTime net i tick m ≡ ticked m → Made net i m tick (ticked m)
+  timed : (samples : List ℕ)
+      → Passes (tickTable net samples)
+      → inTime net i (tick samples) m ≡ ticked (servoSampleAt samples i) m
+      → Made net i m (tick samples) (ticked (servoSampleAt samples i) m)
 
--- after a step that is not refused place i has a servo that such a step can make
-Makes : List ℕ → ℕ → Servo → Call → Type 0
-Makes net i m c = (k : Servo) × (getElem? (event kind (does c) (netIn slots net) .net .modules) i ≡ some (servo, k)) × Made net i m c k
+-- what a byte that is not refused makes of the servo at place i
+Makes : List ℕ → ℕ → Servo → ℕ → ℕ → List ℕ → Type 0
+Makes net i m mark x room =
+    (k : Servo) × (getElem? (byteStep kind (netIn slots net) (byteOf x (eqb mark 1)) .net .modules) i ≡ some (servo, k)) × Made net i m (byte mark x room) k
 
 refused-silent : (net : List ℕ) (i : ℕ) (c : Call) → Refuses (refusals net c) → Silent net i c
 refused-silent net i (byte mark x room) r = λ d p e t. r p
-refused-silent net i (servoSample place raw power ad) r = tt
-refused-silent net i (ioSample place inputs ad1 ad2 ad3 counter) r = tt
-refused-silent net i tick r = tt
+refused-silent net i (tick samples) r = tt
 
 refused-time : (net : List ℕ) (i : ℕ) (m : Servo) (c : Call) → Refuses (refusals net c) → inTime net i c m ≡ m
 refused-time net i m (byte mark x room) r = refl
-refused-time net i m (servoSample place raw power ad) r = sym (refused (servoSampleTable net place power) m _ refl r)
-refused-time net i m (ioSample place inputs ad1 ad2 ad3 counter) r = refl
-refused-time net i m tick r = sym (refused (tickTable net) m _ refl r)
-
-isTick : Call → Bool
-isTick (byte mark x room) = false
-isTick (servoSample place raw power ad) = false
-isTick (ioSample place inputs ad1 ad2 ad3 counter) = false
-isTick tick = true
-
-no-tick : (c : Call) → isTick c ≡ false → c ≡ tick → ⊥
-unfolding isTick
-no-tick c e q = true≢false (ap isTick (sym q) ∙ e)
+refused-time net i m (tick samples) r = sym (refused (tickTable net samples) m _ refl r)
 
 module _ (net : List ℕ) (i : ℕ) (m : Servo) (before : At net i m) where
   abbrev n : Net Module
@@ -118,7 +103,7 @@ module _ (net : List ℕ) (i : ℕ) (m : Servo) (before : At net i m) where
   -- a byte
   after-frame : (mark x : ℕ) (room : List ℕ) → Passes (byteTable net mark room) → (d : Bool) (r : Receiver) → taken (n .receiver) x (eqb mark 1) ≡ record { next = r; answer = Ended d }
       → (t : Bool) → touched true (n .receiver .address) (addresses kind (n .modules)) i ≡ t
-      → Makes net i m (byte mark x room)
+      → Makes net i m mark x room
   unfolding Makes
   after-frame mark x room goes d r e t q =
       let f : Frame = frameIn (n .receiver) d in
@@ -131,12 +116,12 @@ module _ (net : List ℕ) (i : ℕ) (m : Servo) (before : At net i m) where
     where
       by : (t : Bool) → touched true (n .receiver .address) (addresses kind (n .modules)) i ≡ t
           → getElem? (byteStep kind n (byteOf x (eqb mark 1)) .net .modules) i ≡ some (cond t (executed kind (frameIn (n .receiver) d) (servo, m)) (servo, m))
-          → Makes net i m (byte mark x room)
+          → Makes net i m mark x room
       by true q p = (_, p, framed mark x room d goes (ap (λ (r : Received). r .answer) e) q)
       by false q p = (m, p, same (byte mark x room) (λ d g a t. false≢true (sym q ∙ t)) refl)
 
   after-byte : (mark x : ℕ) (room : List ℕ) → Passes (byteTable net mark room) → (a : Answer) (r : Receiver) → taken (n .receiver) x (eqb mark 1) ≡ record { next = r; answer = a }
-      → Makes net i m (byte mark x room)
+      → Makes net i m mark x room
   unfolding Makes
   after-byte mark x room goes Nothing r e =
       (m, ap (λ (s : Step Module). getElem? (s .net .modules) i) (step-on kind n (byteOf x (eqb mark 1)) r e) ∙ before, same (byte mark x room) (λ d g a t. none d (sym (ap (λ (r : Received). r .answer) e) ∙ a)) refl)
@@ -145,44 +130,27 @@ module _ (net : List ℕ) (i : ℕ) (m : Servo) (before : At net i m) where
       none d q = let z : _≡_ {A = Bool} true false = cc in true≢false z
   after-byte mark x room goes (Ended d) r e = after-frame mark x room goes d r e (touched true (n .receiver .address) (addresses kind (n .modules)) i) refl
 
-  -- a sample, of whatever type, for place i or another
-  sample-seen : (place : ℕ) (x : AnySample)
-      → getElem? (sampleStep place x n .modules) i ≡ some (cond (eqb i place) (kind .sample x (servo, m)) (servo, m))
-  sample-seen place x =
-      changed-at (kind .sample x) place (n .modules) i
-      ∙ ap (λ (o : Option Module). Option·map (λ (m : Module). cond (eqb i place) (kind .sample x m) m) o) before
-
-  after-sample : (c : Call) (x : Sample) → isTick c ≡ false → Silent net i c → (t : Bool) → inTime net i c m ≡ cond t (sampled x m) m
-      → getElem? (event kind (does c) n .net .modules) i ≡ some (cond t (kind .sample (servo, x) (servo, m)) (servo, m)) → Makes net i m c
+  makes : (c : Call) → Handed c → ValidRecord net → Passes (refusals net c) → (k : Servo) × At (leaves net c) i k × Made net i m c k
   unfolding Makes
-  after-sample c x e s true q p = (sampled x m, p, measured c x (no-tick c e) s q)
-  after-sample c x e s false q p = (m, p, same c s q)
-
-  unmoved : (t : Bool) (o : Module) → cond t o o ≡ o
-  unmoved true o = refl
-  unmoved false o = refl
-
-  makes : (c : Call) → Passes (refusals net c) → Makes net i m c
-  unfolding Makes isTick
-  makes (byte mark x room) goes = after-byte mark x room goes (taken (n .receiver) x (eqb mark 1) .answer) (taken (n .receiver) x (eqb mark 1) .next) refl
-  makes (servoSample place raw power ad) goes =
-      after-sample (servoSample place raw power ad) (record { raw = raw; power = power; ad = ad }) refl tt (eqb i place)
-      (sym (done (servoSampleTable net place power) m _ refl goes)) (sample-seen place (servoSampleOf raw power ad))
-  makes (ioSample place inputs ad1 ad2 ad3 counter) goes =
-      (m, sample-seen place (ioSampleOf inputs ad1 ad2 ad3 counter) ∙ ap some (unmoved (eqb i place) (servo, m)), same (ioSample place inputs ad1 ad2 ad3 counter) tt refl)
-  makes tick goes = (ticked m, map-at (kind .tick) (n .modules) i ∙ ap (λ (o : Option Module). Option·map (kind .tick) o) before, timed (sym (done (tickTable net) m _ refl goes)))
+  makes (byte mark x room) h v goes =
+      let (k, q, d) = after-byte mark x room goes (taken (n .receiver) x (eqb mark 1) .answer) (taken (n .receiver) x (eqb mark 1) .next) refl in
+      (k, ap (λ (n : Net Module). getElem? (n .modules) i) (passed-leaves net (byte mark x room) h v goes) ∙ q, d)
+  makes (tick samples) h v goes =
+      (ticked (servoSampleAt samples i) m, own-ten net samples i servo m (v .1) h goes before, timed samples goes (sym (done (tickTable net samples) m _ refl goes)))
 
 -- the servo that a call leaves, refused or not
 pub made : (net : List ℕ) (c : Call) (i : ℕ) (m : Servo) → Handed c → ValidRecord net → At net i m
     → (k : Servo) × At (leaves net c) i k × Made net i m c k
-unfolding Makes
 made net c i m h v e = at (passes? (refusals net c))
   where
     at : Passes (refusals net c) ⊎ Refuses (refusals net c) → (k : Servo) × At (leaves net c) i k × Made net i m c k
-    at (inl p) =
-        let (k, q, d) = makes net i m e c p in
-        (k, ap (λ (n : Net Module). getElem? (n .modules) i) (passed-leaves net c h v p) ∙ q, d)
+    at (inl p) = makes net i m e c h v p
     at (inr r) = (m, ap (λ (s : List ℕ). getElem? (netIn slots s .modules) i) (refused-leaves net c r) ∙ e, same c (refused-silent net i c r) (refused-time net i m c r))
+
+map-at : {M A : Type 0} (g : M → A) (ms : List M) (i : ℕ) → getElem? (map g ms) i ≡ Option·map g (getElem? ms i)
+map-at g [] i = refl
+map-at g (m ∷ ms) zero = refl
+map-at g (m ∷ ms) (suc i) = map-at g ms i
 
 -- where a servo is after a call one was before it
 pub was-servo : (net : List ℕ) (c : Call) (i : ℕ) (k : Servo) → Handed c → ValidRecord net → At (leaves net c) i k → (m : Servo) × At net i m

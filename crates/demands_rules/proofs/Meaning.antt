@@ -23,6 +23,7 @@ use Rattle.servo_filter.proofs.Answers.{only-the-integral}
 use Rattle.servo_rules.specs.declared.Mode.{Mode}
 use Rattle.servo_rules.specs.declared.Mode.the-variants.{Off, Pwm, Hold, Velocity, Trapezoid}
 use Rattle.servo_rules.specs.declared.Run.{Run}
+use Rattle.servo_rules.specs.declared.Sample.{Sample}
 use Rattle.servo_rules.specs.declared.Servo.{Servo}
 use Rattle.servo_rules.specs.State.{servoOff, off}
 use Rattle.servo_rules.specs.Tick.{advancedBy, advanced, tripped, pulsed, ticked}
@@ -61,7 +62,7 @@ size-of-speed a top (negsuc d) v = unsigned (nextSpeed a top (suc d) (natAbs v))
     unsigned zero = refl
     unsigned (suc n) = refl
 
-module _ (m : Servo) (t : Fits m) where
+module _ (x : Sample) (m : Servo) (t : Fits m) where
   abbrev p : Profile
   p = m .run .profile
 
@@ -77,7 +78,7 @@ module _ (m : Servo) (t : Fits m) where
   unfolding advanced byTrapezoid stepped
   greatest-speed e =
       let s = good m t .sane in
-      let r : Running p = subst (λ (k : Mode). InMode k (m .samples .latched .power) (m .run)) e (s .mode) .2 in
+      let r : Running p = subst (λ (k : Mode). InMode k (m .latched .power) (m .run)) e (s .mode) .2 in
       let a = next (p .acceleration) (p .top) (natAbs (left p)) (natAbs (p .speed)) (r .stops) in
       let w = sym (size-of-speed (p .acceleration) (p .top) (left p) (p .speed)) in
       subst (λ (k : Mode). Asked (p .acceleration) (p .top) (natAbs (left p)) (natAbs (p .speed)) (natAbs (advancedBy k p .speed)) × Running (advancedBy k p))
@@ -99,10 +100,10 @@ module _ (m : Servo) (t : Fits m) where
     λ n q. r,
   )
 
-  speeds : Speeds m p (ticked m .run .profile)
+  speeds : Speeds x m p (ticked x m .run .profile)
   unfolding pulsed
   speeds =
-      let a : After (ticked m .run) = tick-ends After m (record {
+      let a : After (ticked x m .run) = tick-ends After x m (record {
         low = λ q. after-off (off (m .run)) (off-released (m .run));
         off = λ q. (
           λ e z. absurd (distinct Off Velocity refl (sym q ∙ e)),
@@ -128,33 +129,33 @@ module _ (m : Servo) (t : Fits m) where
   unfolding Most
   none-most z e = omega (arith, ap natAbs e)
 
-  served : Ticking m → (m .samples .waiting .power ≡ 1) → servoOff (m .run .drive .mode) ≡ false → Most (ticked m .run .drive .output)
+  served : Ticking x m → (x .power ≡ 1) → servoOff (m .run .drive .mode) ≡ false → Most (ticked x m .run .drive .output)
   unfolding Most
-  served k w s = at (leb (natAbs (followed m)) (m .settings .tuning .gains .el)) refl
+  served k w s = at (leb (natAbs (followed x m)) (m .settings .tuning .gains .el)) refl
     where
-      lit : m .samples .waiting .power ≡ 0 → ⊥
+      lit : x .power ≡ 0 → ⊥
       lit z = omega arith
 
-      at : (b : Bool) → leb (natAbs (followed m)) (m .settings .tuning .gains .el) ≡ b → natAbs (ticked m .run .drive .output) ≤ m .settings .tuning .gains .ol
+      at : (b : Bool) → leb (natAbs (followed x m)) (m .settings .tuning .gains .el) ≡ b → natAbs (ticked x m .run .drive .output) ≤ m .settings .tuning .gains .ol
       at true e =
           let q = k .runs lit s (leb-true _ _ e) .output w in
           subst (λ (z : ℤ). natAbs z ≤ m .settings .tuning .gains .ol) (sym q) (held-most (m .settings .tuning .gains .ol) _)
       at false e = none-most _ (k .trip lit s (leb-false _ _ e) .0 .output)
 
-  output-most : natAbs (ticked m .run .drive .output) ≤ m .settings .tuning .gains .ol
+  output-most : natAbs (ticked x m .run .drive .output) ≤ m .settings .tuning .gains .ol
   unfolding Most
-  output-most = by (eqb (m .samples .waiting .power) 1) refl
+  output-most = by (eqb (x .power) 1) refl
     where
-      k : Ticking m
-      k = ticks m
+      k : Ticking x m
+      k = ticks x m
 
       silent : m .run .drive .mode ≡ Off → m .run .drive .output ≡ pos 0
-      silent e = subst (λ (k : Mode). InMode k (m .samples .latched .power) (m .run)) e (good m t .sane .mode) .1
+      silent e = subst (λ (k : Mode). InMode k (m .latched .power) (m .run)) e (good m t .sane .mode) .1
 
-      lit : m .samples .waiting .power ≡ 1 → m .samples .waiting .power ≡ 0 → ⊥
+      lit : x .power ≡ 1 → x .power ≡ 0 → ⊥
       lit w z = omega arith
 
-      mode : m .samples .waiting .power ≡ 1 → (j : Mode) → m .run .drive .mode ≡ j → natAbs (ticked m .run .drive .output) ≤ m .settings .tuning .gains .ol
+      mode : x .power ≡ 1 → (j : Mode) → m .run .drive .mode ≡ j → natAbs (ticked x m .run .drive .output) ≤ m .settings .tuning .gains .ol
       mode w Off e = none-most _ (ap (λ (n : Servo). n .run .drive .output) (k .off (lit w) e) ∙ silent e)
       mode w Pwm e =
           subst (λ (z : ℤ). natAbs z ≤ m .settings .tuning .gains .ol) (sym (k .pulse (lit w) e .4 w)) (held-most (m .settings .tuning .gains .ol) (m .run .drive .pulse))
@@ -162,7 +163,7 @@ module _ (m : Servo) (t : Fits m) where
       mode w Velocity e = served k w (ap servoOff e)
       mode w Trapezoid e = served k w (ap servoOff e)
 
-      by : (b : Bool) → eqb (m .samples .waiting .power) 1 ≡ b → natAbs (ticked m .run .drive .output) ≤ m .settings .tuning .gains .ol
+      by : (b : Bool) → eqb (x .power) 1 ≡ b → natAbs (ticked x m .run .drive .output) ≤ m .settings .tuning .gains .ol
       by true w = mode (eqb-true _ _ w) (m .run .drive .mode) refl
       by false w = none-most _ (k .unpowered (eqb-false _ _ w) silent)
 

@@ -25,6 +25,7 @@ use Rattle.servo_rules.specs.declared.Order.the-variants.{ResetPosition, LoadTr
 use Rattle.servo_rules.specs.declared.Mode.{Mode}
 use Rattle.servo_rules.specs.declared.Mode.the-variants.{Off, Pwm, Hold, Velocity, Trapezoid}
 use Rattle.servo_rules.specs.declared.Run.{Run}
+use Rattle.servo_rules.specs.declared.Sample.{Sample}
 use Rattle.servo_rules.specs.declared.Servo.{Servo}
 use Rattle.servo_rules.specs.State.{position, servoOff, withStation, withProfile, idled, off}
 use Rattle.servo_rules.specs.Loads.{loaded, startsNow, start, toSpeed}
@@ -57,7 +58,7 @@ use Rattle.demands_rules.proofs.Reading.{here-five}
 counted : (m : Servo) → Fits m → Counted m
 counted m t =
     let g = good m t in
-    record { profile = g .sane .profile; raw = omega (arith, g .samples .1 .0); last = omega (arith, g .counts .1) }
+    record { profile = g .sane .profile; raw = omega (arith, g .latched .1 .1); last = omega (arith, g .counts .1) }
 
 -- a number is 0 or not
 pub zero? : (z : ℤ) → (z ≡ pos 0) ⊎ (z ≡ pos 0 → ⊥)
@@ -376,18 +377,18 @@ at-goal p r s e =
     let v : byTrapezoid p .speed ≡ pos 0 = ap (λ (z : ℤ). trapezoid (p .acceleration) (p .top) z (p .speed)) e ∙ ap pos h in
     taken p r s ∙ ap₂ _-ℤ_ e v
 
-module _ (m : Servo) (t : Fits m) where
+module _ (x : Sample) (m : Servo) (t : Fits m) where
   advanced-bound : Aims (withProfile (advanced (m .run)) (m .run)) → Bound m
   unfolding advanced byVelocity stepped
   advanced-bound (inl b) = inl (b .0, λ e. b .1 (ap (λ (k : Mode). advancedBy k (m .run .profile) .aim) (b .0) ∙ e))
   advanced-bound (inr b) =
       let s = good m t .sane in
-      let i = subst (λ (k : Mode). InMode k (m .samples .latched .power) (m .run)) (b .0) (s .mode) in
+      let i = subst (λ (k : Mode). InMode k (m .latched .power) (m .run)) (b .0) (s .mode) in
       inr (b .0, λ e. b .1 (ap (λ (k : Mode). left (advancedBy k (m .run .profile))) (b .0) ∙ at-goal (m .run .profile) (s .profile) (i .2) e))
 
-  pub ticked-bound : Bound (ticked m) → Bound m
+  pub ticked-bound : Bound (ticked x m) → Bound m
   unfolding pulsed tripped idled off
-  ticked-bound = tick-ends (λ (n : Run). Aims n → Bound m) m (record {
+  ticked-bound = tick-ends (λ (n : Run). Aims n → Bound m) x m (record {
     low = λ q b. absurd (mode-unbound Off refl refl (off (m .run)) refl b);
     off = λ q b. b;
     pwm = λ q b. b;
@@ -395,17 +396,17 @@ module _ (m : Servo) (t : Fits m) where
     trip = λ q b. absurd (mode-unbound Off refl refl (tripped (advanced (m .run)) (m .run)) refl b);
   })
 
-  pub ticked-rests : Resting m → Resting (ticked m)
-  ticked-rests r = stays-resting .tick m (good m t .sane .profile .setpoint) r .0
+  pub ticked-rests : Resting m → Resting (ticked x m)
+  ticked-rests r = stays-resting .tick x m (good m t .sane .profile .setpoint) r .0
 
-  pub ticked-moves : (Moves m → ⊥) → Moves (ticked m) → Bound m
+  pub ticked-moves : (Moves m → ⊥) → Moves (ticked x m) → Bound m
   ticked-moves n z = at (bound? m)
     where
       at : Bound m ⊎ (Bound m → ⊥) → Bound m
       at (inl b) = b
-      at (inr u) = absurd (rests-still (ticked m) (ticked-rests (rests-resting m (n, u))) z)
+      at (inr u) = absurd (rests-still (ticked x m) (ticked-rests (rests-resting m (n, u))) z)
 
--- a sample begins nothing, and no more does what leaves all as it was
+-- what leaves all as it was begins nothing
 pub nothing-begins : (m k : Servo) → k .run ≡ m .run → following k ≡ following m → Begins m k → ⊥
 nothing-begins m k e q (out (moving n z)) = n (subst Goes e z)
 nothing-begins m k e q (out (bound n z)) = n (subst Aims e z)

@@ -1,6 +1,6 @@
 -- Beside the quickest move on the line: two histories that meet what it asks for, computed. A servo is sent forth by a Start, at power 1, and back
 -- through 0 by a Load that starts now, at power 2; between the ticks comes every frame that may. Assumes nothing.
-use mathlib.Core.Path.{_≡_, refl, sym, ap, _∙_}
+use mathlib.Core.Path.{_≡_, refl, sym, ap, subst, _∙_}
 use mathlib.Core.Logic.{_⊎_, inl, inr}
 use mathlib.Core.List.{List, [], _∷_, _++_}
 use mathlib.Core.Bool.{Bool, true, false, not, cond, _&&_, true≢false, false≢true}
@@ -23,36 +23,36 @@ use Rattle.servo_motion.specs.Setpoint.{distance, moved}
 use Rattle.servo_motion.specs.Profile.{left, trapezoid, stepped, byTrapezoid}
 use Rattle.servo_filter.specs.Filter.{held, drive, limited, filtered}
 use Rattle.servo_rules.specs.declared.Mode.the-variants.{Off, Velocity, Trapezoid}
+use Rattle.servo_rules.specs.declared.Sample.{Sample}
 use Rattle.servo_rules.specs.declared.Servo.{Servo}
 use Rattle.servo_rules.specs.Carried.{isSet, carriedIn, inRange}
 use Rattle.servo_rules.specs.Asks.{loadMeant, gainsIn, gainsFit, gainMeant, haltOf, stopMeant, own}
 use Rattle.servo_rules.specs.Loads.{wayOf, loadOf, ratesOf, loaded, beginningAt, movable, complete, startable, toPlace, start}
 use Rattle.servo_rules.specs.Perform.{stopped}
 use Rattle.servo_rules.specs.Tick.{advanced, servoed, ran, ticked}
-use Rattle.servo_rules.specs.Answers.{typeNumber}
 use Rattle.servo_rules.specs.TickPromises.{followed}
 use Rattle.servo_rules.proofs.Keeping.{distinct}
 use Rattle.types_rules.specs.Table.{servo, inout}
 use Rattle.types_rules.specs.Types.{Module, kind, slots}
 use Rattle.net_rules.specs.Record.{netIn}
-use Rattle.net_rules.specs.Calls.{setUp, ofType}
+use Rattle.net_rules.specs.Calls.{setUp, samplesIn}
 use Rattle.net_rules.proofs.Tests.{and-true}
 use Rattle.api_rules.specs.Promises.{ValidRecord}
 use Rattle.demands_history_rules.specs.Events.{event, run}
-use Rattle.demands_history_rules.specs.Calls.{Call, byte, servoSample, ioSample, tick, AllHanded, leaves, leftBy, does}
+use Rattle.demands_history_rules.specs.Calls.{Call, byte, tick, AllHanded, leaves, leftBy, does}
 use Rattle.demands_history_rules.proofs.Events.{below}
 use Rattle.demands_history_rules.proofs.Calls.{call-kept, passed-leaves}
 use Rattle.demands_rules.specs.Motion.{Bound, bound, LoadStarts, At, CallStarts}
 use Rattle.demands_rules.specs.Sent.{control, Has}
-use Rattle.demands_rules.specs.Place.{after}
+use Rattle.demands_rules.specs.Place.{servoSampleAt, after}
 use Rattle.demands_rules.specs.Quickest.{Disturbs, Undisturbed, SetsOff, OnItsWay}
 use Rattle.demands_rules.proofs.Making.{servoIn}
-use Rattle.demands_rules.proofs.Examples.{lit, types, lent, room, valid, enough, calls, happens, are-handed, ends-with}
+use Rattle.demands_rules.proofs.Examples.{lit, types, lent, room, valid, lone, enough, calls, happens, are-handed, ends-with}
 use Rattle.demands_rules.proofs.OnTheLine.{areSmall, small, byte-goes}
 use Rattle.demands_rules.proofs.Calls.{any-calls}
 use Rattle.demands_rules.proofs.EveryCall.{every-call}
 use Rattle.demands_rules.proofs.OnTheWay.{quickest-on-the-line}
-use Rattle.demands_rules.proofs.Computing.{AllOpen, through, net-after, allPass, passes-at, endsSuch, ends-such, spread, spread-open, spread-handed}
+use Rattle.demands_rules.proofs.Computing.{Lone, lone-after, lone-on, AllOpen, through, net-after, allPass, passes-at, endsSuch, ends-such, spread, spread-open, spread-handed, all-tick}
 
 -- ---- a test that nothing disturbs, call by call
 
@@ -94,33 +94,33 @@ is-calm f e d = by d
         bit (inr (inr (inr h))) n1 n2 n3 n4 = unset _ n4 h
 
 -- a tick would find power and a small error
-abbrev isSteady : Servo → Bool
-isSteady m = not (eqb (m .samples .waiting .power) 0) && leb (natAbs (followed m)) (m .settings .tuning .gains .el)
+abbrev isSteady : Sample → Servo → Bool
+isSteady x m = not (eqb (x .power) 0) && leb (natAbs (followed x m)) (m .settings .tuning .gains .el)
 
-is-steady : (m : Servo) → isSteady m ≡ true → (m .samples .waiting .power ≡ 0 → ⊥) × (natAbs (followed m) ≤ m .settings .tuning .gains .el)
-is-steady m e =
-    let (p, q) = and-true (not (eqb (m .samples .waiting .power) 0)) _ e in
+is-steady : (x : Sample) (m : Servo) → isSteady x m ≡ true → (x .power ≡ 0 → ⊥) × (natAbs (followed x m) ≤ m .settings .tuning .gains .el)
+is-steady x m e =
+    let (p, q) = and-true (not (eqb (x .power) 0)) _ e in
     (λ z. false≢true (sym (ap (λ (x : ℕ). not (eqb x 0)) z) ∙ p), leb-true _ _ q)
 
 abbrev leaves-it : Net Module → Call → Bool
 leaves-it n (byte mark x room) = endsSuch (λ f. isCalm (f .code) (control f)) n mark x
-leaves-it n (servoSample place raw power ad) = true
-leaves-it n (ioSample place inputs ad1 ad2 ad3 counter) = true
-leaves-it n tick = elim (servoIn (getElem? (n .modules) 0)) [ none ↦ false | some m ↦ isSteady m ]
+leaves-it n (tick samples) = elim (servoIn (getElem? (n .modules) 0)) [ none ↦ false | some m ↦ isSteady (servoSampleAt samples 0) m ]
 
-undisturbed : (net : List ℕ) (cs : List Call) → ValidRecord net → AllHanded cs → AllOpen cs → allPass leaves-it (length cs) cs (netIn slots net) ≡ true
+undisturbed : (net : List ℕ) (cs : List Call) → ValidRecord net → Lone net → AllHanded cs → AllOpen cs → allPass leaves-it (length cs) cs (netIn slots net) ≡ true
     → Undisturbed net cs 0
-undisturbed net cs v h o e = record {
+undisturbed net cs v one h o e = record {
   frames = λ j f x.
       is-calm f
       (ends-such (λ f. isCalm (f .code) (control f)) (netIn slots (after net cs 0 j)) (x .met .mark) (x .met .value) f (passed j _ (x .met .call)) (x .met .ended) (x .met .frame));
-  ticks = λ j m g st.
-      is-steady m
-      (sym (ap (λ (x : Option Module). elim (servoIn x) [ none ↦ false | some m ↦ isSteady m ]) st) ∙ passed j tick g);
+  ticks = λ j x m t st.
+      is-steady x m
+      (ap (λ (x : Sample). isSteady x m) (t .own)
+      ∙ sym (ap (λ (y : Option Module). elim (servoIn y) [ none ↦ false | some m ↦ isSteady (servoSampleAt (t .samples) 0) m ]) st)
+      ∙ passed j (tick (t .samples)) (t .call));
 }
   where
     passed : (j : ℕ) (c : Call) → getElem? cs j ≡ some c → leaves-it (netIn slots (after net cs 0 j)) c ≡ true
-    passed j c g = passes-at leaves-it cs net (length cs) j c v h o (below cs j c g) e g
+    passed j c g = passes-at leaves-it cs net (length cs) j c v one h o (below cs j c g) e g
 
 -- ---- the two moves: with A 2 and V 5, in 65,536ths, a count forth and a count back
 
@@ -141,10 +141,6 @@ back = clean (written 0 11 [] ++ written 0 6 gain ++ 0xAA ∷ 0 ∷ 0xD4 ∷ mov
 abbrev start-byte : ℕ → Call
 start-byte x = byte 0 x room
 
--- before it a sample, which waits for the first tick
-abbrev measure : ℕ → Call
-measure power = servoSample 0 0 power 0
-
 -- after it all that may come, with a tick behind each byte: No Op, Define Status, Read Status, Set Gain, Clear Bits, the amplifier bit, Set Baud by
 -- group, a load that waits, Set Address
 abbrev line : List Byte
@@ -159,8 +155,8 @@ line = clean (
     ++ written 0 4 (moveTo 0x17 (9 ∷ 0 ∷ 0 ∷ 0 ∷ []))
     ++ written 0 1 (5 ∷ 0xFF ∷ []))
 
-abbrev meanwhile : List Call
-meanwhile = spread room line
+abbrev meanwhile : ℕ → List Call
+meanwhile power = spread power room line
 
 -- the servo at place 0 of a network, and whether there is one
 abbrev servoAt : Net Module → Servo
@@ -177,37 +173,33 @@ is-there n e = at (getElem? (n .modules) 0) e
     at (some (servo, m)) e = refl
     at (some (inout, m)) e = absurd (false≢true e)
 
--- one history: what is sent, at which power, and the byte that starts
+-- one history: what is sent, at which power it then ticks, and the byte that starts
 module _ (orders : List Byte) (power x : ℕ) where
   -- the network after the orders, before the starting byte, and after it; the servo before it, after it, and after the calls that follow
   abbrev ordered : Net Module
   ordered = run kind (happens orders) (setUp types) .net
 
-  abbrev before : Net Module
-  before = event kind (does (measure power)) ordered .net
-
   abbrev started : Net Module
-  started = event kind (does (start-byte x)) before .net
+  started = event kind (does ordered (start-byte x)) ordered .net
 
   abbrev ready : Servo
-  ready = servoAt before
+  ready = servoAt ordered
 
   abbrev pub off : Servo
   off = servoAt started
 
   abbrev pub under-way : Servo
-  under-way = servoAt (through meanwhile started)
+  under-way = servoAt (through (meanwhile power) started)
 
   -- what is computed of it, with where its setpoint is in the end and how fast it goes
   record Facts (setpoint : ℕ) (speed : ℤ) : Type 0 where
     bytes : areSmall (values orders) ≡ true
     small-byte : ltb x 256 ≡ true
-    fair : ltb 2 power ≡ false
-    typed : ofType typeNumber ordered 0 ≡ true
-    first : isThere before ≡ true
+    fair : leb power 2 ≡ true
+    first : isThere ordered ≡ true
     then : isThere started ≡ true
-    last : isThere (through meanwhile started) ≡ true
-    calm : allPass leaves-it (length meanwhile) meanwhile started ≡ true
+    last : isThere (through (meanwhile power) started) ≡ true
+    calm : allPass leaves-it (length (meanwhile power)) (meanwhile power) started ≡ true
     rests : ready .run .drive .mode ≡ Off
     runs : off .run .drive .mode ≡ Trapezoid
     far : natAbs (left (off .run .profile)) ≡ 65536
@@ -221,25 +213,17 @@ module _ (orders : List Byte) (power x : ℕ) where
     is-byte : x < 256
     is-byte = ltb-true x 256 (f .small-byte)
 
-    abbrev told : List ℕ
-    told = leftBy (calls orders) lent
-
-    told-valid : ValidRecord told
-    told-valid = any-calls lent (calls orders) valid (are-handed orders small-orders) .valid
-
-    told-is : netIn slots told ≡ ordered
-    told-is = ends-with orders small-orders
-
     abbrev net : List ℕ
-    net = leaves told (measure power)
+    net = leftBy (calls orders) lent
 
     is-valid : ValidRecord net
-    is-valid = call-kept told (measure power) (omega arith, omega arith) told-valid
+    is-valid = any-calls lent (calls orders) valid (are-handed orders small-orders) .valid
 
-    net-is : netIn slots net ≡ before
-    net-is =
-        passed-leaves told (measure power) (omega arith, omega arith) told-valid (rw (told-valid .0, told-is, f .typed, f .fair) refl)
-        ∙ ap (λ (n : Net Module). event kind (does (measure power)) n .net) told-is
+    net-is : netIn slots net ≡ ordered
+    net-is = ends-with orders small-orders
+
+    is-lone : Lone net
+    is-lone = lone-on (calls orders) lent valid lone (are-handed orders small-orders)
 
     started-valid : ValidRecord (leaves net (start-byte x))
     started-valid = call-kept net (start-byte x) is-byte is-valid
@@ -247,22 +231,25 @@ module _ (orders : List Byte) (power x : ℕ) where
     started-net : netIn slots (leaves net (start-byte x)) ≡ started
     started-net =
         passed-leaves net (start-byte x) is-byte is-valid (byte-goes net room (record { value = x; mark = false }) (is-valid .0) enough)
-        ∙ ap (λ (n : Net Module). event kind (does (start-byte x)) n .net) net-is
+        ∙ ap (λ (n : Net Module). event kind (does n (start-byte x)) n .net) net-is
 
     at-start : At net 0 ready
-    at-start = ap (λ (n : Net Module). getElem? (n .modules) 0) net-is ∙ is-there before (f .first)
+    at-start = ap (λ (n : Net Module). getElem? (n .modules) 0) net-is ∙ is-there ordered (f .first)
 
     at-started : At (leaves net (start-byte x)) 0 off
     at-started = ap (λ (n : Net Module). getElem? (n .modules) 0) started-net ∙ is-there started (f .then)
 
-    handed : AllHanded meanwhile
-    handed = spread-handed room line (small (values line) refl)
+    started-lone : Lone (leaves net (start-byte x))
+    started-lone = lone-after net (start-byte x) is-byte is-valid is-lone
 
-    at-end : At (leftBy meanwhile (leaves net (start-byte x))) 0 under-way
+    handed : AllHanded (meanwhile power)
+    handed = spread-handed power (f .fair) room line (small (values line) refl)
+
+    at-end : At (leftBy (meanwhile power) (leaves net (start-byte x))) 0 under-way
     at-end =
         ap (λ (n : Net Module). getElem? (n .modules) 0)
-        (net-after meanwhile (leaves net (start-byte x)) started-valid handed (spread-open room enough line) ∙ ap (through meanwhile) started-net)
-        ∙ is-there (through meanwhile started) (f .last)
+        (net-after (meanwhile power) (leaves net (start-byte x)) started-valid started-lone handed (spread-open power (f .fair) room enough line) ∙ ap (through (meanwhile power)) started-net)
+        ∙ is-there (through (meanwhile power) started) (f .last)
 
     -- the byte starts the move
     starts-it : CallStarts LoadStarts net 0 ready (start-byte x)
@@ -270,8 +257,8 @@ module _ (orders : List Byte) (power x : ℕ) where
         every-call .command net (start-byte x) 0 ready off is-byte is-valid at-start at-started no-tick .1
         (bound still (inr (f .runs, λ e. let z : _≡_ {A = ℕ} 65536 0 = sym (f .far) ∙ ap natAbs e in omega arith)))
       where
-        no-tick : start-byte x ≡ tick → ⊥
-        no-tick e = let z : _≡_ {A = Bool} true false = cc in true≢false z
+        no-tick : (samples : List ℕ) → start-byte x ≡ tick samples → ⊥
+        no-tick samples e = let z : _≡_ {A = Bool} true false = cc in true≢false z
 
         still : Bound ready → ⊥
         still (inl (e, n)) = distinct Off Velocity refl (sym (f .rests) ∙ e)
@@ -279,19 +266,19 @@ module _ (orders : List Byte) (power x : ℕ) where
 
     goes-its-way : SetsOff (off .run .profile) × OnItsWay (off .run .profile) 70 under-way
     goes-its-way =
-        quickest-on-the-line net (start-byte x) meanwhile 0 ready off under-way is-valid is-byte handed at-start starts-it at-started (f .runs)
-        (undisturbed (leaves net (start-byte x)) meanwhile started-valid handed (spread-open room enough line)
-        (ap (allPass leaves-it (length meanwhile) meanwhile) started-net ∙ f .calm))
-        at-end
+        let (o, w) = quickest-on-the-line net (start-byte x) (meanwhile power) 0 ready off under-way is-valid is-byte handed at-start starts-it at-started (f .runs)
+        (undisturbed (leaves net (start-byte x)) (meanwhile power) started-valid started-lone handed (spread-open power (f .fair) room enough line)
+        (ap (allPass leaves-it (length (meanwhile power)) (meanwhile power)) started-net ∙ f .calm))
+        at-end in
+        (o, subst (λ (n : ℕ). OnItsWay (off .run .profile) n under-way) (all-tick power (f .fair) room enough line (leaves net (start-byte x)) started-valid started-lone (small (values line) refl)) w)
 
 -- 2, 4 and sixty-eight times 5 from 0, forth and back
 forth-computed : Facts forth 1 0x05 346 (pos 5)
-unfolding taken byteStep Any.execute Any.request asked own ticked loadMeant gainMeant gainsIn gainsFit stopMeant haltOf stopped ones inRange carriedIn loaded loadOf ratesOf wayOf startable complete movable same start beginningAt toPlace distance difference signed servoed advanced byTrapezoid trapezoid stepped moved held drive limited filtered terms stop pick greatest nextSpeed ran
+unfolding samplesIn taken byteStep Any.execute Any.request asked own ticked loadMeant gainMeant gainsIn gainsFit stopMeant haltOf stopped ones inRange carriedIn loaded loadOf ratesOf wayOf startable complete movable same start beginningAt toPlace distance difference signed servoed advanced byTrapezoid trapezoid stepped moved held drive limited filtered terms stop pick greatest nextSpeed ran
 forth-computed = record {
   bytes = refl;
   small-byte = refl;
   fair = refl;
-  typed = refl;
   first = refl;
   then = refl;
   last = refl;
@@ -304,12 +291,11 @@ forth-computed = record {
 }
 
 back-computed : Facts back 2 0x6E (2 ^ 48 - 346) (negsuc 4)
-unfolding taken byteStep Any.execute Any.request asked own ticked loadMeant gainMeant gainsIn gainsFit stopMeant haltOf stopped ones inRange carriedIn loaded loadOf ratesOf wayOf startable complete movable same start beginningAt toPlace distance difference signed servoed advanced byTrapezoid trapezoid stepped moved held drive limited filtered terms stop pick greatest nextSpeed ran
+unfolding samplesIn taken byteStep Any.execute Any.request asked own ticked loadMeant gainMeant gainsIn gainsFit stopMeant haltOf stopped ones inRange carriedIn loaded loadOf ratesOf wayOf startable complete movable same start beginningAt toPlace distance difference signed servoed advanced byTrapezoid trapezoid stepped moved held drive limited filtered terms stop pick greatest nextSpeed ran
 back-computed = record {
   bytes = refl;
   small-byte = refl;
   fair = refl;
-  typed = refl;
   first = refl;
   then = refl;
   last = refl;

@@ -24,7 +24,7 @@ use Rattle.net_rules.specs.Record.{roomSize, netIn, valid}
 use Rattle.net_rules.specs.Calls.{byteOf}
 use Rattle.api_rules.specs.Promises.{ValidRecord, Passes}
 use Rattle.demands_history_rules.specs.Events.{Event, sent, Outcome, taking, run, Reads, singly}
-use Rattle.demands_history_rules.specs.Calls.{Call, byte, tick, AllHanded, refusals, leaves, leftBy, doneBy}
+use Rattle.demands_history_rules.specs.Calls.{Call, byte, AllHanded, refusals, leaves, leftBy, doneBy}
 use Rattle.demands_history_rules.proofs.Events.{whole-event, event-idle}
 use Rattle.demands_history_rules.proofs.Singly.{run-singly}
 use Rattle.demands_history_rules.proofs.Calls.{call-kept}
@@ -55,9 +55,6 @@ byte-goes net room b v r = at (b .mark)
     at true = rw (v, le-ltb (length room) roomSize r) refl
     at false = rw (v, le-ltb (length room) roomSize r) refl
 
-pub tick-goes : (net : List ℕ) → valid slots net ≡ true → Passes (refusals net tick)
-tick-goes net v = rw v refl
-
 pub fed-handed : (room : List ℕ) (bs : List Byte) → AreBytes (values bs) → AllHanded (fed room bs)
 fed-handed room [] h = tt
 fed-handed room (b ∷ bs) h = (h .0, fed-handed room bs (h .1))
@@ -74,23 +71,23 @@ fed-done room [] net r v h = refl
 fed-done room (b ∷ bs) net r v h =
     let c : Call = byte (cond (b .mark) 1 0) (b .value) room in
     done-passed c (fed room bs) net (byte-goes net room b (v .0) r)
-    ∙ ap₂ (λ (b : Byte) (l : List (Event AnySample)). sent (b ∷ []) ∷ l) (handed-over (b .value) (b .mark))
+    ∙ ap₂ (λ (b : Byte) (l : List (Event (List AnySample))). sent (b ∷ []) ∷ l) (handed-over (b .value) (b .mark))
     (fed-done room bs (leaves net c) r (call-kept net c (h .0) v) (h .1))
 
 -- two frames, one after the other
 pub fed-two : (room : List ℕ) (bs ds : List Byte) (net : List ℕ) → roomSize ≤ length room → ValidRecord net → AreBytes (values (bs ++ ds))
     → doneBy (fed room (bs ++ ds)) net ≡ singly (sent bs ∷ sent ds ∷ [])
 fed-two room bs ds net r v h =
-    let each : Byte → Event AnySample = λ b. sent (b ∷ []) in
+    let each : Byte → Event (List AnySample) = λ b. sent (b ∷ []) in
     fed-done room (bs ++ ds) net r v h
     ∙ map-append each bs ds
-    ∙ ap (λ (l : List (Event AnySample)). map each bs ++ l) (sym (append-nil (map each ds)))
+    ∙ ap (λ (l : List (Event (List AnySample))). map each bs ++ l) (sym (append-nil (map each ds)))
 
 pub fed-both : (room : List ℕ) (bs ds : List Byte) (net : List ℕ) → roomSize ≤ length room → ValidRecord net → AreBytes (values (bs ++ ds))
     → netIn slots (leftBy (fed room (bs ++ ds)) net) ≡ run kind (sent bs ∷ sent ds ∷ []) (netIn slots net) .net
 fed-both room bs ds net r v h =
     any-calls net (fed room (bs ++ ds)) v (fed-handed room (bs ++ ds) h) .network
-    ∙ ap (λ (l : List (Event AnySample)). run kind l (netIn slots net) .net) (fed-two room bs ds net r v h)
+    ∙ ap (λ (l : List (Event (List AnySample))). run kind l (netIn slots net) .net) (fed-two room bs ds net r v h)
     ∙ ap (λ (o : Outcome Module). o .net) (run-singly kind (sent bs ∷ sent ds ∷ []) (netIn slots net))
 
 -- ---- two frames at one place

@@ -1,6 +1,6 @@
 -- QuickestOnTheLine: a servo through calls that do not disturb its move. Assumes nothing.
 use mathlib.Core.Path.{_≡_, refl, sym, ap, subst, _∙_}
-use mathlib.Core.Logic.{inl, inr, _↔_}
+use mathlib.Core.Logic.{_⊎_, inl, inr, _↔_}
 use mathlib.Core.List.{List, [], _∷_}
 use mathlib.Core.Bool.{Bool, true, false, true≢false}
 use mathlib.Core.Option.{some}
@@ -31,9 +31,10 @@ use Rattle.servo_rules.specs.declared.Mode.the-variants.{Pwm, Velocity, Trapezo
 use Rattle.servo_rules.specs.declared.Way.{Way}
 use Rattle.servo_rules.specs.declared.Way.the-variants.{Pulse, Speed, Move}
 use Rattle.servo_rules.specs.declared.Carried.{Carried}
+use Rattle.servo_rules.specs.declared.Sample.{Sample}
 use Rattle.servo_rules.specs.declared.Servo.{Servo}
 use Rattle.servo_rules.specs.Carried.{carriedIn}
-use Rattle.servo_rules.specs.State.{servoOff, sampled}
+use Rattle.servo_rules.specs.State.{servoOff}
 use Rattle.servo_rules.specs.Loads.{loaded, startsNow, signedBy, start}
 use Rattle.servo_rules.specs.Perform.{stopped, can, perform}
 use Rattle.servo_rules.specs.Tick.{advancedBy, advanced, ticked}
@@ -55,19 +56,17 @@ use Rattle.types_rules.specs.Table.{servo}
 use Rattle.types_rules.specs.Types.{slots}
 use Rattle.types_rules.proofs.Promised.{every-type}
 use Rattle.net_rules.specs.Record.{netIn}
-use Rattle.base_layout.specs.First.{first}
-use Rattle.api_rules.specs.Table.{servoSampleTable, tickTable}
-use Rattle.api_rules.specs.Promises.{ValidRecord}
+use Rattle.api_rules.specs.Table.{tickTable}
+use Rattle.api_rules.specs.Promises.{Passes, Refuses, ValidRecord}
 use Rattle.api_rules.proofs.Refused as Refused
-use Rattle.demands_history_rules.specs.Calls.{Call, byte, servoSample, ioSample, tick, AllHanded, leaves, leftBy}
-use Rattle.demands_history_rules.proofs.Calls.{call-kept}
+use Rattle.demands_history_rules.specs.Calls.{Call, byte, tick, AllHanded, leaves, leftBy}
+use Rattle.demands_history_rules.proofs.Calls.{passes?, call-kept}
 use Rattle.demands_rules.specs.Motion.{LoadStarts, At, CallStarts}
-use Rattle.demands_rules.specs.Place.{after, Stands, inTime}
+use Rattle.demands_rules.specs.Place.{servoSampleAt, after, Stands, inTime}
 use Rattle.demands_rules.specs.Sent.{control, WholeLoad}
 use Rattle.demands_rules.specs.Quickest.{total, final, speedsFrom, ticksOf, ticksIn, Disturbs, Undisturbed, SetsOff, OnItsWay, QuickestOnTheLine}
-use Rattle.demands_rules.proofs.Making.{same-place, fits-at, Silent, Made, same, framed, measured, timed, made}
+use Rattle.demands_rules.proofs.Making.{same-place, fits-at, Silent, Made, same, framed, timed, made}
 use Rattle.demands_rules.proofs.Motion.{load-started}
-use Rattle.demands_rules.proofs.OnTheLine.{tick-goes}
 use Rattle.demands_rules.proofs.Placing.{Only, calm, Carries, carried-on}
 use Rattle.demands_rules.proofs.Racing.{no-quicker, never-past}
 use Rattle.demands_rules.proofs.Mirroring.{Goes, can-stop, sets-off, after-tick, Gone, gone}
@@ -123,30 +122,35 @@ frame-keeps f alone m calm = at (f .damaged) refl (eqb (execute f alone m .stati
 -- ---- time
 
 -- a tick at power 1 or 2 with the error within EL makes a trapezoid's step
-tick-steps : (m : Servo) → m .run .drive .mode ≡ Trapezoid → (m .samples .waiting .power ≡ 0 → ⊥) → natAbs (followed m) ≤ m .settings .tuning .gains .el
-    → (ticked m .run .profile ≡ byTrapezoid (m .run .profile)) × (ticked m .run .drive .mode ≡ Trapezoid)
+tick-steps : (x : Sample) (m : Servo) → m .run .drive .mode ≡ Trapezoid → (x .power ≡ 0 → ⊥) → natAbs (followed x m) ≤ m .settings .tuning .gains .el
+    → (ticked x m .run .profile ≡ byTrapezoid (m .run .profile)) × (ticked x m .run .drive .mode ≡ Trapezoid)
 unfolding advanced
-tick-steps m e p l =
-    let r = ticks m .runs p (ap servoOff e) l in
+tick-steps x m e p l =
+    let r = ticks x m .runs p (ap servoOff e) l in
     (r .profile ∙ ap (λ (k : Mode). advancedBy k (m .run .profile)) e, r .mode ∙ e)
 
 -- k runs as m would after n ticks
 abbrev Later : ℕ → Servo → Servo → Type 0
 Later n m k = (k .run .profile ≡ Profiles.after n (m .run .profile)) × (k .run .drive .mode ≡ m .run .drive .mode)
 
--- time makes a step of a tick, and nothing of anything else
-time-steps : (net : List ℕ) (i : ℕ) (c : Call) (m : Servo) → ValidRecord net → m .run .drive .mode ≡ Trapezoid
-    → (c ≡ tick → (m .samples .waiting .power ≡ 0 → ⊥) × (natAbs (followed m) ≤ m .settings .tuning .gains .el))
-    → Later (ticksOf c) m (inTime net i c m)
+-- time makes a step of a tick that is done, and nothing of anything else
+time-steps : (net : List ℕ) (i : ℕ) (c : Call) (m : Servo) → m .run .drive .mode ≡ Trapezoid
+    → ((samples : List ℕ) → c ≡ tick samples → Passes (tickTable net samples)
+    → (servoSampleAt samples i .power ≡ 0 → ⊥) × (natAbs (followed (servoSampleAt samples i) m) ≤ m .settings .tuning .gains .el))
+    → Later (ticksOf net c) m (inTime net i c m)
 unfolding Profiles.after
-time-steps net i (byte mark x room) m v e q = (refl, refl)
-time-steps net i (servoSample place raw power ad) m v e q =
-    either (Same m) (eqb (first (servoSampleTable net place power)) 0) _ m (either (Same m) (eqb i place) (sampled _ m) m (refl, refl) (refl, refl)) (refl, refl)
-time-steps net i (ioSample place inputs ad1 ad2 ad3 counter) m v e q = (refl, refl)
-time-steps net i tick m v e q =
-    let (p, l) = q refl in
-    let (f, g) = tick-steps m e p l in
-    subst (Later 1 m) (Refused.done (tickTable net) m (ticked m) refl (tick-goes net (v .0))) (f, g ∙ sym e)
+time-steps net i (byte mark x room) m e q = (refl, refl)
+time-steps net i (tick samples) m e q = at (passes? (tickTable net samples))
+  where
+    at : Passes (tickTable net samples) ⊎ Refuses (tickTable net samples) → Later (ticksOf net (tick samples)) m (inTime net i (tick samples) m)
+    at (inl p) =
+        let (w, l) = q samples refl p in
+        let (f, g) = tick-steps (servoSampleAt samples i) m e w l in
+        subst (λ (j : ℕ). Later j m (inTime net i (tick samples) m)) (Refused.done (tickTable net samples) 0 1 refl p)
+        (subst (Later 1 m) (Refused.done (tickTable net samples) m (ticked (servoSampleAt samples i) m) refl p) (f, g ∙ sym e))
+    at (inr r) =
+        subst (λ (j : ℕ). Later j m (inTime net i (tick samples) m)) (Refused.refused (tickTable net samples) 0 1 refl r)
+        (subst (Later 0 m) (Refused.refused (tickTable net samples) m (ticked (servoSampleAt samples i) m) refl r) (refl, refl))
 
 -- ---- one call more, and any number
 
@@ -158,35 +162,43 @@ after-sum (suc j) n p =
     ∙ after-sum j (suc n) p
     ∙ ap (λ (k : ℕ). Profiles.after k p) (let e : j + suc n ≡ suc j + n = omega arith in e)
 
-ticks-at : (cs : List Call) (n : ℕ) (c : Call) → getElem? cs n ≡ some c → ticksIn (take (suc n) cs) ≡ ticksOf c + ticksIn (take n cs)
-ticks-at [] n c e = let z : _≡_ {A = Bool} true false = cc in absurd (true≢false z)
-ticks-at (d ∷ cs) zero c e = let z : d ≡ c = cc in ap (λ (c : Call). ticksOf c + 0) z
-ticks-at (d ∷ cs) (suc n) c e = let i = ticks-at cs n c e in omega arith
+ticks-at : (cs : List Call) (net : List ℕ) (n : ℕ) (c : Call) → getElem? cs n ≡ some c
+    → ticksIn net (take (suc n) cs) ≡ ticksOf (leftBy (take n cs) net) c + ticksIn net (take n cs)
+ticks-at [] net n c e = let z : _≡_ {A = Bool} true false = cc in absurd (true≢false z)
+ticks-at (d ∷ cs) net zero c e = let z : d ≡ c = cc in ap (λ (c : Call). ticksOf net c + 0) z
+ticks-at (d ∷ cs) net (suc n) c e = let i = ticks-at cs (leaves net d) n c e in omega arith
 
 module _ (net : List ℕ) (cs : List Call) (i : ℕ) (s : Servo) (v : ValidRecord net) (h : AllHanded cs) (at : At net i s)
     (runs : s .run .drive .mode ≡ Trapezoid) (u : Undisturbed net cs i) where
+  -- what call n makes of time
+  by-time : (n : ℕ) (c : Call) (m : Servo) → getElem? cs n ≡ some c → Stands net cs i n m → m .run .drive .mode ≡ Trapezoid
+      → Later (ticksOf (after net cs i n) c) m (inTime (after net cs i n) i c m)
+  by-time n c m g st e =
+      time-steps (after net cs i n) i c m e
+      (λ samples z p. u .ticks n _ m (record { samples = samples; call = g ∙ ap some z; done = p; own = refl }) st)
+
   -- a call leaves what time makes of the servo, or a frame that does not disturb it
-  call-steps : (n : ℕ) (c : Call) (m k : Servo) → getElem? cs n ≡ some c → ValidRecord (after net cs i n) → Stands net cs i n m → m .run .drive .mode ≡ Trapezoid
-      → Only net cs i (suc n) k → Made (after net cs i n) i m c k → Later (ticksOf c) m k
+  call-steps : (n : ℕ) (c : Call) (m k : Servo) → getElem? cs n ≡ some c → Stands net cs i n m → m .run .drive .mode ≡ Trapezoid
+      → Only net cs i (suc n) k → Made (after net cs i n) i m c k → Later (ticksOf (after net cs i n) c) m k
   unfolding Profiles.after
-  call-steps n _ _ k g w st e o (framed mark x room d goes a t) =
+  call-steps n _ _ k g st e o (framed mark x room d goes a t) =
       frame-keeps (frameIn (netIn slots (after net cs i n) .receiver) d) _ _ (calm net cs i n mark x room Disturbs d k g goes t a o (u .frames n))
-  call-steps n _ m _ g w st e o (same c y q) = subst (Later (ticksOf c) m) q (time-steps (after net cs i n) i c m w e (λ z. u .ticks n m (g ∙ ap some z) st))
-  call-steps n _ m _ g w st e o (measured c x y z q) = subst (Later (ticksOf c) m) q (time-steps (after net cs i n) i c m w e (λ z. u .ticks n m (g ∙ ap some z) st))
-  call-steps n _ m _ g w st e o (timed q) = subst (Later 1 m) q (time-steps (after net cs i n) i tick m w e (λ z. u .ticks n m g st))
+  call-steps n _ m _ g st e o (same c y q) = subst (Later (ticksOf (after net cs i n) c) m) q (by-time n c m g st e)
+  call-steps n _ m _ g st e o (timed samples p q) = subst (Later (ticksOf (after net cs i n) (tick samples)) m) q (by-time n (tick samples) m g st e)
 
   -- the servo after n calls
-  goes : Carries net cs i (λ n k. Later (ticksIn (take n cs)) s k)
+  goes : Carries net cs i (λ n k. Later (ticksIn net (take n cs)) s k)
   goes n c m k g w st b st′ o (p, d) =
-      let (q, f) = call-steps n c m k g w st (d ∙ runs) o b in
-      (q ∙ ap (Profiles.after (ticksOf c)) p ∙ after-sum (ticksOf c) _ _ ∙ ap (λ (j : ℕ). Profiles.after j (s .run .profile)) (sym (ticks-at cs n c g)), f ∙ d)
+      let j : ℕ = ticksOf (after net cs i n) c in
+      let (q, f) = call-steps n c m k g st (d ∙ runs) o b in
+      (q ∙ ap (Profiles.after j) p ∙ after-sum j _ _ ∙ ap (λ (j : ℕ). Profiles.after j (s .run .profile)) (sym (ticks-at cs net n c g)), f ∙ d)
 
   -- and after all of them
-  went : (k : Servo) → At (leftBy cs net) i k → Later (ticksIn cs) s k
+  went : (k : Servo) → At (leftBy cs net) i k → Later (ticksIn net cs) s k
   unfolding Profiles.after
   went k e =
-      subst (λ (ds : List Call). Later (ticksIn ds) s k) (take-length cs)
-      (carried-on net cs i (λ n k. Later (ticksIn (take n cs)) s k) v h goes s at (refl, refl) k e)
+      subst (λ (ds : List Call). Later (ticksIn net ds) s k) (take-length cs)
+      (carried-on net cs i (λ n k. Later (ticksIn net (take n cs)) s k) v h goes s at (refl, refl) k e)
 
 -- ---- where it is then
 
@@ -269,20 +281,17 @@ starts-still f alone m l t =
 -- a call that starts something ends a frame for this place
 not-silent : (net : List ℕ) (c : Call) (i : ℕ) (m : Servo) → CallStarts LoadStarts net i m c → Silent net i c → ⊥
 not-silent net (byte mark x room) i m (p, l) s = s false p (l .ended) (l .touches)
-not-silent net (servoSample place raw power ad) i m l s = l
-not-silent net (ioSample place inputs ad1 ad2 ad3 counter) i m l s = l
-not-silent net tick i m l s = l
+not-silent net (tick samples) i m l s = l
 
 made-still : (net : List ℕ) (c : Call) (i : ℕ) (m k : Servo) → CallStarts LoadStarts net i m c → Made net i m c k → k .run .drive .mode ≡ Trapezoid
     → (k .run .profile .speed ≡ pos 0) × (0 < k .run .profile .top)
 made-still net _ i m _ l (same c s q) t = absurd (not-silent net c i m l s)
-made-still net _ i m _ l (measured c x y s q) t = absurd (not-silent net c i m l s)
-made-still net _ i m _ l (timed q) t = absurd l
+made-still net _ i m _ l (timed samples p q) t = absurd l
 made-still net _ i m _ (p, l) (framed mark x room true goes a u) t = let z : true ≡ false = cc in absurd (true≢false z)
 made-still net _ i m _ (p, l) (framed mark x room false goes a u) t = starts-still (frameIn (netIn slots net .receiver) false) _ m (l .starts) t
 
 running-in : (m : Servo) → Fits m → m .run .drive .mode ≡ Trapezoid → Running (m .run .profile)
-running-in m f e = subst (λ (d : Mode). InMode d (m .samples .latched .power) (m .run)) e (good m f .sane .mode) .2
+running-in m f e = subst (λ (d : Mode). InMode d (m .latched .power) (m .run)) e (good m f .sane .mode) .2
 
 pub quickest-on-the-line : QuickestOnTheLine
 quickest-on-the-line net c cs i m s k v hc h e l es t u ek =
@@ -294,7 +303,7 @@ quickest-on-the-line net c cs i m s k v hc h e l es t u ek =
     let (still, fast) = started in
     let off : SetsOff p = record { still = still; force = r .force; fast = fast; near = near (p .goal) (p .setpoint) .0 (r .near) } in
     let (q, d) = went (leaves net c) cs i s w h es t u k ek in
-    (off, on-its-way p (ticksIn cs) off (sets-off p ranged r still) k q (d ∙ t))
+    (off, on-its-way p (ticksIn (leaves net c) cs) off (sets-off p ranged r still) k q (d ∙ t))
   where
     started : (s .run .profile .speed ≡ pos 0) × (0 < s .run .profile .top)
     started =

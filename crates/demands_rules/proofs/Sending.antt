@@ -375,6 +375,6 @@ module _ (net : List ℕ) (cs : List Call) (i : ℕ) where
         at : (d : Mode) → m .run .drive .mode ≡ d → (k .run .profile .speed ≡ pos 0 → ⊥) → Slowed
         at Off e z = absurd (false≢true (sym on ∙ ap servoOff e))
         at Pwm e z = absurd (false≢true (sym on ∙ ap servoOff e))
-        at Hold e z = absurd (z (s .speed ∙ subst (λ (d : Mode). InMode d (m .samples .latched .power) (m .run)) e (good m t .sane .mode) .0))
+        at Hold e z = absurd (z (s .speed ∙ subst (λ (d : Mode). InMode d (m .latched .power) (m .run)) e (good m t .sane .mode) .0))
         at Velocity e z = from e z (zero? (m .run .profile .aim))
         at Trapezoid e z = let (y, v, c, gv, gc, b) = w .move e in (y, began-on y n k b only (λ f x. x .0) (λ before m f x. inr (x .0)) (λ before f x. inl (s .mode)))

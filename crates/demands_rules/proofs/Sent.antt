@@ -29,10 +29,11 @@ use Rattle.servo_rules.specs.declared.Mode.the-variants.{Off, Pwm, Hold, Veloci
 use Rattle.servo_rules.specs.declared.Rates.{Rates}
 use Rattle.servo_rules.specs.declared.Load.{Load}
 use Rattle.servo_rules.specs.declared.Carried.{Carried}
+use Rattle.servo_rules.specs.declared.Sample.{Sample}
 use Rattle.servo_rules.specs.declared.Servo.{Servo}
 use Rattle.servo_rules.specs.Carried.{isSet, needed, carriedIn}
 use Rattle.servo_rules.specs.Asks.{haltOf, stopCount}
-use Rattle.servo_rules.specs.State.{position, servoOff, started, sampled}
+use Rattle.servo_rules.specs.State.{position, servoOff, started}
 use Rattle.servo_rules.specs.Loads.{loaded, startsNow, start}
 use Rattle.servo_rules.specs.Perform.{resetPosition, stopped, can, perform}
 use Rattle.servo_rules.specs.Tick.{ticked}
@@ -57,11 +58,11 @@ use Rattle.api_rules.proofs.Kept.{kept}
 use Rattle.demands_history_rules.specs.Calls.{Call, byte, tick}
 use Rattle.demands_rules.specs.Motion.{Moves}
 use Rattle.demands_rules.specs.Question.{IsStart}
-use Rattle.demands_rules.specs.Place.{after, Stands, Executed}
+use Rattle.demands_rules.specs.Place.{servoSampleAt, after, Stands, Executed}
 use Rattle.demands_rules.specs.Sent.{control, Has, Lacks, WholeLoad, Halts, Drops, encoder, Loaded, Given, itself, byStart, WasSent, WhatMovesWasSent, numberIn}
 use Rattle.demands_rules.proofs.Reading.{spares, not-keep, keep-spares}
 use Rattle.demands_rules.proofs.Alike.{Alike, alike, shift-alike, tick-alike}
-use Rattle.demands_rules.proofs.Making.{fits-at, Silent, Made, same, framed, measured, timed, set-up-is}
+use Rattle.demands_rules.proofs.Making.{fits-at, Silent, Made, same, framed, timed, set-up-is}
 use Rattle.demands_rules.proofs.Placing.{valid-after, untouched, stood-before, Only, executed-by, Carries, carried}
 use Rattle.demands_rules.proofs.Sending.{Replaces, brought, none-yet, loaded-on, off-sent, alike-sent, start-sent, hold-sent, slow-sent}
 
@@ -229,8 +230,8 @@ module _ (net : List ℕ) (cs : List Call) (i : ℕ) where
         unfolding stopped
         counts-kept h y = refl
 
-        raw-back : encoder m (position m) ≡ m .samples .latched .raw
-        raw-back = let g = good m t in back (m .samples .latched .raw) (m .counts .offset) (omega (arith, g .samples .1 .0)) (omega (arith, g .counts .0))
+        raw-back : encoder m (position m) ≡ m .latched .raw
+        raw-back = let g = good m t in back (m .latched .raw) (m .counts .offset) (omega (arith, g .latched .1 .1)) (omega (arith, g .counts .0))
 
         stop-told : (h : Halt) → h ≡ haltOf (control f) → x ≡ numberIn 0 f → length (f .content) ≡ stopCount (control f)
             → Only net cs i (suc n) (withCause 0 (stopped a h x m)) → Told (suc n) (withCause 0 (stopped a h x m))
@@ -353,8 +354,9 @@ module _ (net : List ℕ) (cs : List Call) (i : ℕ) where
     unfolding ticked
     made-told _ _ e (same c s _) st o = idle-told m o (silent-none c e s) refl refl (inr (alike m m refl refl refl refl))
     made-told _ _ e (framed mark x room d goes a u) st o = framed-told mark x room e goes u d _ a st o
-    made-told _ _ e (measured c x u s _) st o = idle-told (sampled x m) o (silent-none c e s) refl refl (inr (alike m (sampled x m) refl refl refl refl))
-    made-told _ _ e (timed _) st o = idle-told (ticked m) o (silent-none tick e tt) refl refl (tick-alike m)
+    made-told _ _ e (timed samples _ _) st o =
+        let x : Sample = servoSampleAt samples i in
+        idle-told (ticked x m) o (silent-none (tick samples) e tt) refl refl (tick-alike x m)
 
 -- ---- through any calls
 
@@ -378,7 +380,7 @@ in-motion k t z = at (k .run .drive .mode) refl (good k t .sane .mode) z
     still s p (inl n) = n s
     still s p (inr n) = n p
 
-    at : (d : Mode) → k .run .drive .mode ≡ d → InMode d (k .samples .latched .power) (k .run) → Moves k → (k .run .drive .mode ≡ Pwm) ⊎ ((k .run .drive .mode ≡ Velocity) ⊎ (k .run .drive .mode ≡ Trapezoid))
+    at : (d : Mode) → k .run .drive .mode ≡ d → InMode d (k .latched .power) (k .run) → Moves k → (k .run .drive .mode ≡ Pwm) ⊎ ((k .run .drive .mode ≡ Velocity) ⊎ (k .run .drive .mode ≡ Trapezoid))
     at Off e i z = absurd (still (i .0 .rest) (i .2) z)
     at Pwm e i z = inl e
     at Hold e i z = absurd (still (i .0) (i .1) z)

@@ -22,15 +22,15 @@ use Rattle.servo_rules.specs.Tick.{ran, ticked}
 use Rattle.servo_rules.specs.Answers.{withCause}
 use Rattle.types_rules.specs.Types.{Module, kind, slots}
 use Rattle.net_rules.specs.Record.{netIn}
-use Rattle.net_rules.specs.Calls.{setUp}
+use Rattle.net_rules.specs.Calls.{setUp, samplesIn}
 use Rattle.api_rules.specs.Promises.{ValidRecord}
-use Rattle.demands_history_rules.specs.Calls.{Call, byte, servoSample, ioSample, tick, AllHanded}
+use Rattle.demands_history_rules.specs.Calls.{Call, byte, tick, AllHanded}
 use Rattle.demands_rules.specs.Place.{after, Stands, Touched, throughTime}
 use Rattle.demands_rules.specs.Question.{Missed, damaged, short}
-use Rattle.demands_rules.proofs.Examples.{types, lent, room, valid, held, enough, at-power-up}
+use Rattle.demands_rules.proofs.Examples.{types, lent, room, valid, held, lone, enough, at-power-up}
 use Rattle.demands_rules.proofs.OnTheLine.{small, byte-goes}
 use Rattle.demands_rules.proofs.Placing.{valid-after}
-use Rattle.demands_rules.proofs.Computing.{AllOpen, through, net-after, allPass, passes-at, endsSuch, ends-such, spread, spread-open, spread-handed}
+use Rattle.demands_rules.proofs.Computing.{Lone, AllOpen, through, net-after, allPass, passes-at, endsSuch, ends-such, spread, spread-open, spread-handed}
 use Rattle.demands_rules.proofs.InTime.{question-in-time}
 
 -- a frame that is a missed load wherever it comes
@@ -50,16 +50,14 @@ is-missed f e = at (f .damaged) (eqb (f .code) 4) (eqb (length (f .content)) (ne
 -- each call ends nothing, or a missed load
 abbrev ends : Net Module → Call → Bool
 ends n (byte mark x room) = endsSuch isMissed n mark x
-ends n (servoSample place raw power ad) = true
-ends n (ioSample place inputs ad1 ad2 ad3 counter) = true
-ends n tick = true
+ends n (tick samples) = true
 
-missed-by : (cs : List Call) (net : List ℕ) (i k j : ℕ) (f : Frame) → ValidRecord net → AllHanded cs → AllOpen cs
+missed-by : (cs : List Call) (net : List ℕ) (i k j : ℕ) (f : Frame) → ValidRecord net → Lone net → AllHanded cs → AllOpen cs
     → j < k → allPass ends k cs (netIn slots net) ≡ true → Touched net cs i j f → Missed true f
-missed-by cs net i k j f v h o l e x =
+missed-by cs net i k j f v one h o l e x =
     is-missed f
     (ends-such isMissed (netIn slots (after net cs i j)) (x .mark) (x .value) f
-    (passes-at ends cs net k j (byte (x .mark) (x .value) (x .room)) v h o l e (x .call)) (x .ended) (x .frame))
+    (passes-at ends cs net k j (byte (x .mark) (x .value) (x .room)) v one h o l e (x .call)) (x .ended) (x .frame))
 
 -- ---- the short load, whose last four bytes never come, and the Start, a tick behind each byte
 
@@ -67,25 +65,25 @@ abbrev line : List Byte
 line = clean (written 0 4 (0x17 ∷ 0xE8 ∷ 3 ∷ 0 ∷ 0 ∷ 100 ∷ 0 ∷ 0 ∷ 0 ∷ []) ++ written 0 5 [])
 
 abbrev cs : List Call
-cs = spread room line
+cs = spread 0 room line
 
 -- the Start ends with call 32, and all that ends before it is the short load
 quiet : allPass ends 32 cs (setUp types) ≡ true
-unfolding taken byteStep Any.execute Any.request asked own loadMeant ticked ran ones
+unfolding samplesIn taken byteStep Any.execute Any.request asked own loadMeant ticked ran ones
 quiet = refl
 
 abbrev go : Frame
 go = record { address = 0; code = 5; content = []; damaged = false }
 
-before-start : netIn slots (after lent cs 0 32) ≡ through (spread room (take 16 line)) (setUp types)
+before-start : netIn slots (after lent cs 0 32) ≡ through (spread 0 room (take 16 line)) (setUp types)
 before-start =
-    net-after (spread room (take 16 line)) lent valid (spread-handed room (take 16 line) (small (values (take 16 line)) refl)) (spread-open room enough (take 16 line))
-    ∙ ap (through (spread room (take 16 line))) held
+    net-after (spread 0 room (take 16 line)) lent valid lone (spread-handed 0 refl room (take 16 line) (small (values (take 16 line)) refl)) (spread-open 0 refl room enough (take 16 line))
+    ∙ ap (through (spread 0 room (take 16 line))) held
 
-reads-go : (frameIn (through (spread room (take 16 line)) (setUp types) .receiver) false ≡ go)
-    × (taken (through (spread room (take 16 line)) (setUp types) .receiver) 5 false .answer ≡ Ended false)
-    × (touched true 0 (addresses kind (through (spread room (take 16 line)) (setUp types) .modules)) 0 ≡ true)
-unfolding taken byteStep Any.execute Any.request asked own loadMeant ticked ran ones
+reads-go : (frameIn (through (spread 0 room (take 16 line)) (setUp types) .receiver) false ≡ go)
+    × (taken (through (spread 0 room (take 16 line)) (setUp types) .receiver) 5 false .answer ≡ Ended false)
+    × (touched true 0 (addresses kind (through (spread 0 room (take 16 line)) (setUp types) .modules)) 0 ≡ true)
+unfolding samplesIn taken byteStep Any.execute Any.request asked own loadMeant ticked ran ones
 reads-go = (refl, refl, refl)
 
 start-touches : Touched lent cs 0 32 go
@@ -101,10 +99,10 @@ start-touches = record {
 }
   where
     are-handed : AllHanded cs
-    are-handed = spread-handed room line (small (values line) refl)
+    are-handed = spread-handed 0 refl room line (small (values line) refl)
 
 -- so the carriage stays, and the Start is 3, whatever the ticks made of the servo
 pub carriage-stays-in-time : Stands lent cs 0 33 (withCause 3 (throughTime lent 0 (take 32 cs) started))
 carriage-stays-in-time =
-    question-in-time lent cs 0 32 started go valid (spread-handed room line (small (values line) refl)) at-power-up refl start-touches (refl, refl, refl)
-    (λ j f l x. missed-by cs lent 0 32 j f valid (spread-handed room line (small (values line) refl)) (spread-open room enough line) l (ap (allPass ends 32 cs) held ∙ quiet) x)
+    question-in-time lent cs 0 32 started go valid (spread-handed 0 refl room line (small (values line) refl)) at-power-up refl start-touches (refl, refl, refl)
+    (λ j f l x. missed-by cs lent 0 32 j f valid lone (spread-handed 0 refl room line (small (values line) refl)) (spread-open 0 refl room enough line) l (ap (allPass ends 32 cs) held ∙ quiet) x)

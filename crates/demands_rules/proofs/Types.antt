@@ -3,7 +3,7 @@ use mathlib.Core.Path.{_≡_, refl, sym, ap, ap₂, _∙_}
 use mathlib.Core.Logic.{_⊎_, inl, inr}
 use mathlib.Core.List.{List, [], _∷_, map}
 use mathlib.Core.Bool.{Bool, true, false, _&&_, true≢false}
-use Prim.Native.Nat.{ℕ, zero, suc}
+use Prim.Native.Nat.{ℕ}
 use lib.ListN.{length}
 use lib.Dec.{eqb}
 use Rattle.line_receiver.specs.declared.Receiver.{Receiver}
@@ -13,19 +13,18 @@ use Rattle.line_receiver.specs.Receive.{taken}
 use Rattle.line_receiver.specs.Frames.{Byte, Frame, frameIn}
 use Rattle.module_rules.specs.Touch.{named}
 use Rattle.module_rules.specs.Kind.{executed}
-use Rattle.chain_rules.specs.Chain.{Net, Step, handed, byteStep, changed}
+use Rattle.chain_rules.specs.Chain.{Net, Step, handed, byteStep, timed}
 use Rattle.chain_rules.proofs.Bytes.{step-on, step-end}
 use Rattle.servo_rules.proofs.Keeping.{either}
 use Rattle.types_rules.specs.Table.{ModuleType, Of, rulesOf, slotsOf}
-use Rattle.types_rules.specs.Types.{Module, kind, slots}
+use Rattle.types_rules.specs.Types.{Module, AnySample, kind, slots}
 use Rattle.types_rules.proofs.Owed.{owes}
 use Rattle.net_rules.specs.Record.{netIn}
-use Rattle.net_rules.specs.Calls.{byteOf}
+use Rattle.net_rules.specs.Calls.{byteOf, samplesFor}
 use Rattle.net_rules.proofs.Slots.{SameSizes}
-use Rattle.api_rules.specs.Calls.{servoSampleOf, ioSampleOf}
 use Rattle.api_rules.specs.Promises.{ValidRecord, Refuses, Passes}
 use Rattle.demands_history_rules.specs.Events.{event}
-use Rattle.demands_history_rules.specs.Calls.{Call, byte, servoSample, ioSample, tick, Handed, refusals, leaves, does}
+use Rattle.demands_history_rules.specs.Calls.{Call, byte, tick, Handed, refusals, leaves, does}
 use Rattle.demands_history_rules.proofs.Calls.{passes?, refused-leaves, passed-leaves}
 
 abbrev pub typeOf : Module → ModuleType
@@ -39,14 +38,10 @@ handed-types f enabled [] = refl
 handed-types f enabled (m ∷ ms) =
     ap₂ (λ (t : ModuleType) (ts : List ModuleType). t ∷ ts) (either (λ (x : Module). typeOf x ≡ typeOf m) (enabled && named (f .address) (kind .address m)) (executed kind f m) m refl refl) (handed-types f (kind .address m .low) ms)
 
-changed-types : (g : Module → Module) → ((m : Module) → typeOf (g m) ≡ typeOf m) → (i : ℕ) (ms : List Module) → types (changed g i ms) ≡ types ms
-changed-types g h i [] = refl
-changed-types g h zero (m ∷ ms) = ap (λ (t : ModuleType). t ∷ types ms) (h m)
-changed-types g h (suc i) (m ∷ ms) = ap (λ (ts : List ModuleType). typeOf m ∷ ts) (changed-types g h i ms)
-
-ticked-types : (ms : List Module) → types (map (kind .tick) ms) ≡ types ms
-ticked-types [] = refl
-ticked-types (m ∷ ms) = ap (λ (ts : List ModuleType). typeOf m ∷ ts) (ticked-types ms)
+timed-types : (xs : List AnySample) (ms : List Module) → types (timed kind xs ms) ≡ types ms
+timed-types xs [] = refl
+timed-types [] (m ∷ ms) = refl
+timed-types (x ∷ xs) (m ∷ ms) = ap (λ (ts : List ModuleType). typeOf m ∷ ts) (timed-types xs ms)
 
 byte-types : (n : Net Module) (b : Byte) (a : Answer) (r : Receiver) → taken (n .receiver) (b .value) (b .mark) ≡ record { next = r; answer = a }
     → types (byteStep kind n b .net .modules) ≡ types (n .modules)
@@ -54,12 +49,10 @@ byte-types n b Nothing r e = ap (λ (s : Step Module). types (s .net .modules)) 
 byte-types n b (Ended d) r e =
     ap (λ (s : Step Module). types (s .net .modules)) (step-end kind n b r d e) ∙ handed-types (frameIn (n .receiver) d) true (n .modules)
 
-pub event-types : (c : Call) (n : Net Module) → types (event kind (does c) n .net .modules) ≡ types (n .modules)
+pub event-types : (c : Call) (n : Net Module) → types (event kind (does n c) n .net .modules) ≡ types (n .modules)
 event-types (byte mark x room) n =
     byte-types n (byteOf x (eqb mark 1)) (taken (n .receiver) x (eqb mark 1) .answer) (taken (n .receiver) x (eqb mark 1) .next) refl
-event-types (servoSample place raw power ad) n = changed-types (kind .sample (servoSampleOf raw power ad)) (λ m. refl) place (n .modules)
-event-types (ioSample place inputs ad1 ad2 ad3 counter) n = changed-types (kind .sample (ioSampleOf inputs ad1 ad2 ad3 counter)) (λ m. refl) place (n .modules)
-event-types tick n = ticked-types (n .modules)
+event-types (tick samples) n = timed-types (samplesFor n samples) (n .modules)
 
 pub call-types : (net : List ℕ) (c : Call) → Handed c → ValidRecord net → types (netIn slots (leaves net c) .modules) ≡ types (netIn slots net .modules)
 call-types net c h v = at (passes? (refusals net c))

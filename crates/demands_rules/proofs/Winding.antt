@@ -2,11 +2,9 @@
 use mathlib.Core.Path.{_≡_, refl, ap, _∙_}
 use mathlib.Core.List.{List}
 use mathlib.Core.Bool.{true}
-use mathlib.Core.Option.{some}
 use Prim.Native.Nat.{ℕ, suc}
 use lib.Count.{ones}
 use lib.IntN.{ℤ}
-use lib.ListN.{getElem?}
 use Rattle.base_integers.specs.Whole.{signed, difference, same as same-number}
 use Rattle.line_receiver.specs.Receive.{taken}
 use Rattle.line_receiver.specs.Frames.{Frame, frameIn}
@@ -16,6 +14,7 @@ use Rattle.module_rules.specs.Rules.{request, execute, reply}
 use Rattle.chain_rules.specs.Chain.{byteStep}
 use Rattle.servo_filter.specs.declared.Memory.{Memory}
 use Rattle.servo_filter.specs.Filter.{held, drive, limited, filtered}
+use Rattle.servo_rules.specs.declared.Sample.{Sample}
 use Rattle.servo_rules.specs.declared.Servo.{Servo}
 use Rattle.servo_rules.specs.Carried.{carriedIn, inRange}
 use Rattle.servo_rules.specs.Asks.{loadMeant, gainsIn, gainsFit, gainMeant, haltOf, stopMeant, own}
@@ -28,14 +27,14 @@ use Rattle.servo_rules.specs.CutPromises.{Blanks}
 use Rattle.servo_rules.proofs.Remembering.{remembers}
 use Rattle.types_rules.specs.Types.{slots}
 use Rattle.net_rules.specs.Record.{netIn}
-use Rattle.demands_history_rules.specs.Calls.{Call, tick}
-use Rattle.demands_rules.specs.Place.{after, Stands, Executed}
+use Rattle.demands_history_rules.specs.Calls.{Call}
+use Rattle.demands_rules.specs.Place.{after, Stands, Executed, Ticked}
 use Rattle.demands_rules.specs.Winding.{WindsUpNoMore, Blocked, Clears, Lowered}
-use Rattle.demands_rules.proofs.Making.{same, framed, measured, timed}
+use Rattle.demands_rules.proofs.Making.{same, framed, timed}
 use Rattle.demands_rules.proofs.Placing.{calm, Carries, carried-on}
 
 module _ (net : List ℕ) (cs : List Call) (i : ℕ)
-    (cut : (j : ℕ) (s : Servo) → getElem? cs j ≡ some tick → Stands net cs i (suc j) s → s .run .drive .cut ≡ true)
+    (cut : (j : ℕ) (x : Sample) (s : Servo) → Ticked net cs i j x → Stands net cs i (suc j) s → s .run .drive .cut ≡ true)
     (kept : (j : ℕ) (f : Frame) (s : Servo) → Stands net cs i j s → Executed net cs i j f → Blanks s f → ⊥) where
   goes : (z : ℤ) → Carries net cs i (λ n k. k .run .memory .integral ≡ z)
   goes z n _ m _ g w st (same c _ _) st′ o p = p
@@ -44,8 +43,8 @@ module _ (net : List ℕ) (cs : List Call) (i : ℕ)
       (remembers .frame (frameIn (netIn slots (after net cs i n) .receiver) d) _ m
       (calm net cs i n mark x room (Blanks m) d k g call t a o (λ f. kept n f m st)))
       ∙ p
-  goes z n _ m _ g w st (measured c x _ _ _) st′ o p = p
-  goes z n _ m k g w st (timed _) st′ o p = remembers .cut m (cut n _ g st′) ∙ p
+  goes z n _ m k g w st (timed samples call _) st′ o p =
+      remembers .cut _ m (cut n _ _ (record { samples = samples; call = g; done = call; own = refl }) st′) ∙ p
 
 pub winds-up-no-more : WindsUpNoMore
 winds-up-no-more net cs i m k v h e q cut kept =

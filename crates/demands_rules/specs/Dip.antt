@@ -16,21 +16,22 @@ use Rattle.servo_rules.specs.RestPromises.{TurnsOn}
 use Rattle.types_rules.specs.Table.{servo}
 use Rattle.types_rules.specs.Types.{AnySample, kind}
 use Rattle.net_rules.specs.Calls.{setUp, outputsAt}
-use Rattle.api_rules.specs.Table.{setupTable}
+use Rattle.base_layout.specs.Bytes.{Bytes}
+use Rattle.api_rules.specs.Table.{setupTable, tickTable}
 use Rattle.api_rules.specs.Calls.{setupRecord}
 use Rattle.api_rules.specs.Promises.{Passes, ValidRecord}
-use Rattle.demands_history_rules.specs.Events.{Event, sent, sampled, ticked, run}
+use Rattle.demands_history_rules.specs.Events.{Event, sent, ticked, run}
 use Rattle.demands_history_rules.specs.Calls.{Call, tick, AllHanded, leaves, leftBy}
 use Rattle.demands_rules.specs.Motion.{AtRest, At, StartedBy}
-use Rattle.demands_rules.specs.Place.{Stands, Executed, None}
+use Rattle.demands_rules.specs.Place.{servoSampleAt, Stands, Executed, None}
 use Rattle.demands_rules.specs.Sent.{control}
 use Rattle.demands_rules.specs.Meaning.{gives, Holds}
 
 -- from m to k the enable line has come back: with power 1 latched before and after it is what it was, and with any other power it is low
 pub record Returns (m k : Servo) : Type 0 where
   pub bit : k .run .drive .amplifier ≡ m .run .drive .amplifier
-  pub back : m .samples .latched .power ≡ 1 → k .samples .latched .power ≡ 1 → enableLine k ≡ enableLine m
-  pub down : (k .samples .latched .power ≡ 1 → ⊥) → enableLine k ≡ 0
+  pub back : m .latched .power ≡ 1 → k .latched .power ≡ 1 → enableLine k ≡ enableLine m
+  pub down : (k .latched .power ≡ 1 → ⊥) → enableLine k ≡ 0
 
 -- So it does through any calls in which no Stop and no Hard Reset is executed at place i, whatever powers the ticks find there: one dip or many,
 -- to low or to high power, with any frames for others, polls, loads and starts in between.
@@ -45,10 +46,11 @@ ComesBack =
 -- frame is executed here that turns it on, so with none in the dip it is off after it; and it is at rest until a load is started.
 abbrev pub OffUntilStarted : Type 0
 OffUntilStarted =
-    (net : List ℕ) (cs : List Call) (i : ℕ) (m k : Servo)
-    → ValidRecord net → AllHanded cs → At net i m → m .samples .waiting .power ≡ 0 → At (leftBy cs (leaves net tick)) i k
-    → (((j : ℕ) (f : Frame) → Executed (leaves net tick) cs i j f → TurnsOn f → ⊥) → Released (k .run))
-    × ((AtRest k → ⊥) → StartedBy cs (leaves net tick) i)
+    (net samples : List ℕ) (cs : List Call) (i : ℕ) (m k : Servo)
+    → ValidRecord net → Bytes samples → AllHanded cs → At net i m
+    → Passes (tickTable net samples) → servoSampleAt samples i .power ≡ 0 → At (leftBy cs (leaves net (tick samples))) i k
+    → (((j : ℕ) (f : Frame) → Executed (leaves net (tick samples)) cs i j f → TurnsOn f → ⊥) → Released (k .run))
+    × ((AtRest k → ⊥) → StartedBy cs (leaves net (tick samples)) i)
 
 module _ (net : List ℕ) (cs : List Call) (i : ℕ) where
   -- call j is the last of the first n that executed a Stop or a Hard Reset here, and it executed f
@@ -65,8 +67,8 @@ module _ (net : List ℕ) (cs : List Call) (i : ℕ) where
 
 -- the line of a servo where the host has switched a
 pub record LineOf (a : Bool) (k : Servo) : Type 0 where
-  pub high : a ≡ true → k .samples .latched .power ≡ 1 → enableLine k ≡ 1
-  pub low : (a ≡ false) ⊎ (k .samples .latched .power ≡ 1 → ⊥) → enableLine k ≡ 0
+  pub high : a ≡ true → k .latched .power ≡ 1 → enableLine k ≡ 1
+  pub low : (a ≡ false) ⊎ (k .latched .power ≡ 1 → ⊥) → enableLine k ≡ 0
 
 -- From setup, through any calls, dips among them: the enable line is what the host switched last, and power 1.
 abbrev pub EnabledWasSent : Type 0
@@ -78,14 +80,14 @@ EnabledWasSent =
 -- ---- dips by the tick, computed
 
 abbrev pub History : Type 0
-History = List (Event AnySample)
+History = List (Event (List AnySample))
 
 -- the bytes of a frame for a servo alone on the line, and a tick that finds this power, at this count or at 0
 abbrev pub sending : ℕ → List ℕ → History
 sending code ds = sent (clean (written 0 code ds)) ∷ []
 
 abbrev pub tickAtCount : ℕ → ℕ → History
-tickAtCount power raw = sampled 0 (servo, record { raw = raw; power = power; ad = 0 }) ∷ ticked ∷ []
+tickAtCount power raw = ticked ((servo, record { raw = raw; power = power; ad = 0 }) ∷ []) ∷ []
 
 abbrev pub tickAt : ℕ → History
 tickAt power = tickAtCount power 0

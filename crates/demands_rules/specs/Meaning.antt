@@ -19,6 +19,7 @@ use Rattle.servo_filter.specs.Filter.{output}
 use Rattle.servo_filter.specs.Promises as Filter
 use Rattle.servo_rules.specs.Carried.{needed}
 use Rattle.servo_rules.specs.declared.Mode.the-variants.{Off, Velocity, Trapezoid}
+use Rattle.servo_rules.specs.declared.Sample.{Sample}
 use Rattle.servo_rules.specs.declared.Servo.{Servo}
 use Rattle.servo_rules.specs.State.{started}
 use Rattle.servo_rules.specs.Answers.{execute}
@@ -53,14 +54,14 @@ ReadBack =
     ≡ handedAlong (frame address code ds) n
 
 -- A tick and the profile: from p to q, by the mode before and after it.
-pub record Speeds (m : Servo) (p q : Profile) : Type 0 where
+pub record Speeds (x : Sample) (m : Servo) (p q : Profile) : Type 0 where
   -- velocity mode goes toward the commanded speed by at most the acceleration, and never past it
-  pub velocity : m .run .drive .mode ≡ Velocity → ticked m .run .drive .mode ≡ Velocity → Toward (p .acceleration) (p .aim) (p .speed) (q .speed)
+  pub velocity : m .run .drive .mode ≡ Velocity → ticked x m .run .drive .mode ≡ Velocity → Toward (p .acceleration) (p .aim) (p .speed) (q .speed)
   -- a trapezoid's speed is the greatest that the text allows, so never above the commanded one, and it can still stop within what is left
-  pub trapezoid : m .run .drive .mode ≡ Trapezoid → ticked m .run .drive .mode ≡ Trapezoid
+  pub trapezoid : m .run .drive .mode ≡ Trapezoid → ticked x m .run .drive .mode ≡ Trapezoid
       → Asked (p .acceleration) (p .top) (natAbs (left p)) (natAbs (p .speed)) (natAbs (q .speed)) × Running q
   -- where a tick ends in off, by low power or too large an error, speed and output are 0
-  pub off : (m .run .drive .mode ≡ Off → ⊥) → ticked m .run .drive .mode ≡ Off → Released (ticked m .run)
+  pub off : (m .run .drive .mode ≡ Off → ⊥) → ticked x m .run .drive .mode ≡ Off → Released (ticked x m .run)
 
 -- The whole of demand 2 beside the exact contracts of the calls (crate doljurven).
 pub record Meaning : Type 0 where
@@ -72,7 +73,7 @@ pub record Meaning : Type 0 where
   -- the status reader takes apart what a module of any type replies
   pub statusRead : StatusRead
   -- inputs: an I/O module's bits are read from the latched sample where they are directed as inputs and from the register where as outputs; a tick
-  -- latches what was sampled before it, no sooner; and a reply shows what is latched then, item by item, of the record after the frame
+  -- latches the sample that it hands over, and no frame changes it; a reply shows what is latched then, item by item, of the record after the frame
   pub readValue : ReadValue
   pub inoutShown : Shown
   pub servoShown : Samples
@@ -81,9 +82,9 @@ pub record Meaning : Type 0 where
   -- no frame raises a speed: only a tick does, and the setpoint moves by that speed, in either mode
   pub noFrameRaises : NoFrameRaises
   pub goesOn : GoesOn
-  pub speeds : (m : Servo) → Fits m → Speeds m (m .run .profile) (ticked m .run .profile)
+  pub speeds : (x : Sample) (m : Servo) → Fits m → Speeds x m (m .run .profile) (ticked x m .run .profile)
   -- the motor's output is within OL; on the same memory it is what document 01 puts out, cut or not; u is within 2,684,141,572, which it reaches
-  pub output : (m : Servo) → Fits m → natAbs (ticked m .run .drive .output) ≤ m .settings .tuning .gains .ol
+  pub output : (x : Sample) (m : Servo) → Fits m → natAbs (ticked x m .run .drive .output) ≤ m .settings .tuning .gains .ol
   pub asTheBase : Filter.OnlyTheIntegral
   pub largest : Filter.Largest
   pub reached : Filter.Reached

@@ -8,6 +8,7 @@ use mathlib.Core.Option.{some}
 use lib.IntN.{pos}
 use lib.ListN.{length, getD, getElem?}
 use lib.Dec.{eqb}
+use Rattle.base_layout.specs.Bytes.{Bytes}
 use Rattle.line_receiver.specs.declared.Answer.the-variants.{Ended}
 use Rattle.line_receiver.specs.Receive.{taken}
 use Rattle.line_receiver.specs.Frames.{Byte, Frame, frameIn}
@@ -36,7 +37,7 @@ use Rattle.api_rules.specs.Table.{setupTable, byteTable}
 use Rattle.api_rules.specs.Calls.{setupRecord}
 use Rattle.api_rules.specs.Promises.{Passes, Refuses, ValidRecord}
 use Rattle.demands_history_rules.specs.Events.{run}
-use Rattle.demands_history_rules.specs.Calls.{Call, byte, servoSample, ioSample, tick, Handed, AllHanded, refusals, leaves, leftBy, writtenBy, doneBy}
+use Rattle.demands_history_rules.specs.Calls.{Call, byte, tick, Handed, AllHanded, refusals, leaves, leftBy, writtenBy, doneBy}
 
 -- Setup, unless it is refused, leaves a valid record of the modules at power-up, whatever was lent.
 abbrev pub FromSetup : Type 0
@@ -52,7 +53,7 @@ pub record Through (net : List ℕ) (cs : List Call) : Type 0 where
   pub bytes : leftBy cs net ≡ stored slots (run kind (doneBy cs net) (netIn slots net) .net) net
   pub replies : writtenBy cs net ≡ flat (run kind (doneBy cs net) (netIn slots net) .replies)
 
--- So it is after any bytes, samples and ticks, in any order, from any valid record.
+-- So it is after any bytes and any ticks with any lists of samples, in any order, from any valid record.
 abbrev pub AnyCalls : Type 0
 AnyCalls = (net : List ℕ) (cs : List Call) → ValidRecord net → AllHanded cs → Through net cs
 
@@ -127,17 +128,15 @@ pub record LineStarts (Such : Frame → Bool → Servo → Type 0) (n : Net Modu
 -- a call that is not refused hands over such a byte: no other call starts anything
 abbrev pub CallStarts : (Frame → Bool → Servo → Type 0) → List ℕ → ℕ → Servo → Call → Type 0
 CallStarts Such net i m (byte mark x room) = Passes (byteTable net mark room) × LineStarts Such (netIn slots net) (byteOf x (eqb mark 1)) i m
-CallStarts Such net i m (servoSample place raw power ad) = ⊥
-CallStarts Such net i m (ioSample place inputs ad1 ad2 ad3 counter) = ⊥
-CallStarts Such net i m tick = ⊥
+CallStarts Such net i m (tick samples) = ⊥
 
 -- Every call, with the servo m at place i before it and k after it. What begins motion is the last byte of one of the three, and what sets a
--- servo out is that of a load's start; a tick, which is no command, only goes on toward a goal that m had, and gives none; after setup every
--- servo is at rest.
+-- servo out is that of a load's start; a tick, which is no command, only goes on toward a goal that m had, and gives none, whatever list it
+-- takes; after setup every servo is at rest.
 pub record EveryCall : Type 0 where
   pub command : (net : List ℕ) (c : Call) (i : ℕ) (m k : Servo) → Handed c → ValidRecord net → At net i m → At (leaves net c) i k
-      → (c ≡ tick → ⊥) → (Begins m k → CallStarts Starts net i m c) × (SetsOut m k → CallStarts LoadStarts net i m c)
-  pub tick : (net : List ℕ) (i : ℕ) (m k : Servo) → ValidRecord net → At net i m → At (leaves net tick) i k
+      → ((samples : List ℕ) → c ≡ tick samples → ⊥) → (Begins m k → CallStarts Starts net i m c) × (SetsOut m k → CallStarts LoadStarts net i m c)
+  pub tick : (net samples : List ℕ) (i : ℕ) (m k : Servo) → Bytes samples → ValidRecord net → At net i m → At (leaves net (tick samples)) i k
       → ((Moves m → ⊥) → Moves k → Bound m) × (Bound k → Bound m)
   pub setup : (net types : List ℕ) (i : ℕ) (k : Servo) → Passes (setupTable net types) → At (setupRecord net types) i k → AtRest k
 

@@ -1,8 +1,9 @@
--- One place of a record through any calls: the servo that stands there after the first n of them, and the frames that it executed.
+-- One place of a record through any calls: the servo that stands there after the first n of them, the frames that it executed and the samples that
+-- ticks handed it.
 use mathlib.Core.Path.{_≡_}
 use Prim.Native.Nat.{ℕ, suc, _<_, _≤_}
 use mathlib.Core.List.{List, [], _∷_}
-use mathlib.Core.Bool.{true, false, cond}
+use mathlib.Core.Bool.{true, false}
 use mathlib.Core.Option.{some}
 use lib.ListN.{getElem?, take}
 use lib.Dec.{eqb}
@@ -10,16 +11,22 @@ use Rattle.line_receiver.specs.declared.Answer.the-variants.{Ended}
 use Rattle.line_receiver.specs.Receive.{taken}
 use Rattle.line_receiver.specs.Frames.{Frame, frameIn}
 use Rattle.chain_rules.specs.Chain.{addresses, touched}
+use Rattle.servo_rules.specs.declared.Sample.{Sample}
 use Rattle.servo_rules.specs.declared.Servo.{Servo}
-use Rattle.servo_rules.specs.State.{sampled}
 use Rattle.servo_rules.specs.Tick.{ticked}
-use Rattle.types_rules.specs.Types.{kind, slots}
+use Rattle.types_rules.specs.Table.{servo}
+use Rattle.types_rules.specs.Types.{kind, slots, sampleFor}
 use Rattle.net_rules.specs.Record.{netIn}
-use Rattle.api_rules.specs.Table.{byteTable, servoSampleTable, tickTable}
+use Rattle.net_rules.specs.Calls.{tenAt}
+use Rattle.api_rules.specs.Table.{byteTable, tickTable}
 use Rattle.api_rules.specs.Calls.{unless}
 use Rattle.api_rules.specs.Promises.{Passes}
-use Rattle.demands_history_rules.specs.Calls.{Call, byte, servoSample, ioSample, tick, leaves, leftBy}
+use Rattle.demands_history_rules.specs.Calls.{Call, byte, tick, leaves, leftBy}
 use Rattle.demands_rules.specs.Motion.{At}
+
+-- the sample that a tick's list has for a servo at place i
+abbrev pub servoSampleAt : List ℕ → ℕ → Sample
+servoSampleAt samples i = sampleFor servo (tenAt samples i)
 
 module _ (net : List ℕ) (cs : List Call) (i : ℕ) where
   -- the record after the first n calls, and the servo at place i of it
@@ -46,6 +53,13 @@ module _ (net : List ℕ) (cs : List Call) (i : ℕ) where
     pub undamaged : f .damaged ≡ false
     pub cause : (m : Servo) → Stands (suc n) m → m .station .cause ≡ 0
 
+  -- call n was a tick that was done, and handed the servo at place i the sample x
+  pub record Ticked (n : ℕ) (x : Sample) : Type 0 where
+    pub samples : List ℕ
+    pub call : getElem? cs n ≡ some (tick samples)
+    pub done : Passes (tickTable (after n) samples)
+    pub own : x ≡ servoSampleAt samples i
+
   -- no frame such as P was executed here by a call after call a and before call b
   abbrev pub None : (Frame → Type 0) → ℕ → ℕ → Type 0
   None P a b = (j : ℕ) (f : Frame) → a < j → j < b → Executed j f → P f → ⊥
@@ -54,13 +68,10 @@ module _ (net : List ℕ) (cs : List Call) (i : ℕ) where
   abbrev pub Since : ℕ → ℕ → (Servo → Type 0) → Type 0
   Since a n P = (j : ℕ) (m : Servo) → a < j → j ≤ n → Stands j m → P m
 
--- what the samples and ticks among calls make of the servo m at place i; a refused one makes nothing
+-- what the ticks among calls make of the servo m at place i, each with its own sample; a refused one makes nothing
 abbrev pub inTime : List ℕ → ℕ → Call → Servo → Servo
 inTime net i (byte mark x room) m = m
-inTime net i (servoSample place raw power ad) m =
-    unless (servoSampleTable net place power) m (cond (eqb i place) (sampled (record { raw = raw; power = power; ad = ad }) m) m)
-inTime net i (ioSample place inputs ad1 ad2 ad3 counter) m = m
-inTime net i tick m = unless (tickTable net) m (ticked m)
+inTime net i (tick samples) m = unless (tickTable net samples) m (ticked (servoSampleAt samples i) m)
 
 abbrev pub throughTime : List ℕ → ℕ → List Call → Servo → Servo
 throughTime net i [] m = m

@@ -74,9 +74,9 @@ QuestionOnTheLine =
     → touched true (start .address) (addresses kind (netIn slots net .modules)) i ≡ true
     → At (leftBy (fed room (loadBytes ++ startBytes)) net) i (withCause 3 m)
 
--- The same in any time: through any calls in which each frame that touches the servo before the Start is such a missed load, whatever ticks, samples
--- and frames for others come in between, and between the bytes of each. With no load waiting before, the Start is 3, and the servo is but for
--- that what its samples and the ticks alone make of it.
+-- The same in any time: through any calls in which each frame that touches the servo before the Start is such a missed load, whatever ticks and
+-- frames for others come in between, and between the bytes of each. With no load waiting before, the Start is 3, and the servo is but for
+-- that what the ticks alone, with their samples, make of it.
 abbrev pub QuestionInTime : Type 0
 QuestionInTime =
     (net : List ℕ) (cs : List Call) (i n : ℕ) (m : Servo) (start : Frame)

@@ -5,10 +5,9 @@ use mathlib.Core.Path.{_≡_}
 use mathlib.Core.Logic.{_⊎_, _↔_}
 use Prim.Native.Nat.{ℕ, zero, suc, _+_, _-_, _*_, _/_, _^_, _<_, _≤_, min}
 use mathlib.Core.List.{List, [], _∷_, _++_, map}
-use mathlib.Core.Option.{some}
 use lib.IntN.{ℤ, pos, natAbs}
 use lib.Signed.{ltZ}
-use lib.ListN.{length, getElem?, take}
+use lib.ListN.{length, take}
 use Rattle.base_integers.specs.Bits.{bit}
 use Rattle.line_receiver.specs.Frames.{Frame}
 use Rattle.servo_motion.specs.declared.Profile.{Profile}
@@ -17,15 +16,18 @@ use Rattle.servo_motion.specs.Setpoint.{moved}
 use Rattle.servo_motion.specs.Profile.{Ranged, left, byTrapezoid, speeds}
 use Rattle.servo_motion.specs.Promises.{Running}
 use Rattle.servo_rules.specs.declared.Mode.the-variants.{Trapezoid}
+use Rattle.servo_rules.specs.declared.Sample.{Sample}
 use Rattle.servo_rules.specs.declared.Servo.{Servo}
 use Rattle.servo_rules.specs.State.{setpointAt}
 use Rattle.servo_rules.specs.Loads.{signedBy}
 use Rattle.servo_rules.specs.Answers.{status}
 use Rattle.servo_rules.specs.TickPromises.{followed}
+use Rattle.api_rules.specs.Table.{tickTable}
+use Rattle.api_rules.specs.Calls.{unless}
 use Rattle.api_rules.specs.Promises.{ValidRecord}
-use Rattle.demands_history_rules.specs.Calls.{Call, byte, servoSample, ioSample, tick, Handed, AllHanded, leaves, leftBy}
+use Rattle.demands_history_rules.specs.Calls.{Call, byte, tick, Handed, AllHanded, leaves, leftBy}
 use Rattle.demands_rules.specs.Motion.{LoadStarts, At, CallStarts}
-use Rattle.demands_rules.specs.Place.{Stands, Executed}
+use Rattle.demands_rules.specs.Place.{Stands, Executed, Ticked}
 use Rattle.demands_rules.specs.Sent.{Has, Halts}
 
 -- what speeds cover together, and the last of them, or v if there is none
@@ -120,27 +122,25 @@ Mirrored =
 
 -- ---- a servo on the line
 
--- how many ticks a call makes, and how many a list of calls; a valid record refuses none
-abbrev pub ticksOf : Call → ℕ
-ticksOf (byte mark x room) = 0
-ticksOf (servoSample place raw power ad) = 0
-ticksOf (ioSample place inputs ad1 ad2 ad3 counter) = 0
-ticksOf tick = 1
+-- how many ticks a call makes of a record, and how many a list of calls does: a refused tick is none (02 P11)
+abbrev pub ticksOf : List ℕ → Call → ℕ
+ticksOf net (byte mark x room) = 0
+ticksOf net (tick samples) = unless (tickTable net samples) 0 1
 
-abbrev pub ticksIn : List Call → ℕ
-ticksIn [] = 0
-ticksIn (c ∷ cs) = ticksOf c + ticksIn cs
+abbrev pub ticksIn : List ℕ → List Call → ℕ
+ticksIn net [] = 0
+ticksIn net (c ∷ cs) = ticksOf net c + ticksIn (leaves net c) cs
 
 -- what disturbs a move where it is executed: Reset Position, a Load that starts now, Start, Hard Reset, a Stop with one of bits 1 to 4
 abbrev pub Disturbs : Frame → Type 0
 Disturbs f = (f .code ≡ 0) ⊎ (((f .code ≡ 4) × Has 7 f) ⊎ ((f .code ≡ 5) ⊎ ((f .code ≡ 15) ⊎ Halts f)))
 
--- Undisturbed: through these calls no such frame is executed at place i, and each tick has power 1 or 2 and a following error within EL. Polls,
--- loads that wait, frames that are refused or for others, samples and everything else may come.
+-- Undisturbed: through these calls no such frame is executed at place i, and each tick hands it power 1 or 2 and finds a following error within EL.
+-- Polls, loads that wait, frames that are refused or for others, ticks that are refused and everything else may come.
 pub record Undisturbed (net : List ℕ) (cs : List Call) (i : ℕ) : Type 0 where
   pub frames : (j : ℕ) (f : Frame) → Executed net cs i j f → Disturbs f → ⊥
-  pub ticks : (j : ℕ) (m : Servo) → getElem? cs j ≡ some tick → Stands net cs i j m
-      → (m .samples .waiting .power ≡ 0 → ⊥) × (natAbs (followed m) ≤ m .settings .tuning .gains .el)
+  pub ticks : (j : ℕ) (x : Sample) (m : Servo) → Ticked net cs i j x → Stands net cs i j m
+      → (x .power ≡ 0 → ⊥) × (natAbs (followed x m) ≤ m .settings .tuning .gains .el)
 
 -- what a started trapezoid begins with: at rest, with some acceleration and velocity, and a goal less than half the range away
 pub record SetsOff (p : Profile) : Type 0 where
@@ -167,4 +167,4 @@ QuickestOnTheLine =
     → ValidRecord net → Handed c → AllHanded cs
     → At net i m → CallStarts LoadStarts net i m c → At (leaves net c) i s → s .run .drive .mode ≡ Trapezoid
     → Undisturbed (leaves net c) cs i → At (leftBy cs (leaves net c)) i k
-    → SetsOff (s .run .profile) × OnItsWay (s .run .profile) (ticksIn cs) k
+    → SetsOff (s .run .profile) × OnItsWay (s .run .profile) (ticksIn (leaves net c) cs) k

@@ -64,7 +64,7 @@ abbrev pub encoder : Servo → ℕ → ℕ
 encoder m x = (x + m .counts .offset) % 2 ^ 32
 
 abbrev pub HeldAt : Servo → Frame → ℕ → Type 0
-HeldAt m f x = (Has 2 f × (x ≡ m .samples .latched .raw)) ⊎ (Has 4 f × (length (f .content) ≡ 5) × (x ≡ encoder m (numberIn 0 f)))
+HeldAt m f x = (Has 2 f × (x ≡ m .latched .raw)) ⊎ (Has 4 f × (length (f .content) ≡ 5) × (x ≡ encoder m (numberIn 0 f)))
 
 module _ (net : List ℕ) (cs : List Call) (i : ℕ) where
   -- the whole Load f was executed here among the first n calls, and no frame such as P since

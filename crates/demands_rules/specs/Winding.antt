@@ -4,10 +4,9 @@ use mathlib.Core.Path.{_≡_}
 use Prim.Native.Nat.{ℕ, suc, _-_, _^_}
 use mathlib.Core.List.{List, [], _∷_, _++_}
 use mathlib.Core.Bool.{true}
-use mathlib.Core.Option.{some}
-use lib.ListN.{getElem?}
 use Rattle.line_receiver.specs.Frames.{Frame, clean, written}
 use Rattle.chain_rules.specs.Chain.{flat}
+use Rattle.servo_rules.specs.declared.Sample.{Sample}
 use Rattle.servo_rules.specs.declared.Servo.{Servo}
 use Rattle.servo_rules.specs.Answers.{typeNumber}
 use Rattle.servo_rules.specs.CutPromises.{Blanks}
@@ -15,20 +14,20 @@ use Rattle.types_rules.specs.Types.{kind}
 use Rattle.net_rules.specs.Calls.{setUp}
 use Rattle.api_rules.specs.Promises.{ValidRecord}
 use Rattle.demands_history_rules.specs.Events.{taking, run}
-use Rattle.demands_history_rules.specs.Calls.{Call, tick, AllHanded, leftBy}
+use Rattle.demands_history_rules.specs.Calls.{Call, AllHanded, leftBy}
 use Rattle.demands_rules.specs.Motion.{At}
-use Rattle.demands_rules.specs.Place.{Stands, Executed}
+use Rattle.demands_rules.specs.Place.{Stands, Executed, Ticked}
 use Rattle.demands_rules.specs.Meaning.{gives, Holds}
 use Rattle.demands_rules.specs.Dip.{History, sending, tickAtCount, tickAt, pulsing, drivenAfter}
 
--- The mill's promise, from any valid record: through any calls, however many ticks are among them, if each of those ticks leaves the cut bit at place i
--- and no frame is executed there that blanks the filter's memory, the integral after them is what it was before. Samples, polls, gains set anew, moves
--- started and frames for others may come between.
+-- The mill's promise, from any valid record: through any calls, however many ticks are among them, if each of those ticks that is done leaves the cut bit at
+-- place i and no frame is executed there that blanks the filter's memory, the integral after them is what it was before. Polls, gains set
+-- anew, moves started and frames for others may come between.
 abbrev pub WindsUpNoMore : Type 0
 WindsUpNoMore =
     (net : List ℕ) (cs : List Call) (i : ℕ) (m k : Servo)
     → ValidRecord net → AllHanded cs → At net i m → At (leftBy cs net) i k
-    → ((j : ℕ) (s : Servo) → getElem? cs j ≡ some tick → Stands net cs i (suc j) s → s .run .drive .cut ≡ true)
+    → ((j : ℕ) (x : Sample) (s : Servo) → Ticked net cs i j x → Stands net cs i (suc j) s → s .run .drive .cut ≡ true)
     → ((j : ℕ) (f : Frame) (s : Servo) → Stands net cs i j s → Executed net cs i j f → Blanks s f → ⊥)
     → k .run .memory .integral ≡ m .run .memory .integral
 

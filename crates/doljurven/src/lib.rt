@@ -5,10 +5,9 @@ ghost use Rattle.base_layout.specs.Bytes.{pasted};
 ghost use Rattle.host_rules.specs.Writing.{writtenOf, roomAfter};
 ghost use Rattle.host_rules.specs.Reading.{statusOf};
 ghost use Rattle.base_layout.specs.First.{first};
-ghost use Rattle.api_rules.specs.Table.{setupTable, servoSampleTable, ioSampleTable, tickTable, placeTable};
-ghost use Rattle.api_rules.specs.Calls.{setupRecord, byteNumber, byteRecord, byteRoom, byteWritten, servoSampleOf, ioSampleOf, sampleRecord, tickRecord, outputsBytes, causeByte, numbersBytes, readingBytes};
+ghost use Rattle.api_rules.specs.Table.{setupTable, tickTable, placeTable};
+ghost use Rattle.api_rules.specs.Calls.{setupRecord, byteNumber, byteRecord, byteRoom, byteWritten, tickRecord, outputsBytes, causeByte, numbersBytes, readingBytes};
 use host_rules::Reading;
-use types_rules::Measured;
 
 // A network of the given types at power-up: 0, or 16, 11, 12.
 #[no_mangle]
@@ -48,64 +47,17 @@ pub extern "C" fn nmc_byte(
     called.number
 }
 
-// A sample for the servo at a place, which takes effect at the next tick: 0, or 16, 13, 14.
+// A tick, with a sample for every module in chain order: 0, or 16, 20, 13, 14.
 #[no_mangle]
-pub extern "C" fn nmc_servo_sample(net: &mut [u8], place: u32, raw: u32, power: u32, ad: u8) -> u32
-    ensures { λ r. ⌜ r ≡ first (servoSampleTable (now (net .entry)) place power) ⌝ }
-    ensures { λ _. ⌜ now (net .exit) ≡ sampleRecord (servoSampleTable (now (net .entry)) place power) (now (net .entry)) place (servoSampleOf raw power ad) ⌝ }
+pub extern "C" fn nmc_tick(net: &mut [u8], samples: &[u8]) -> u32
+    ensures { λ r. ⌜ r ≡ first (tickTable (now (net .entry)) (now (samples .entry))) ⌝ }
+    ensures { λ _. ⌜ now (net .exit) ≡ tickRecord (now (net .entry)) (now (samples .entry)) ⌝ }
 {
-    let number = api_refusals::sample_refusal(net, place, servo_rules::TYPE, 2 < power);
+    let number = api_refusals::tick_refusal(net, samples);
     if number != 0 {
         return number;
     }
-    let x = servo_rules::Sample {
-        raw,
-        power: power as u8,
-        ad,
-    };
-    net_record::put_sample(net, place as usize, Measured::Servo(x));
-    0
-}
-
-// A sample for the I/O module at a place, which takes effect at the next tick: 0, or 16, 13, 14.
-#[no_mangle]
-pub extern "C" fn nmc_io_sample(
-    net: &mut [u8],
-    place: u32,
-    inputs: u32,
-    ad1: u8,
-    ad2: u8,
-    ad3: u8,
-    counter: u32,
-) -> u32
-    ensures { λ r. ⌜ r ≡ first (ioSampleTable (now (net .entry)) place inputs) ⌝ }
-    ensures { λ _. ⌜ now (net .exit) ≡ sampleRecord (ioSampleTable (now (net .entry)) place inputs) (now (net .entry)) place (ioSampleOf inputs ad1 ad2 ad3 counter) ⌝ }
-{
-    let number = api_refusals::sample_refusal(net, place, inout_rules::TYPE, 4095 < inputs);
-    if number != 0 {
-        return number;
-    }
-    let x = inout_rules::Sample {
-        inputs: inputs as u16,
-        ad1,
-        ad2,
-        ad3,
-        counter,
-    };
-    net_record::put_sample(net, place as usize, Measured::Io(x));
-    0
-}
-
-// A tick: 0, or 16.
-#[no_mangle]
-pub extern "C" fn nmc_tick(net: &mut [u8]) -> u32
-    ensures { λ r. ⌜ r ≡ first (tickTable (now (net .entry))) ⌝ }
-    ensures { λ _. ⌜ now (net .exit) ≡ tickRecord (now (net .entry)) ⌝ }
-{
-    if !net_record::is_valid(net) {
-        return 16;
-    }
-    net_traffic::tick(net);
+    net_traffic::tick(net, samples);
     0
 }
 

@@ -1,4 +1,4 @@
-// The calls on an I/O module in a slot: a frame, a tick, a sample, and what the board drives.
+// The calls on an I/O module in a slot: a frame, a tick, and what the board drives.
 ghost use mathlib.Core.Path.{_≡_};
 ghost use Prim.Native.Nat.{_+_, _≤_};
 ghost use mathlib.Core.Bool.{true};
@@ -9,7 +9,7 @@ ghost use Rattle.module_rules.specs.Kind.{executed, replied};
 ghost use Rattle.module_rules.specs.Rules.{wants, settled, kindOf};
 ghost use Rattle.module_rules.specs.Slots.{slotSize};
 ghost use Rattle.module_rules.specs.Owes.{replySize};
-ghost use Rattle.inout_rules.specs.State.{sampled, ticked};
+ghost use Rattle.inout_rules.specs.State.{ticked};
 ghost use Rattle.inout_rules.specs.Answers.{outputsOf, inout, execute};
 ghost use Rattle.inout_slot_rules.specs.Slot.{encodeOf, decodeOf, okOf};
 use inout_rules::Command;
@@ -49,8 +49,8 @@ fn settle(s: &mut [u8], f: Head, alone: bool, ds: &[u8])
             module_station::put_station(s, module_station::with_cause(x, 0));
         }
         Request::Reset => {
-            let samples = inout_slot::samples_in(s);
-            inout_slot::put(s, inout_perform::fresh(samples));
+            let latched = inout_slot::latched_in(s);
+            inout_slot::put(s, inout_perform::fresh(latched));
         }
         Request::Wants(c) => {
             perform(s, c);
@@ -79,21 +79,12 @@ pub fn touch(s: &mut [u8], f: Head, ds: &[u8], room: &mut [u8], from: usize) -> 
     0
 }
 
-// The module in a slot, after a tick: the waiting sample is latched.
-pub fn tick(s: &mut [u8])
+// The module in a slot, after a tick, which latches this sample.
+pub fn tick(s: &mut [u8], x: Sample)
     requires { ⌜ (length (now s) ≡ slotSize) × (okOf (now s) ≡ true) ⌝ }
-    ensures { λ _. ⌜ now (s .exit) ≡ pasted 0 (encodeOf (ticked (decodeOf (now (s .entry))))) (now (s .entry)) ⌝ }
+    ensures { λ _. ⌜ now (s .exit) ≡ pasted 0 (encodeOf (ticked x (decodeOf (now (s .entry))))) (now (s .entry)) ⌝ }
 {
-    let x = inout_slot::waiting_in(s);
     inout_slot::put_latched(s, x);
-}
-
-// The module in a slot, with a sample waiting.
-pub fn put_sample(s: &mut [u8], x: Sample)
-    requires { ⌜ (length (now s) ≡ slotSize) × (okOf (now s) ≡ true) ⌝ }
-    ensures { λ _. ⌜ now (s .exit) ≡ pasted 0 (encodeOf (sampled x (decodeOf (now (s .entry))))) (now (s .entry)) ⌝ }
-{
-    inout_slot::put_sample(s, x);
 }
 
 // What the board drives for the module in a slot, in eight bytes.

@@ -14,7 +14,6 @@ use inout_rules::Command;
 use inout_rules::Io;
 use inout_rules::Pins;
 use inout_rules::Sample;
-use inout_rules::Samples;
 use inout_rules::Synch;
 use module_rules::Head;
 
@@ -53,26 +52,22 @@ fn output(mut p: Pins, bits: u16) -> Pins
 pub fn power_up() -> Io
     ensures { λ r. ⌜ r ≡ started ⌝ }
 {
-    let none = Sample {
+    fresh(Sample {
         inputs: 0,
         ad1: 0,
         ad2: 0,
         ad3: 0,
         counter: 0,
-    };
-    fresh(Samples {
-        waiting: none,
-        latched: none,
     })
 }
 
-// The power-up record, which keeps the samples at Hard Reset.
-pub fn fresh(samples: Samples) -> Io
-    ensures { λ r. ⌜ r ≡ fresh samples ⌝ }
+// The power-up record, which keeps the latched sample at Hard Reset.
+pub fn fresh(latched: Sample) -> Io
+    ensures { λ r. ⌜ r ≡ fresh latched ⌝ }
 {
     Io {
         station: module_station::power_up(),
-        samples,
+        latched,
         pins: Pins {
             direction: 4095,
             register: 0,
@@ -95,7 +90,7 @@ pub fn fresh(samples: Samples) -> Io
 fn read_now(m: Io) -> u16
     ensures { λ r. ⌜ r ≡ readNow m ⌝ }
 {
-    blended(m.pins.direction, m.samples.latched.inputs, m.pins.register)
+    blended(m.pins.direction, m.latched.inputs, m.pins.register)
 }
 
 fn with_pins(mut m: Io, pins: Pins) -> Io
@@ -135,7 +130,7 @@ fn synch_input(mut m: Io) -> Io
 {
     let inputs = read_now(m);
     m.captured.inputs = inputs;
-    let counter = m.samples.latched.counter;
+    let counter = m.latched.counter;
     m.captured.counter = counter;
     m
 }
@@ -161,10 +156,10 @@ fn numbers(m: Io) -> [u32; 8]
 {
     [
         read_now(m) as u32,
-        m.samples.latched.ad1 as u32,
-        m.samples.latched.ad2 as u32,
-        m.samples.latched.ad3 as u32,
-        m.samples.latched.counter,
+        m.latched.ad1 as u32,
+        m.latched.ad2 as u32,
+        m.latched.ad3 as u32,
+        m.latched.counter,
         inout_rules::TYPE_AND_VERSION,
         m.captured.inputs as u32,
         m.captured.counter,

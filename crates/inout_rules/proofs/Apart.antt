@@ -25,8 +25,7 @@ apart = record {
   again = λ s t m. refl;
   perform = λ c m. ap (λ (n : Io). n .station) (performs-blind c (m .station) m);
   renewed = λ m. refl;
-  sample = λ x m. refl;
-  tick = λ m. refl;
+  tick = λ x m. refl;
 }
 
 pub unseen : Unseen inout
@@ -34,8 +33,7 @@ unseen = record {
   renewed = λ s m. refl;
   can = λ c s m. refl;
   perform = performs-blind;
-  sample = λ x s m. refl;
-  tick = λ s m. refl;
+  tick = λ x s m. refl;
   numbers = λ s m. refl;
   outputs = λ s m. refl;
   status = λ s m e. ap (λ (t : Bool). cond t 0 2) e;

@@ -54,4 +54,4 @@ inputs-keep m k h = (
 )
 
 pub read-value : ReadValue
-read-value m k h = picked k (m .pins .direction) (m .samples .latched .inputs) (m .pins .register) h
+read-value m k h = picked k (m .pins .direction) (m .latched .inputs) (m .pins .register) h

@@ -154,7 +154,6 @@ none = record { inputs = refl; ad1 = refl; ad2 = refl; ad3 = refl; counter = ref
 pub powers-up : PowersUp
 powers-up = record {
   station = Every.powers-up;
-  waiting = none;
   latched = none;
   inputs = λ k l. all-ones 12 k l;
   direction = refl;

@@ -9,7 +9,7 @@ use Rattle.inout_rules.specs.declared.Sample.{Sample}
 use Rattle.inout_rules.specs.declared.Io.{Io}
 use Rattle.inout_rules.specs.declared.Command.{Command}
 use Rattle.inout_rules.specs.Asks.{own}
-use Rattle.inout_rules.specs.State.{withStation, fresh, started, readNow, sampled, ticked}
+use Rattle.inout_rules.specs.State.{withStation, fresh, started, readNow, ticked}
 use Rattle.inout_rules.specs.Perform.{can, perform}
 
 -- its type's number, and the version above it
@@ -27,10 +27,10 @@ status m = causeBit (m .station .cause)
 abbrev pub numbers : Io → List ℕ
 numbers m =
     readNow m
-    ∷ m .samples .latched .ad1
-    ∷ m .samples .latched .ad2
-    ∷ m .samples .latched .ad3
-    ∷ m .samples .latched .counter
+    ∷ m .latched .ad1
+    ∷ m .latched .ad2
+    ∷ m .latched .ad3
+    ∷ m .latched .counter
     ∷ typeAndVersion
     ∷ m .captured .inputs
     ∷ m .captured .counter
@@ -59,11 +59,10 @@ inout = record {
   station = λ m. m .station;
   withStation = withStation;
   started = started;
-  renewed = λ m. fresh (m .samples);
+  renewed = λ m. fresh (m .latched);
   own = own;
   can = can;
   perform = perform;
-  sample = sampled;
   tick = ticked;
   status = status;
   sizes = sizes;

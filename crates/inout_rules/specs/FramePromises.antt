@@ -116,7 +116,7 @@ pub record Does (to : ℕ) (alone : Bool) (m : Io) : Type 0 where
   pub timer : (t : ℕ) → execute (undamaged to 8 (t ∷ [])) alone m ≡ withCause 0 (withTimer t m)
   -- 12 Synch Input
   pub synchInput : execute (undamaged to 12 []) alone m
-      ≡ withCause 0 (withCapture (record { inputs = readNow m; counter = m .samples .latched .counter }) m)
+      ≡ withCause 0 (withCapture (record { inputs = readNow m; counter = m .latched .counter }) m)
 
 abbrev pub Obeys : Type 0
 Obeys = (to : ℕ) (alone : Bool) (m : Io) → Does to alone m
@@ -124,10 +124,10 @@ Obeys = (to : ℕ) (alone : Bool) (m : Io) → Does to alone m
 -- 01 I/O module: the items by their numbers, and how many bytes each has; item 5 is type 2, then version 1.
 pub record Item (m : Io) : Type 0 where
   pub inputs : getD (numbers m) 0 0 ≡ readNow m
-  pub ad1 : getD (numbers m) 1 0 ≡ m .samples .latched .ad1
-  pub ad2 : getD (numbers m) 2 0 ≡ m .samples .latched .ad2
-  pub ad3 : getD (numbers m) 3 0 ≡ m .samples .latched .ad3
-  pub counter : getD (numbers m) 4 0 ≡ m .samples .latched .counter
+  pub ad1 : getD (numbers m) 1 0 ≡ m .latched .ad1
+  pub ad2 : getD (numbers m) 2 0 ≡ m .latched .ad2
+  pub ad3 : getD (numbers m) 3 0 ≡ m .latched .ad3
+  pub counter : getD (numbers m) 4 0 ≡ m .latched .counter
   pub typeAndVersion : le 2 (getD (numbers m) 5 0) ≡ 2 ∷ 1 ∷ []
   pub capturedInputs : getD (numbers m) 6 0 ≡ m .captured .inputs
   pub capturedCounter : getD (numbers m) 7 0 ≡ m .captured .counter
@@ -147,8 +147,7 @@ pub record Zero (x : Sample) : Type 0 where
 -- 01 I/O module: power-up, field by field: all twelve pins are inputs, the rest is 0.
 pub record AtStart (m : Io) : Type 0 where
   pub station : AtPowerUp (m .station)
-  pub waiting : Zero (m .samples .waiting)
-  pub latched : Zero (m .samples .latched)
+  pub latched : Zero (m .latched)
   pub inputs : (k : ℕ) → k < 12 → bit k (m .pins .direction) ≡ 1
   pub direction : m .pins .direction ≡ 4095
   pub register : m .pins .register ≡ 0

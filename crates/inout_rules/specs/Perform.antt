@@ -29,4 +29,4 @@ perform SynchOutput m = withPins (pulsed (m .synch .pwm1) (m .synch .pwm2) (outp
 perform (Output bits) m = withPins (output bits (m .pins)) m
 perform (SynchStore bits a b) m = withSynch (record { bits = bits; pwm1 = a; pwm2 = b }) m
 perform (Timer t) m = withTimer t m
-perform SynchInput m = withCapture (record { inputs = readNow m; counter = m .samples .latched .counter }) m
+perform SynchInput m = withCapture (record { inputs = readNow m; counter = m .latched .counter }) m

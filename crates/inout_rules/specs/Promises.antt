@@ -18,7 +18,7 @@ use Rattle.inout_rules.specs.declared.Pins.{Pins}
 use Rattle.inout_rules.specs.declared.Io.{Io}
 use Rattle.inout_rules.specs.declared.Command.the-variants.{Direction, Pwm, SynchOutput, Output, SynchStore, Timer, SynchInput}
 use Rattle.inout_rules.specs.Pins.{bitsOf, blend}
-use Rattle.inout_rules.specs.State.{fresh, readNow, sampled, ticked}
+use Rattle.inout_rules.specs.State.{fresh, readNow, ticked}
 use Rattle.inout_rules.specs.Perform.{pulsed, output, perform}
 use Rattle.inout_rules.specs.Answers.{numbers, outputsOf, inout, withCause, execute, reply}
 
@@ -75,7 +75,7 @@ abbrev pub ReadValue : Type 0
 ReadValue =
     (m : Io) (k : ℕ)
     → k < 12
-    → (bit k (m .pins .direction) ≡ 1 → bit k (readNow m) ≡ bit k (m .samples .latched .inputs))
+    → (bit k (m .pins .direction) ≡ 1 → bit k (readNow m) ≡ bit k (m .latched .inputs))
     × (bit k (m .pins .direction) ≡ 0 → bit k (readNow m) ≡ bit k (m .pins .register))
 
 -- What a command stores is what the module holds, drives or uses from then on.
@@ -83,7 +83,7 @@ pub record Stores (m : Io) : Type 0 where
   -- Set Direction: the pins' direction, by which the twelve bits are read; the register is as it was
   pub direction : (d : ℕ) → perform (Direction d) m .pins .direction ≡ d
   pub register : (d : ℕ) → perform (Direction d) m .pins .register ≡ m .pins .register
-  pub readBy : (d : ℕ) → readNow (perform (Direction d) m) ≡ blend 12 d (m .samples .latched .inputs) (m .pins .register)
+  pub readBy : (d : ℕ) → readNow (perform (Direction d) m) ≡ blend 12 d (m .latched .inputs) (m .pins .register)
   -- Set PWM: what is driven; the stored PWMs are as they were
   pub pwm : (a b : ℕ) → (perform (Pwm a b) m .pins .pwm1 ≡ a) × (perform (Pwm a b) m .pins .pwm2 ≡ b)
   pub apart : (a b : ℕ) → perform (Pwm a b) m .synch ≡ m .synch
@@ -104,39 +104,38 @@ pub record Stores (m : Io) : Type 0 where
 abbrev pub Driven : Type 0
 Driven = (m : Io) → outputsOf m ≡ le 2 (m .pins .direction) ++ le 2 (m .pins .register) ++ (m .pins .pwm1 ∷ m .pins .pwm2 ∷ le 2 0)
 
--- A sample is unseen until the next tick; then items 0 to 4 are its own, and a tick with no newer one shows it again.
+-- A tick latches the sample that it is handed, whatever was latched before: items 0 to 4 are then its own, and what is driven is as it was. Until the
+-- next tick no frame changes it (02 P11).
 pub record Sampling (x : Sample) (m : Io) : Type 0 where
-  pub unseen : numbers (sampled x m) ≡ numbers m
-  pub undriven : outputsOf (sampled x m) ≡ outputsOf m
-  pub latched : ticked (sampled x m) .samples .latched ≡ x
-  pub waited : ticked m .samples .latched ≡ m .samples .waiting
-  pub shown : numbers (ticked m)
-      ≡ blend 12 (m .pins .direction) (m .samples .waiting .inputs) (m .pins .register)
-      ∷ m .samples .waiting .ad1
-      ∷ m .samples .waiting .ad2
-      ∷ m .samples .waiting .ad3
-      ∷ m .samples .waiting .counter
+  pub latched : ticked x m .latched ≡ x
+  pub kept : (f : Frame) (alone : Bool) → execute f alone m .latched ≡ m .latched
+  pub undriven : outputsOf (ticked x m) ≡ outputsOf m
+  pub shown : numbers (ticked x m)
+      ≡ blend 12 (m .pins .direction) (x .inputs) (m .pins .register)
+      ∷ x .ad1
+      ∷ x .ad2
+      ∷ x .ad3
+      ∷ x .counter
       ∷ 258
       ∷ m .captured .inputs
       ∷ m .captured .counter
       ∷ []
-  pub again : ticked (ticked m) ≡ ticked m
 
--- After Synch Input items 6 and 7 are the read value and the counter of that time; a later sample and tick leave them.
+-- After Synch Input items 6 and 7 are the read value and the counter of that time; a later tick leaves them.
 pub record Captures (x : Sample) (m : Io) : Type 0 where
   pub inputs : getD (numbers (perform SynchInput m)) 6 0 ≡ readNow m
-  pub counter : getD (numbers (perform SynchInput m)) 7 0 ≡ m .samples .latched .counter
-  pub inputsStay : getD (numbers (ticked (sampled x (perform SynchInput m)))) 6 0 ≡ readNow m
-  pub counterStays : getD (numbers (ticked (sampled x (perform SynchInput m)))) 7 0 ≡ m .samples .latched .counter
+  pub counter : getD (numbers (perform SynchInput m)) 7 0 ≡ m .latched .counter
+  pub inputsStay : getD (numbers (ticked x (perform SynchInput m))) 6 0 ≡ readNow m
+  pub counterStays : getD (numbers (ticked x (perform SynchInput m))) 7 0 ≡ m .latched .counter
 
 -- Stored things are shown.
 abbrev pub Shown : Type 0
 Shown = (x : Sample) (m : Io) → Stores m × (Sampling x m × Captures x m)
 
--- Hard Reset, which has no data: the power-up record with both samples kept, and no reply.
+-- Hard Reset, which has no data: the power-up record with the latched sample kept, and no reply.
 pub record AfterReset (f : Frame) (alone : Bool) (m : Io) : Type 0 where
-  pub whole : execute f alone m ≡ fresh (m .samples)
-  pub samples : execute f alone m .samples ≡ m .samples
+  pub whole : execute f alone m ≡ fresh (m .latched)
+  pub latched : execute f alone m .latched ≡ m .latched
   pub silent : reply f (execute f alone m) ≡ []
 
 abbrev pub Resets : Type 0

@@ -1,20 +1,19 @@
--- What an I/O module is (document 01, "I/O module"): its power-up, its samples, and a module with a part of it replaced.
+-- What an I/O module is (document 01, "I/O module"): its power-up, its tick, and a module with a part of it replaced.
 use Prim.Native.Nat.{ℕ}
 use Rattle.module_rules.specs.declared.Station.{Station}
 use Rattle.module_rules.specs.Touch.{powerUp}
 use Rattle.inout_rules.specs.declared.Sample.{Sample}
-use Rattle.inout_rules.specs.declared.Samples.{Samples}
 use Rattle.inout_rules.specs.declared.Pins.{Pins}
 use Rattle.inout_rules.specs.declared.Synch.{Synch}
 use Rattle.inout_rules.specs.declared.Capture.{Capture}
 use Rattle.inout_rules.specs.declared.Io.{Io}
 use Rattle.inout_rules.specs.Pins.{blend}
 
--- power-up: all twelve bits inputs, the rest 0; its samples are given, since Hard Reset keeps them
-abbrev pub fresh : Samples → Io
+-- power-up: all twelve bits inputs, the rest 0; its latched sample is given, since Hard Reset keeps it (02 P11)
+abbrev pub fresh : Sample → Io
 fresh x = record {
   station = powerUp;
-  samples = x;
+  latched = x;
   pins = record { direction = 4095; register = 0; pwm1 = 0; pwm2 = 0 };
   synch = record { bits = 0; pwm1 = 0; pwm2 = 0 };
   timer = 0;
@@ -25,34 +24,31 @@ abbrev pub noSample : Sample
 noSample = record { inputs = 0; ad1 = 0; ad2 = 0; ad3 = 0; counter = 0 }
 
 abbrev pub started : Io
-started = fresh (record { waiting = noSample; latched = noSample })
+started = fresh noSample
 
 -- a module with one of its parts replaced
 abbrev pub withStation : Station → Io → Io
-withStation x m = record { station = x; samples = m .samples; pins = m .pins; synch = m .synch; timer = m .timer; captured = m .captured }
+withStation x m = record { station = x; latched = m .latched; pins = m .pins; synch = m .synch; timer = m .timer; captured = m .captured }
 
-abbrev pub withSamples : Samples → Io → Io
-withSamples x m = record { station = m .station; samples = x; pins = m .pins; synch = m .synch; timer = m .timer; captured = m .captured }
+abbrev pub withLatched : Sample → Io → Io
+withLatched x m = record { station = m .station; latched = x; pins = m .pins; synch = m .synch; timer = m .timer; captured = m .captured }
 
 abbrev pub withPins : Pins → Io → Io
-withPins p m = record { station = m .station; samples = m .samples; pins = p; synch = m .synch; timer = m .timer; captured = m .captured }
+withPins p m = record { station = m .station; latched = m .latched; pins = p; synch = m .synch; timer = m .timer; captured = m .captured }
 
 abbrev pub withSynch : Synch → Io → Io
-withSynch y m = record { station = m .station; samples = m .samples; pins = m .pins; synch = y; timer = m .timer; captured = m .captured }
+withSynch y m = record { station = m .station; latched = m .latched; pins = m .pins; synch = y; timer = m .timer; captured = m .captured }
 
 abbrev pub withTimer : ℕ → Io → Io
-withTimer t m = record { station = m .station; samples = m .samples; pins = m .pins; synch = m .synch; timer = t; captured = m .captured }
+withTimer t m = record { station = m .station; latched = m .latched; pins = m .pins; synch = m .synch; timer = t; captured = m .captured }
 
 abbrev pub withCapture : Capture → Io → Io
-withCapture k m = record { station = m .station; samples = m .samples; pins = m .pins; synch = m .synch; timer = m .timer; captured = k }
+withCapture k m = record { station = m .station; latched = m .latched; pins = m .pins; synch = m .synch; timer = m .timer; captured = k }
 
 -- the twelve bits as read now: the sample for inputs, the register for outputs
 abbrev pub readNow : Io → ℕ
-readNow m = blend 12 (m .pins .direction) (m .samples .latched .inputs) (m .pins .register)
+readNow m = blend 12 (m .pins .direction) (m .latched .inputs) (m .pins .register)
 
--- a sample waits, and takes effect at the next tick
-abbrev pub sampled : Sample → Io → Io
-sampled x m = withSamples (record { waiting = x; latched = m .samples .latched }) m
-
-abbrev pub ticked : Io → Io
-ticked m = withSamples (record { waiting = m .samples .waiting; latched = m .samples .waiting }) m
+-- 01 I/O module, 02 P11: a tick latches the sample that it is handed
+abbrev pub ticked : Sample → Io → Io
+ticked x m = withLatched x m

@@ -20,12 +20,6 @@ pub struct Sample {
     pub counter: u32,
 }
 
-// The sample that waits for the next tick, and the one that the last tick latched.
-pub struct Samples {
-    pub waiting: Sample,
-    pub latched: Sample,
-}
-
 // A direction bit of 1 is an input.
 pub struct Pins {
     pub direction: u16,
@@ -46,9 +40,10 @@ pub struct Capture {
     pub counter: u32,
 }
 
+// The latched sample is the one that the last tick was handed.
 pub struct Io {
     pub station: Station,
-    pub samples: Samples,
+    pub latched: Sample,
     pub pins: Pins,
     pub synch: Synch,
     pub timer: u8,

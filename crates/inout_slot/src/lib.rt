@@ -4,15 +4,17 @@ ghost use Prim.Native.Nat.{_+_, _≤_};
 ghost use mathlib.Core.List.{_∷_, _++_};
 ghost use lib.ListN.{length};
 ghost use Rattle.base_layout.specs.Bytes.{pasted};
-ghost use Rattle.inout_slot_rules.specs.Slot.{sample, pins, synch, capture, waitingAt, latchedAt, pinsAt, synchAt, timerAt, capturedAt, ioSize, encodeOf, decodeOf, okOf};
+ghost use Rattle.base_layout.specs.Every.{every};
+ghost use Rattle.module_rules.specs.Slots.{sampleSize, measuredAt};
+ghost use Rattle.inout_slot_rules.specs.Slot.{sample, pins, synch, capture, latchedAt, pinsAt, synchAt, timerAt, capturedAt, ioSize, encodeOf, decodeOf, okOf};
 use inout_rules::Capture;
 use inout_rules::Io;
 use inout_rules::Pins;
 use inout_rules::Sample;
-use inout_rules::Samples;
 use inout_rules::Synch;
 
-fn sample_in(s: &[u8], at: usize) -> Sample
+// The sample that stands from a place on, in a slot or in a tick's list.
+pub fn sample_in(s: &[u8], at: usize) -> Sample
     requires { ⌜ at + sample .codec .size ≤ length (now s) ⌝ }
     ensures { λ r. ⌜ r ≡ sample .codec .dec at (now (s .entry)) ⌝ }
 {
@@ -28,21 +30,12 @@ fn sample_in(s: &[u8], at: usize) -> Sample
     }
 }
 
-pub fn waiting_in(s: &[u8]) -> Sample
-    requires { ⌜ latchedAt ≤ length (now s) ⌝ }
-    ensures { λ r. ⌜ r ≡ decodeOf (now (s .entry)) .samples .waiting ⌝ }
-{
-    sample_in(s, inout_slot_rules::WAITING_AT)
-}
-
-pub fn samples_in(s: &[u8]) -> Samples
+// The sample that the last tick latched.
+pub fn latched_in(s: &[u8]) -> Sample
     requires { ⌜ pinsAt ≤ length (now s) ⌝ }
-    ensures { λ r. ⌜ r ≡ decodeOf (now (s .entry)) .samples ⌝ }
+    ensures { λ r. ⌜ r ≡ decodeOf (now (s .entry)) .latched ⌝ }
 {
-    Samples {
-        waiting: waiting_in(s),
-        latched: sample_in(s, inout_slot_rules::LATCHED_AT),
-    }
+    sample_in(s, inout_slot_rules::LATCHED_AT)
 }
 
 fn pins_in(s: &[u8]) -> Pins
@@ -85,7 +78,7 @@ pub fn decode(s: &[u8]) -> Io
 {
     Io {
         station: module_station::station_in(s),
-        samples: samples_in(s),
+        latched: latched_in(s),
         pins: pins_in(s),
         synch: synch_in(s),
         timer: s[inout_slot_rules::TIMER_AT],
@@ -140,15 +133,6 @@ fn tail_bytes(timer: u8, k: Capture) -> [u8; inout_slot_rules::TAIL_LEN]
     ]
 }
 
-// Puts the waiting sample alone.
-pub fn put_sample(s: &mut [u8], x: Sample)
-    requires { ⌜ ioSize ≤ length (now s) ⌝ }
-    ensures { λ _. ⌜ now (s .exit) ≡ pasted waitingAt (sample .codec .enc x) (now (s .entry)) ⌝ }
-{
-    let bytes = sample_bytes(x);
-    base_layout::put_all(s, inout_slot_rules::WAITING_AT, &bytes);
-}
-
 // Puts the latched sample alone.
 pub fn put_latched(s: &mut [u8], x: Sample)
     requires { ⌜ ioSize ≤ length (now s) ⌝ }
@@ -167,8 +151,7 @@ pub fn put(s: &mut [u8], m: Io)
     let outputs = outputs_bytes(m.pins, m.synch);
     let tail = tail_bytes(m.timer, m.captured);
     base_layout::put_all(s, 0, &head);
-    put_sample(s, m.samples.waiting);
-    put_latched(s, m.samples.latched);
+    put_latched(s, m.latched);
     base_layout::put_all(s, inout_slot_rules::PINS_AT, &outputs);
     base_layout::put_all(s, inout_slot_rules::TIMER_AT, &tail);
 }
@@ -182,10 +165,17 @@ pub fn is_ok(s: &[u8]) -> bool
         & (s[module_rules::LEADER_AT] <= 1)
         & (s[module_rules::LOW_AT] <= 1)
         & (s[module_rules::CAUSE_AT] <= module_rules::CAUSE_MOST)
-        & (s[inout_slot_rules::WAITING_AT + 1] <= 15)
         & (s[inout_slot_rules::LATCHED_AT + 1] <= 15)
         & (s[inout_slot_rules::DIRECTION_AT + 1] <= 15)
         & (s[inout_slot_rules::REGISTER_AT + 1] <= 15)
         & (s[inout_slot_rules::BITS_AT + 1] <= 15)
         & (s[inout_slot_rules::INPUTS_AT + 1] <= 15)
+}
+
+// Whether the sample in ten bytes of a tick's list has all its fields in range: twelve input bits.
+pub fn is_sample_ok(s: &[u8]) -> bool
+    requires { ⌜ length (now s) ≡ sampleSize ⌝ }
+    ensures { λ r. ⌜ r ≡ every (sample .codec .tests measuredAt (now (s .entry))) ⌝ }
+{
+    s[module_rules::MEASURED_AT + 1] <= 15
 }

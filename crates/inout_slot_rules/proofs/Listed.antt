@@ -22,8 +22,7 @@ there s b v =
       leader = leb-true _ _ (h .1 .0);
       low = leb-true _ _ (h .1 .1 .0);
       cause = leb-true _ _ (h .1 .1 .1 .0);
-      waitingInputs = t .0 .0 .0 .1;
-      latchedInputs = t .0 .1 .0 .1;
+      latchedInputs = t .0 .0 .1;
       direction = t .1 .0 .0 .1;
       register = t .1 .0 .1 .0 .1;
       synchBits = t .1 .1 .0 .0 .1;
@@ -45,10 +44,7 @@ back s l =
           le-leb _ _ (l .low),
           (
             le-leb _ _ (l .cause),
-            (
-              top _ _ (l .waitingInputs),
-              (top _ _ (l .latchedInputs), (top _ _ (l .direction), (top _ _ (l .register), (top _ _ (l .synchBits), (top _ _ (l .capturedInputs), tt))))),
-            ),
+            (top _ _ (l .latchedInputs), (top _ _ (l .direction), (top _ _ (l .register), (top _ _ (l .synchBits), (top _ _ (l .capturedInputs), tt))))),
           ),
         ),
       ),

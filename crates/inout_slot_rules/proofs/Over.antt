@@ -11,8 +11,8 @@ use Rattle.module_rules.specs.Slots.{stationAt}
 use Rattle.module_rules.proofs.Slotting as Slotting
 use Rattle.inout_rules.specs.declared.Sample.{Sample}
 use Rattle.inout_rules.specs.declared.Io.{Io}
-use Rattle.inout_rules.specs.State.{withStation, sampled, ticked}
-use Rattle.inout_slot_rules.specs.Slot.{sample, slot, waitingAt, latchedAt, ioSize, encodeOf, decodeOf, okOf}
+use Rattle.inout_rules.specs.State.{withStation, ticked}
+use Rattle.inout_slot_rules.specs.Slot.{sample, slot, latchedAt, ioSize, encodeOf, decodeOf, okOf}
 
 module _ (s : List ℕ) (h : ioSize ≤ length s) (bytes : Bytes s) (ok : okOf s ≡ true) where
   put-over : (n : Io) (put : List ℕ → List ℕ) → ((t : List ℕ) → put (encodeOf (decodeOf s) ++ t) ≡ encodeOf n ++ t)
@@ -24,10 +24,6 @@ module _ (s : List ℕ) (h : ioSize ≤ length s) (bytes : Bytes s) (ok : okOf s
   unfolding encodeOf
   station-over x = put-over (withStation x (decodeOf s)) (pasted stationAt (station .codec .enc x)) (λ t. refl)
 
-  pub sampled-over : (x : Sample) → pasted 0 (encodeOf (sampled x (decodeOf s))) s ≡ pasted waitingAt (sample .codec .enc x) s
+  pub ticked-over : (x : Sample) → pasted 0 (encodeOf (ticked x (decodeOf s))) s ≡ pasted latchedAt (sample .codec .enc x) s
   unfolding encodeOf
-  sampled-over x = put-over (sampled x (decodeOf s)) (pasted waitingAt (sample .codec .enc x)) (λ t. refl)
-
-  pub ticked-over : pasted 0 (encodeOf (ticked (decodeOf s))) s ≡ pasted latchedAt (sample .codec .enc (decodeOf s .samples .waiting)) s
-  unfolding encodeOf
-  ticked-over = put-over (ticked (decodeOf s)) (pasted latchedAt (sample .codec .enc (decodeOf s .samples .waiting))) (λ t. refl)
+  ticked-over x = put-over (ticked x (decodeOf s)) (pasted latchedAt (sample .codec .enc x)) (λ t. refl)

@@ -19,7 +19,7 @@ use Rattle.inout_rules.specs.Answers.{typeNumber, inout}
 use Rattle.inout_rules.proofs.Apart.{apart, unseen}
 use Rattle.inout_slot_rules.specs.Slot.{sample, slot, encodeOf, decodeOf, okOf, slots}
 use Rattle.inout_slot_rules.proofs.Over.{station-over}
-use Rattle.inout_slot_rules.proofs.Replaced.{station-fits, samples-fit, fresh-fits, none-fits, own-safe, status-fits, numbers-fit, outputs-fit}
+use Rattle.inout_slot_rules.proofs.Replaced.{station-fits, latched-fits, fresh-fits, none-fits, own-safe, status-fits, numbers-fit, outputs-fit}
 
 lawful : Lawful slots
 unfolding encodeOf decodeOf okOf
@@ -51,13 +51,12 @@ owes = record {
   typed = typed;
   stationed = stationed;
   alone = λ x s l b v. station-over s (omega (arith, l)) b v x;
-  power = fresh-fits _ (none-fits, none-fits);
+  power = fresh-fits _ none-fits;
   held = λ m t. t .1 .0;
   withStation = λ s m h t. station-fits m t s h;
-  renewed = λ m t. fresh-fits (m .samples) (t .1 .1 .0);
+  renewed = λ m t. fresh-fits (m .latched) (t .1 .1 .0);
   own = own-safe;
-  sample = λ x m h t. samples-fit m t _ (h, t .1 .1 .0 .1);
-  tick = λ m t. samples-fit m t _ (t .1 .1 .0 .0, t .1 .1 .0 .0);
+  tick = λ x m h t. latched-fits m t x h;
   eight = refl;
   four = search needs;
   small = omega arith;

@@ -13,18 +13,18 @@ use Rattle.module_rules.specs.Slot.{station}
 use Rattle.module_rules.specs.Owes.{Safe}
 use Rattle.module_rules.proofs.Settled.{pick}
 use Rattle.module_rules.proofs.StationKept.{powerUp-fits}
-use Rattle.inout_rules.specs.declared.Samples.{Samples}
+use Rattle.inout_rules.specs.declared.Sample.{Sample}
 use Rattle.inout_rules.specs.declared.Pins.{Pins}
 use Rattle.inout_rules.specs.declared.Synch.{Synch}
 use Rattle.inout_rules.specs.declared.Capture.{Capture}
 use Rattle.inout_rules.specs.declared.Io.{Io}
 use Rattle.inout_rules.specs.Pins.{bitsOf, blend}
-use Rattle.inout_rules.specs.State.{withStation, withSamples, withPins, withSynch, withTimer, withCapture, fresh, noSample}
+use Rattle.inout_rules.specs.State.{withStation, withLatched, withPins, withSynch, withTimer, withCapture, fresh, noSample}
 use Rattle.inout_rules.specs.Asks.{own}
 use Rattle.inout_rules.specs.Answers.{outputsOf, inout}
 use Rattle.inout_rules.proofs.Asks.{own-means}
 use Rattle.inout_rules.proofs.Bits.{no-further}
-use Rattle.inout_slot_rules.specs.Slot.{twelve, sample, samples, pins, synch, capture, slots}
+use Rattle.inout_slot_rules.specs.Slot.{twelve, sample, pins, synch, capture, slots}
 use Rattle.inout_slot_rules.specs.Promises.{Fits, NumbersFit}
 
 -- values that fit, with one part replaced
@@ -32,8 +32,8 @@ module _ (m : Io) (t : Fits m) where
   pub station-fits : (x : Station) → station .codec .fits x → Fits (withStation x m)
   station-fits _ h = (t .0, (h, t .1 .1))
 
-  pub samples-fit : (x : Samples) → samples .codec .fits x → Fits (withSamples x m)
-  samples-fit _ h = (t .0, (t .1 .0, (h, t .1 .1 .1)))
+  pub latched-fits : (x : Sample) → sample .codec .fits x → Fits (withLatched x m)
+  latched-fits _ h = (t .0, (t .1 .0, (h, t .1 .1 .1)))
 
   pins-fit : (p : Pins) → pins .codec .fits p → Fits (withPins p m)
   pins-fit _ h = (t .0, (t .1 .0, (t .1 .1 .0, (h, t .1 .1 .1 .1))))
@@ -54,7 +54,7 @@ picked-fits d x y = let h = no-further 12 d x y in (omega arith, omega arith)
 bits-fit : (ds : List ℕ) → Bytes ds → twelve .codec .fits (bitsOf (getD ds 0 0) (getD ds 1 0))
 bits-fit ds b = let h = b 0 in (omega arith, omega arith)
 
-pub fresh-fits : (x : Samples) → samples .codec .fits x → Fits (fresh x)
+pub fresh-fits : (x : Sample) → sample .codec .fits x → Fits (fresh x)
 fresh-fits x h =
     let zero : twelve .codec .fits 0 = (omega arith, omega arith) in (
       tt,
@@ -77,7 +77,7 @@ own-safe code ds b =
       output = λ g m t e. pins-fit m t _ (t .1 .1 .1 .0 .0, (picked-fits _ _ _, t .1 .1 .1 .0 .1 .1));
       synchStore = λ g m t e. synch-fits m t _ (bits-fit ds b, (b 2, b 3));
       timer = λ g m t e. timer-fits m t _ (b 0);
-      synchInput = λ g m t e. capture-fits m t _ (picked-fits _ _ _, t .1 .1 .0 .1 .1 .1 .1 .1);
+      synchInput = λ g m t e. capture-fits m t _ (picked-fits _ _ _, t .1 .1 .0 .1 .1 .1 .1);
     })
 
 pub status-fits : (cause : ℕ) → causeBit cause < 256
@@ -85,9 +85,9 @@ status-fits cause = pick (λ (n : ℕ). n < 256) (eqb cause 0) 0 2 (λ e. omega 
 
 pub numbers-fit : NumbersFit
 numbers-fit m t =
-    let x = t .1 .1 .0 .1 in
+    let x = t .1 .1 .0 in
     let k = t .1 .1 .1 .1 .1 .1 in
-    let r = no-further 12 (m .pins .direction) (m .samples .latched .inputs) (m .pins .register) in
+    let r = no-further 12 (m .pins .direction) (m .latched .inputs) (m .pins .register) in
     (omega arith, (omega arith, (omega arith, (omega arith, (omega arith, (omega arith, (omega arith, (omega arith, tt))))))))
 
 pub outputs-fit : (m : Io) → Fits m → Bytes (outputsOf m)

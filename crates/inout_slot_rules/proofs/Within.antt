@@ -8,4 +8,4 @@ use Rattle.inout_slot_rules.proofs.Owed.{owes}
 pub kept : Kept
 kept =
     let p = preserves inout slots (sample .codec .fits) owes in
-    record { power = owes .power; frame = p .execute; sampling = p .sample; tick = p .tick }
+    record { power = owes .power; frame = p .execute; tick = p .tick }

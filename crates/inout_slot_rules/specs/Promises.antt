@@ -11,7 +11,7 @@ use Rattle.module_rules.specs.Report.{Fit}
 use Rattle.module_rules.specs.Slots.{leaderAt, lowAt, causeAt}
 use Rattle.inout_rules.specs.declared.Sample.{Sample}
 use Rattle.inout_rules.specs.declared.Io.{Io}
-use Rattle.inout_rules.specs.State.{started, sampled, ticked}
+use Rattle.inout_rules.specs.State.{started, ticked}
 use Rattle.inout_rules.specs.Answers.{typeNumber, numbers, sizes, execute}
 use Rattle.inout_slot_rules.specs.Slot.{sample, slot, decodeOf, okOf}
 
@@ -19,12 +19,11 @@ use Rattle.inout_slot_rules.specs.Slot.{sample, slot, decodeOf, okOf}
 abbrev pub Fits : Io → Type 0
 Fits m = slot .codec .fits m
 
--- They are never left: by power-up, frames, samples or ticks.
+-- They are never left: by power-up, frames or ticks with a good sample.
 pub record Kept : Type 0 where
   pub power : Fits started
   pub frame : (f : Frame) (alone : Bool) (m : Io) → Bytes (f .content) → Fits m → Fits (execute f alone m)
-  pub sampling : (x : Sample) (m : Io) → sample .codec .fits x → Fits m → Fits (sampled x m)
-  pub tick : (m : Io) → Fits m → Fits (ticked m)
+  pub tick : (x : Sample) (m : Io) → sample .codec .fits x → Fits m → Fits (ticked x m)
 
 -- Every item's number fits into its bytes, so that a reply spells it whole.
 abbrev pub NumbersFit : Type 0
@@ -36,8 +35,7 @@ pub record Lines (s : List ℕ) : Type 0 where
   pub leader : getD s leaderAt 0 ≤ 1
   pub low : getD s lowAt 0 ≤ 1
   pub cause : getD s causeAt 0 ≤ 5
-  pub waitingInputs : decodeOf s .samples .waiting .inputs < 4096
-  pub latchedInputs : decodeOf s .samples .latched .inputs < 4096
+  pub latchedInputs : decodeOf s .latched .inputs < 4096
   pub direction : decodeOf s .pins .direction < 4096
   pub register : decodeOf s .pins .register < 4096
   pub synchBits : decodeOf s .synch .bits < 4096

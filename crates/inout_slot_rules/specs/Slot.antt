@@ -10,25 +10,18 @@ use Rattle.module_rules.specs.declared.Station.{Station}
 use Rattle.module_rules.specs.Slot.{station}
 use Rattle.module_rules.specs.Slots.{Slots, ownAt}
 use Rattle.inout_rules.specs.declared.Sample.{Sample}
-use Rattle.inout_rules.specs.declared.Samples.{Samples}
 use Rattle.inout_rules.specs.declared.Pins.{Pins}
 use Rattle.inout_rules.specs.declared.Synch.{Synch}
 use Rattle.inout_rules.specs.declared.Capture.{Capture}
 use Rattle.inout_rules.specs.declared.Io.{Io}
 use Rattle.inout_rules.specs.Answers.{typeNumber}
 
--- the parts of each struct in the order of the slot, and the struct of its parts
+-- the parts of each struct in the order of the slot, and the struct of its parts; a sample stands so in a tick's list, too
 abbrev pub sampleParts : Sample → ℕ × (ℕ × (ℕ × (ℕ × ℕ)))
 sampleParts x = (x .inputs, (x .ad1, (x .ad2, (x .ad3, x .counter))))
 
 abbrev pub sampleOf : ℕ × (ℕ × (ℕ × (ℕ × ℕ))) → Sample
 sampleOf t = record { inputs = t .0; ad1 = t .1 .0; ad2 = t .1 .1 .0; ad3 = t .1 .1 .1 .0; counter = t .1 .1 .1 .1 }
-
-abbrev pub samplesParts : Samples → Sample × Sample
-samplesParts x = (x .waiting, x .latched)
-
-abbrev pub samplesOf : Sample × Sample → Samples
-samplesOf t = record { waiting = t .0; latched = t .1 }
 
 abbrev pub pinsParts : Pins → ℕ × (ℕ × (ℕ × ℕ))
 pinsParts p = (p .direction, (p .register, (p .pwm1, p .pwm2)))
@@ -49,15 +42,15 @@ abbrev pub captureOf : ℕ × ℕ → Capture
 captureOf t = record { inputs = t .0; counter = t .1 }
 
 abbrev pub Parts : Type 0
-Parts = Unit {0} × (Station × (Samples × (Pins × (Synch × (ℕ × Capture)))))
+Parts = Unit {0} × (Station × (Sample × (Pins × (Synch × (ℕ × Capture)))))
 
 abbrev pub ioParts : Io → Parts
-ioParts m = (tt, (m .station, (m .samples, (m .pins, (m .synch, (m .timer, m .captured))))))
+ioParts m = (tt, (m .station, (m .latched, (m .pins, (m .synch, (m .timer, m .captured))))))
 
 abbrev pub ioOf : Parts → Io
 ioOf t = record {
   station = t .1 .0;
-  samples = t .1 .1 .0;
+  latched = t .1 .1 .0;
   pins = t .1 .1 .1 .0;
   synch = t .1 .1 .1 .1 .0;
   timer = t .1 .1 .1 .1 .1 .0;
@@ -71,9 +64,6 @@ twelve = topped 15
 abbrev pub sample : Shape Sample
 sample = shaped sampleOf sampleParts (λ t. refl) (λ x. refl) (twelve then byte then byte then byte then number 4)
 
-abbrev pub samples : Shape Samples
-samples = shaped samplesOf samplesParts (λ t. refl) (λ x. refl) (sample then sample)
-
 abbrev pub pins : Shape Pins
 pins = shaped pinsOf pinsParts (λ t. refl) (λ p. refl) (twelve then twelve then byte then byte)
 
@@ -86,14 +76,11 @@ capture = shaped captureOf captureParts (λ t. refl) (λ k. refl) (twelve then n
 abbrev pub slot : Shape Io
 slot =
     shaped ioOf ioParts (λ t. refl) (λ m. refl)
-    (stamp typeNumber (omega arith) then station then samples then pins then synch then byte then capture)
+    (stamp typeNumber (omega arith) then station then sample then pins then synch then byte then capture)
 
 -- where each part begins: after the parts before it
-abbrev pub waitingAt : ℕ
-waitingAt = ownAt
-
 abbrev pub latchedAt : ℕ
-latchedAt = waitingAt + sample .codec .size
+latchedAt = ownAt
 
 abbrev pub pinsAt : ℕ
 pinsAt = latchedAt + sample .codec .size

@@ -1,11 +1,9 @@
 // How an I/O module stands in a slot of the record: where its parts and their fields are. Definitions and promises; no function.
 
-// The waiting and the latched sample: input bits, three A/D bytes, counter.
+// The latched sample, in the order of a tick's list: input bits, three A/D bytes, counter.
 pub const SAMPLE_LEN: usize = 9;
 
-pub const WAITING_AT: usize = module_rules::OWN_AT;
-
-pub const LATCHED_AT: usize = WAITING_AT + SAMPLE_LEN;
+pub const LATCHED_AT: usize = module_rules::OWN_AT;
 
 // The pins.
 pub const PINS_AT: usize = LATCHED_AT + SAMPLE_LEN;

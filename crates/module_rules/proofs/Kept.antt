@@ -54,7 +54,6 @@ module _ {M S C : Type 0} (T : Rules M S C) (L : Slots M) (Good : S → Type 0) 
           own = own-keeps (f .content) (T .own (f .code) (f .content)) (o .own (f .code) (f .content) b);
         }))
         m t;
-    sample = o .sample;
     tick = o .tick;
   }
 

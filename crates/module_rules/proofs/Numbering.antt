@@ -111,13 +111,14 @@ module _ {M S C : Type 0} (T : Rules M S C) (a : Apart T) (u : Unseen T) where
   unfolding execute
   renumbered = record {
     along = record {
-      address = λ m. ap (λ (s : Station). s .address) (a .put _ m);
-      execute = λ f alone m. frame-alike (f .damaged) (request T f alone) m;
-      reply = reply-alike;
-      sample = λ x m.
-          u .sample x _ m
-          ∙ ap (λ (s : Station). T .withStation (caused (olderNumber (s .cause)) s) (T .sample x m)) (sym (a .sample x m));
-      tick = λ m. u .tick _ m ∙ ap (λ (s : Station). T .withStation (caused (olderNumber (s .cause)) s) (T .tick m)) (sym (a .tick m));
+      line = record {
+        address = λ m. ap (λ (s : Station). s .address) (a .put _ m);
+        execute = λ f alone m. frame-alike (f .damaged) (request T f alone) m;
+        reply = reply-alike;
+      };
+      tick = λ x m.
+          u .tick x _ m
+          ∙ ap (λ (s : Station). T .withStation (caused (olderNumber (s .cause)) s) (T .tick x m)) (sym (a .tick x m));
     };
     outputs = λ m. u .outputs _ m;
   }

@@ -255,6 +255,5 @@ module _ {M S C : Type 0} (T : Rules M S C) where
             own = own-still (f .content) (T .own (f .code) (f .content));
           }))
           m;
-      sampling = λ x m. ap (λ (s : Station). s .address) (a .sample x m);
-      tick = λ m. ap (λ (s : Station). s .address) (a .tick m);
+      tick = λ x m. ap (λ (s : Station). s .address) (a .tick x m);
     }

@@ -33,11 +33,10 @@ module _ {M S C : Type 0} (T : Rules M S C) where
     address = λ m. T .station m .address;
     execute = olderExecute;
     reply = reply T;
-    sample = T .sample;
     tick = T .tick;
   }
 
-  -- Through frames, samples and ticks a module with document 01's number stays the same module with document 01's number; it replies and drives
+  -- Through frames and ticks a module with document 01's number stays the same module with document 01's number; it replies and drives
   -- the same.
   pub record Renumbered : Type 0 where
     pub along : Along (kindOf T) olderKind asOlder

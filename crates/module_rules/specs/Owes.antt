@@ -48,8 +48,7 @@ module _ {M S C : Type 0} (T : Rules M S C) (L : Slots M) (Good : S → Type 0) 
     pub withStation : (s : Station) (m : M) → station .codec .fits s → L .fits m → L .fits (T .withStation s m)
     pub renewed : (m : M) → L .fits m → L .fits (T .renewed m)
     pub own : (code : ℕ) (ds : List ℕ) → Bytes ds → Safe (T .own code ds)
-    pub sample : (x : S) (m : M) → Good x → L .fits m → L .fits (T .sample x m)
-    pub tick : (m : M) → L .fits m → L .fits (T .tick m)
+    pub tick : (x : S) (m : M) → Good x → L .fits m → L .fits (T .tick x m)
     -- there are eight items of at most four bytes; a reply fits into its greatest length, and spells the status byte and every number whole
     pub eight : length (T .sizes) ≡ 8
     pub four : AtMostFour (T .sizes)

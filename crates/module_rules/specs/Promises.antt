@@ -25,23 +25,21 @@ SpeaksBefore {M} K =
     × ((f : Frame) (m : M) → speaks (f .address) (K .address m) ≡ true → replied K f m ≡ K .reply f (executed K f m))
 
 module _ {M S C : Type 0} (T : Rules M S C) where
-  -- The station stands apart from all else that a module has: what is put there is there, and no command of the type's own, no sample and no
-  -- tick changes it.
+  -- The station stands apart from all else that a module has: what is put there is there, and no command of the type's own and no tick changes
+  -- it.
   pub record Apart : Type 0 where
     pub put : (s : Station) (m : M) → T .station (T .withStation s m) ≡ s
     pub again : (s t : Station) (m : M) → T .withStation s (T .withStation t m) ≡ T .withStation s m
     pub perform : (c : C) (m : M) → T .station (T .perform c m) ≡ T .station m
     pub renewed : (m : M) → T .station (T .renewed m) ≡ powerUp
-    pub sample : (x : S) (m : M) → T .station (T .sample x m) ≡ T .station m
-    pub tick : (m : M) → T .station (T .tick m) ≡ T .station m
+    pub tick : (x : S) (m : M) → T .station (T .tick x m) ≡ T .station m
 
   -- Nothing that is the type's own looks at the station, but for the status byte, which tells whether the cause is 0.
   pub record Unseen : Type 0 where
     pub renewed : (s : Station) (m : M) → T .renewed (T .withStation s m) ≡ T .renewed m
     pub can : (c : C) (s : Station) (m : M) → T .can c (T .withStation s m) ≡ T .can c m
     pub perform : (c : C) (s : Station) (m : M) → T .perform c (T .withStation s m) ≡ T .withStation s (T .perform c m)
-    pub sample : (x : S) (s : Station) (m : M) → T .sample x (T .withStation s m) ≡ T .withStation s (T .sample x m)
-    pub tick : (s : Station) (m : M) → T .tick (T .withStation s m) ≡ T .withStation s (T .tick m)
+    pub tick : (x : S) (s : Station) (m : M) → T .tick x (T .withStation s m) ≡ T .withStation s (T .tick x m)
     pub numbers : (s : Station) (m : M) → T .numbers (T .withStation s m) ≡ T .numbers m
     pub outputs : (s : Station) (m : M) → T .outputs (T .withStation s m) ≡ T .outputs m
     pub status : (s : Station) (m : M) → eqb (s .cause) 0 ≡ eqb (T .station m .cause) 0 → T .status (T .withStation s m) ≡ T .status m
@@ -119,10 +117,9 @@ module _ {M S C : Type 0} (T : Rules M S C) where
         → (f .code ≡ 1 → ⊥)
         → (f .code ≡ 15 → ⊥)
         → T .station (execute T f alone m) .address ≡ T .station m .address
-    pub sampling : (x : S) (m : M) → T .station (T .sample x m) .address ≡ T .station m .address
-    pub tick : (m : M) → T .station (T .tick m) .address ≡ T .station m .address
+    pub tick : (x : S) (m : M) → T .station (T .tick x m) .address ≡ T .station m .address
 
-  -- Hard Reset, which has no data: the power-up record with the samples kept, and no reply.
+  -- Hard Reset, which has no data: the power-up record with the latched sample kept, and no reply.
   pub record AfterReset (f : Frame) (alone : Bool) (m : M) : Type 0 where
     pub whole : execute T f alone m ≡ withCause T 0 (T .renewed m)
     pub station : T .station (execute T f alone m) ≡ powerUp

@@ -62,7 +62,7 @@ pub record Rules (M S C : Type 0) : Type 0 where
   -- the station, and the module with another one
   pub station : M → Station
   pub withStation : Station → M → M
-  -- power-up, and the power-up record that Hard Reset makes, which keeps the samples
+  -- power-up, and the power-up record that Hard Reset makes, which keeps the latched sample
   pub started : M
   pub renewed : M → M
   -- what a code that is not one of every type's means with its data bytes
@@ -70,9 +70,8 @@ pub record Rules (M S C : Type 0) : Type 0 where
   -- whether an own command can be carried out now, and what it does then
   pub can : C → M → Bool
   pub perform : C → M → M
-  -- the module with a sample waiting, and after a tick
-  pub sample : S → M → M
-  pub tick : M → M
+  -- 02 P11: the module after a tick that hands it this sample
+  pub tick : S → M → M
   -- the status byte, the items' sizes and their numbers
   pub status : M → ℕ
   pub sizes : List ℕ
@@ -116,4 +115,4 @@ module _ {M S C : Type 0} (T : Rules M S C) where
 
   -- what the chain knows of the type
   abbrev pub kindOf : Kind M S
-  kindOf = record { address = λ m. T .station m .address; execute = execute; reply = reply; sample = T .sample; tick = T .tick }
+  kindOf = record { address = λ m. T .station m .address; execute = execute; reply = reply; tick = T .tick }

@@ -1,4 +1,4 @@
--- How modules stand in the record's slots, for any module type.
+-- How modules stand in the record's slots, and their samples in a tick's list, for any module type.
 use mathlib.Core.Path.{_≡_}
 use Prim.Native.Nat.{ℕ, _+_, _≤_}
 use mathlib.Core.List.{List}
@@ -29,6 +29,13 @@ causeAt = lowAt + 1
 abbrev pub ownAt : ℕ
 ownAt = stationAt + station .codec .size
 
+-- 02 P11: the bytes of a sample in the list that a tick takes: the type's number, then what the type measures; the rest is not looked at
+abbrev pub sampleSize : ℕ
+sampleSize = 10
+
+abbrev pub measuredAt : ℕ
+measuredAt = 1
+
 pub record Slots (M : Type 0) : Type 1 where
   -- a module's bytes, the module in a slot, whether a slot is valid, and which modules can be written
   pub enc : M → List ℕ
@@ -44,8 +51,7 @@ pub record Lawful {M : Type 0} (L : Slots M) : Type 0 where
   pub back : (m : M) (s : List ℕ) → length s ≡ slotSize → L .fits m → L .dec (pasted 0 (L .enc m) s) ≡ m
   pub valid : (m : M) (s : List ℕ) → length s ≡ slotSize → L .fits m → L .ok (pasted 0 (L .enc m) s) ≡ true
 
--- what the record needs of a module type: a module that can be written stays one under every frame of bytes, every good sample and every tick
+-- what the record needs of a module type: a module that can be written stays one under every frame of bytes and every tick with a good sample
 pub record Preserves {M S : Type 0} (K : Kind M S) (L : Slots M) (Good : S → Type 0) : Type 0 where
   pub execute : (f : Frame) (individual : Bool) (m : M) → Bytes (f .content) → L .fits m → L .fits (K .execute f individual m)
-  pub sample : (x : S) (m : M) → Good x → L .fits m → L .fits (K .sample x m)
-  pub tick : (m : M) → L .fits m → L .fits (K .tick m)
+  pub tick : (x : S) (m : M) → Good x → L .fits m → L .fits (K .tick x m)

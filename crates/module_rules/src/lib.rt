@@ -4,6 +4,11 @@
 // The bytes of a slot of the record: the type byte, the station, and what the type has besides.
 pub const SLOT_LEN: usize = 128;
 
+// The bytes of a sample in the list that a tick takes: the type byte, and what the type measures from the next byte on.
+pub const SAMPLE_LEN: usize = 10;
+
+pub const MEASURED_AT: usize = 1;
+
 // The places of the station's bytes in a slot; what the type has besides comes next.
 pub const STATION_AT: usize = 1;
 

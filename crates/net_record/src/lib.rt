@@ -1,15 +1,13 @@
-// The lent record: whether it is valid, setup, samples, outputs and causes.
+// The lent record: whether it is valid and a list of samples is one for it, setup, outputs and causes.
 ghost use mathlib.Core.Path.{_≡_};
 ghost use mathlib.Core.Bool.{true};
 ghost use mathlib.Core.List.{map};
 ghost use Prim.Native.Nat.{_+_, _*_, _≤_, _<_};
 ghost use lib.ListN.{length, replicate, drop};
 ghost use Rattle.module_rules.specs.Slots.{slotSize};
-ghost use Rattle.types_rules.specs.Table.{measured};
 ghost use Rattle.types_rules.specs.Types.{slots, powered, outputs};
-ghost use Rattle.net_rules.specs.Record.{recordSize, slotsAt, okSlots, netIn, putModules, stored, valid, chainMost};
-ghost use Rattle.net_rules.specs.Calls.{allKnown, fresh, sampleStep, ofType, outputsAt, causeAt};
-use types_rules::Measured;
+ghost use Rattle.net_rules.specs.Record.{recordSize, slotsAt, okSlots, modulesIn, netIn, putModules, valid, chainMost};
+ghost use Rattle.net_rules.specs.Calls.{allKnown, fresh, ofType, listSize, allTyped, allInRange, outputsAt, causeAt};
 
 // Whether the first n slots are valid.
 fn is_each_ok(net: &[u8], n: usize) -> bool
@@ -55,14 +53,50 @@ pub fn is_of_type(net: &[u8], place: usize, t: u8) -> bool
     false
 }
 
-// A sample for the module at a place; one for another type changes nothing.
-pub fn put_sample(net: &mut [u8], place: usize, x: Measured)
-    requires { ⌜ (valid slots (now net) ≡ true) × (place < length (netIn slots (now net) .modules)) ⌝ }
-    ensures { λ _. ⌜ now (net .exit) ≡ stored slots (sampleStep place (measured x) (netIn slots (now (net .entry)))) (now (net .entry)) ⌝ }
+// Whether each of n samples begins with the type byte of its module's slot.
+fn is_each_typed(net: &[u8], n: usize, samples: &[u8]) -> bool
+    requires { ⌜ (slotsAt + slotSize * n ≤ length (now net)) × (okSlots slots n (drop slotsAt (now net)) ≡ true) × (length (now samples) ≡ listSize n) ⌝ }
+    ensures { λ r. ⌜ r ≡ allTyped (modulesIn slots n (drop slotsAt (now (net .entry)))) (now (samples .entry)) ⌝ }
 {
-    let at = net_rules::SLOTS_AT + module_rules::SLOT_LEN * place;
-    let end = at + module_rules::SLOT_LEN;
-    types_dispatch::put_sample(&mut net[at..end], x);
+    let mut at: usize = net_rules::SLOTS_AT;
+    let mut from: usize = 0;
+    let mut left = n;
+    while 0 < left {
+        if samples[from] != net[at] {
+            return false;
+        }
+        at += module_rules::SLOT_LEN;
+        from += module_rules::SAMPLE_LEN;
+        left -= 1;
+    }
+    true
+}
+
+// Whether each sample of a list for this network is of its module's type.
+pub fn is_typed(net: &[u8], samples: &[u8]) -> bool
+    requires { ⌜ (valid slots (now net) ≡ true) × (length (now samples) ≡ listSize (length (netIn slots (now net) .modules))) ⌝ }
+    ensures { λ r. ⌜ r ≡ allTyped (netIn slots (now (net .entry)) .modules) (now (samples .entry)) ⌝ }
+{
+    let n = net_receiver::chain_len(net) as usize;
+    is_each_typed(net, n, samples)
+}
+
+// Whether each of n samples has its fields in range.
+pub fn is_in_range(samples: &[u8], n: usize) -> bool
+    requires { ⌜ length (now samples) ≡ listSize n ⌝ }
+    ensures { λ r. ⌜ r ≡ allInRange n (now (samples .entry)) ⌝ }
+{
+    let mut from: usize = 0;
+    let mut left = n;
+    while 0 < left {
+        let to = from + module_rules::SAMPLE_LEN;
+        if !types_dispatch::is_sample_ok(&samples[from..to]) {
+            return false;
+        }
+        from = to;
+        left -= 1;
+    }
+    true
 }
 
 // What the board drives for the module at a place.

@@ -1,6 +1,6 @@
 -- The walk along slots that stand behind a part of a list: what the chain makes of their modules. Assumes nothing.
 use mathlib.Core.Path.{_≡_, refl, sym, ap, ap₂, _∙_}
-use mathlib.Core.List.{List, [], _∷_, _++_, map, append-assoc}
+use mathlib.Core.List.{List, [], _∷_, _++_, append-assoc}
 use mathlib.Core.Bool.{Bool, true, false, cond, _&&_}
 use mathlib.Core.Option.{some}
 use Prim.Native.Nat.{ℕ, zero, suc, _+_, _*_, _<_, _≤_}
@@ -12,13 +12,13 @@ use Rattle.base_layout.specs.Bytes.{pasted, Bytes}
 use Rattle.line_receiver.specs.Frames.{Frame}
 use Rattle.module_rules.specs.Touch.{named}
 use Rattle.module_rules.specs.Kind.{Kind, executed, replied}
-use Rattle.chain_rules.specs.Chain.{handed, said, changed}
+use Rattle.chain_rules.specs.Chain.{handed, said, timed}
 use Rattle.module_rules.specs.Slots.{Slots, slotSize, Lawful}
 use Rattle.net_rules.specs.Record.{modulesIn, okSlots}
 use Rattle.net_rules.specs.Walk.{moduleAt, touchedAt, turned, wordsAt, lowAt, walked, speech, changedAt, ticked}
 use Rattle.base_layout.proofs.Pasted.{pasted-first, length-within}
 use Rattle.base_layout.proofs.Laws.{bytes-drop}
-use Rattle.net_rules.proofs.Slots.{putSlots, first-long, rest-long, first-there, rest-ok, slots-there}
+use Rattle.net_rules.proofs.Slots.{putSlots, first-long, rest-long, first-there, rest-ok}
 
 module _ {M S : Type 0} (K : Kind M S) {L : Slots M} (law : Lawful L) where
   -- the module of the first slot
@@ -103,16 +103,17 @@ module _ {M S : Type 0} (K : Kind M S) {L : Slots M} (law : Lawful L) where
       (rest-long k t h) (bytes-drop slotSize t b) (rest-ok law k t v))
 
   -- after a tick
-  pub ticked-on : (k at : ℕ) (p t : List ℕ) → length p ≡ at → slotSize * k ≤ length t
-      → ticked K L k at (p ++ t) ≡ p ++ putSlots L (map (K .tick) (modulesIn L k t)) t
+  pub ticked-on : (xs : List S) (at : ℕ) (p t : List ℕ) → length p ≡ at → slotSize * length xs ≤ length t
+      → ticked K L xs at (p ++ t) ≡ p ++ putSlots L (timed K xs (modulesIn L (length xs) t)) t
   unfolding ticked changedAt modulesIn putSlots firstIn
-  ticked-on zero at p t e h = refl
-  ticked-on (suc k) at p t e h =
-      let m : M = K .tick (firstIn t) in
-      ap (λ (l : List ℕ). ticked K L k (at + slotSize) l)
-      (ap (λ (m : M). pasted at (L .enc (K .tick m)) (p ++ t)) (first-module at p t e) ∙ first-changed k at p t e h m)
-      ∙ ticked-on k (at + slotSize) (done m p t) (drop slotSize t) (length-done k at p t e h m) (rest-long k t h)
-      ∙ done-then k at p t e h m (map (K .tick) (modulesIn L k (drop slotSize t)))
+  ticked-on [] at p t e h = refl
+  ticked-on (x ∷ xs) at p t e h =
+      let k : ℕ = length xs in
+      let m : M = K .tick x (firstIn t) in
+      ap (λ (l : List ℕ). ticked K L xs (at + slotSize) l)
+      (ap (λ (m : M). pasted at (L .enc (K .tick x m)) (p ++ t)) (first-module at p t e) ∙ first-changed k at p t e h m)
+      ∙ ticked-on xs (at + slotSize) (done m p t) (drop slotSize t) (length-done k at p t e h m) (rest-long k t h)
+      ∙ done-then k at p t e h m (timed K xs (modulesIn L k (drop slotSize t)))
 
   -- one place
   pub module-on : (i k at : ℕ) (p t : List ℕ) → length p ≡ at → slotSize * k ≤ length t → i < k
@@ -128,25 +129,3 @@ module _ {M S : Type 0} (K : Kind M S) {L : Slots M} (law : Lawful L) where
       module-on i k (at + slotSize) (p ++ x) (drop slotSize t) (omega (arith, length-append p x, first-long k t h)) (rest-long k t h) (omega arith)
       ∙ ap₂ (λ (n : ℕ) (s : List ℕ). some (moduleAt K L n s)) z
       (append-assoc p x (drop slotSize t) ∙ ap (λ (l : List ℕ). p ++ l) (take-append-drop slotSize t))
-
-  pub changed-on : (g : M → M) (i k at : ℕ) (p t : List ℕ) → length p ≡ at → slotSize * k ≤ length t → Bytes t → okSlots L k t ≡ true → i < k
-      → changedAt K L g (at + slotSize * i) (p ++ t) ≡ p ++ putSlots L (changed g i (modulesIn L k t)) t
-  unfolding changedAt modulesIn firstIn
-  changed-on g i zero at p t e h b v l = absurd (omega arith)
-  changed-on g zero (suc k) at p t e h b v l =
-      let z : at + slotSize * 0 ≡ at = omega arith in
-      let m : M = g (firstIn t) in
-      let d : List ℕ = drop slotSize t in
-      ap (λ (n : ℕ). changedAt K L g n (p ++ t)) z
-      ∙ ap (λ (m : M). pasted at (L .enc (g m)) (p ++ t)) (first-module at p t e)
-      ∙ first-changed k at p t e h m
-      ∙ ap (λ (l : List ℕ). done m p t ++ l) (sym (slots-there law k d (rest-long k t h) (bytes-drop slotSize t b) (rest-ok law k t v)))
-      ∙ done-then k at p t e h m (modulesIn L k d)
-  changed-on g (suc i) (suc k) at p t e h b v l =
-      let z : at + slotSize * suc i ≡ at + slotSize + slotSize * i = omega (arith, mul-suc slotSize i) in
-      let m : M = firstIn t in
-      let d : List ℕ = drop slotSize t in
-      ap₂ (λ (n : ℕ) (s : List ℕ). changedAt K L g n s) z (first-stays k at p t e h b v)
-      ∙ changed-on g i k (at + slotSize) (done m p t) d (length-done k at p t e h m)
-      (rest-long k t h) (bytes-drop slotSize t b) (rest-ok law k t v) (omega arith)
-      ∙ done-then k at p t e h m (changed g i (modulesIn L k d))

@@ -22,17 +22,16 @@ use Rattle.module_rules.specs.Slot.{station}
 use Rattle.module_rules.specs.Slots.{slotSize, stationAt}
 use Rattle.chain_rules.proofs.Bytes.{step-on, step-end}
 use Rattle.chain_rules.proofs.Replies.{flat-join}
-use Rattle.types_rules.specs.Types.{kind, slots, powered, outputs, Module, AnySample}
+use Rattle.types_rules.specs.Types.{kind, slots, powered, outputs, Module}
 use Rattle.types_rules.proofs.Laws.{lawful, type-is, cause-is}
 use Rattle.net_rules.specs.declared.Called.{Called}
 use Rattle.net_rules.specs.declared.Walked.{Walked}
 use Rattle.net_rules.specs.Record.{countAt, slotsAt, recordSize, receiverIn, receiverBytes, okSlots, netIn, stored, putModules, valid, chainMost}
 use Rattle.net_rules.specs.Walk.{moduleAt, walked, speech, walkOf, endedOf}
-use Rattle.net_rules.specs.Calls.{noted, fresh, sampleStep, spokenTo, calledBy, isOf, ofType, outputsIn, outputsAt, causeIn, causeAt}
+use Rattle.net_rules.specs.Calls.{noted, fresh, spokenTo, calledBy, isOf, ofType, outputsIn, outputsAt, causeIn, causeAt}
 use Rattle.net_rules.proofs.Valid.{valid-is}
 use Rattle.net_rules.proofs.Head.{length-receiver}
-use Rattle.net_rules.proofs.Exact.{waits, walked-is, speech-is, changed-is, module-at, length-modules}
-use Rattle.net_rules.proofs.OneTurn.{changed-turn}
+use Rattle.net_rules.proofs.Exact.{waits, walked-is, speech-is, module-at, length-modules}
 use Rattle.net_rules.proofs.Turns.{noted-none}
 use Rattle.net_rules.proofs.Ahead.{drop-after, place-ok}
 
@@ -117,14 +116,6 @@ module _ (s : List ℕ) (b : Bytes s) (v : valid slots s ≡ true) where
   -- the last cause
   pub cause-at : (place : ℕ) {r : ℕ} → place < getD s countAt 0 → r ≡ station .codec .dec stationAt (partAt place) .cause → r ≡ causeAt (netIn slots s) place
   cause-at place h e = e ∙ sym (cause-is (partAt place)) ∙ ap causeIn (held-at place h)
-
-  -- a sample
-  pub sample-is : (place : ℕ) (x : AnySample) {y : List ℕ} → place < getD s countAt 0 → slotsAt + slotSize * place + slotSize ≤ length s
-      → y ≡ pasted 0 (slots .enc (kind .sample x (slots .dec (take (slotsAt + slotSize * place + slotSize - (slotsAt + slotSize * place)) (drop (slotsAt + slotSize * place) s))))) (take (slotsAt + slotSize * place + slotSize - (slotsAt + slotSize * place)) (drop (slotsAt + slotSize * place) s))
-      → take (slotsAt + slotSize * place) s ++ (y ++ drop (slotsAt + slotSize * place + slotSize - (slotsAt + slotSize * place)) (drop (slotsAt + slotSize * place) s))
-      ≡ stored slots (sampleStep place x (netIn slots s)) s
-  sample-is place x h l e =
-      changed-turn (kind .sample x) (slotsAt + slotSize * place) s l e ∙ changed-is kind lawful s b v (kind .sample x) place h
 
   module _ (room : List ℕ) (y : Byte) {r : Receiver} {got : Received} {bytes s′ : List ℕ}
       (er : r ≡ receiverIn s) (eg : got ≡ taken r (y .value) (y .mark)) (eb : bytes ≡ receiverBytes (got .next)) (es : s′ ≡ pasted 0 bytes s) where

@@ -1,29 +1,26 @@
--- The walk along the slots of a valid record, and the network in it: a frame, a tick, a sample. Assumes nothing.
-use mathlib.Core.Path.{_≡_, refl, sym, ap, _∙_}
-use mathlib.Core.List.{List, [], _∷_, _++_, map}
+-- The walk along the slots of a valid record, and the network in it: a frame, a tick. Assumes nothing.
+use mathlib.Core.Path.{_≡_, sym, ap, _∙_}
+use mathlib.Core.List.{List, _++_}
 use mathlib.Core.Bool.{true}
 use mathlib.Core.Option.{some}
-use Prim.Native.Nat.{ℕ, zero, suc, _+_, _*_, _<_}
-use lib.ListN.{length, getD, drop, getElem?, length-map}
+use Prim.Native.Nat.{ℕ, _+_, _*_, _<_}
+use lib.ListN.{length, getD, drop, getElem?}
 use Rattle.base_layout.specs.Bytes.{pasted, Bytes}
 use Rattle.line_receiver.specs.declared.Receiver.{Receiver}
 use Rattle.line_receiver.specs.Frames.{Frame}
 use Rattle.module_rules.specs.Kind.{Kind}
-use Rattle.chain_rules.specs.Chain.{handed, said, changed}
+use Rattle.chain_rules.specs.Chain.{handed, said, timed}
 use Rattle.chain_rules.proofs.Along.{length-handed}
+use Rattle.chain_rules.proofs.Timing.{length-timed}
 use Rattle.module_rules.specs.Slots.{Slots, slotSize, Lawful}
-use Rattle.net_rules.specs.Record.{countAt, slotsAt, receiverIn, receiverBytes, netIn, stored, valid}
-use Rattle.net_rules.specs.Walk.{moduleAt, walked, speech, changedAt, ticked}
+use Rattle.net_rules.specs.Record.{countAt, slotsAt, receiverIn, receiverBytes, modulesIn, netIn, stored, valid}
+use Rattle.net_rules.specs.Walk.{moduleAt, walked, speech, ticked}
 use Rattle.base_layout.proofs.Laws.{bytes-drop}
 use Rattle.net_rules.proofs.Slots as Slots
+use Rattle.net_rules.proofs.Slots.{putSlots}
 use Rattle.net_rules.proofs.Valid.{valid-is}
 use Rattle.net_rules.proofs.Stored.{front, length-front, with-is, whole-is, stored-again, slots-long, modules-there, long-enough}
-use Rattle.net_rules.proofs.Along.{walked-on, speech-on, ticked-on, module-on, changed-on}
-
-pub length-changed : {M : Type 0} (g : M → M) (i : ℕ) (ms : List M) → length (changed g i ms) ≡ length ms
-length-changed g i [] = refl
-length-changed g zero (m ∷ ms) = refl
-length-changed g (suc i) (m ∷ ms) = ap suc (length-changed g i ms)
+use Rattle.net_rules.proofs.Along.{walked-on, speech-on, ticked-on, module-on}
 
 pub length-modules : {M : Type 0} (L : Slots M) (s : List ℕ) → length (netIn L s .modules) ≡ getD s countAt 0
 unfolding netIn
@@ -62,29 +59,18 @@ module _ {M S : Type 0} (K : Kind M S) {L : Slots M} (law : Lawful L) (s : List 
       ∙ speech-on K law f n true slotsAt (front r n) (drop slotsAt s) (length-front r n) (slots-long law s b w) (bytes-drop slotsAt s b) (w .slots)
 
   -- a tick
-  pub ticked-is : ticked K L (getD s countAt 0) slotsAt s
-      ≡ stored L (record { receiver = netIn L s .receiver; modules = map (K .tick) (netIn L s .modules) }) s
+  pub ticked-is : (xs : List S) → length xs ≡ getD s countAt 0
+      → ticked K L xs slotsAt s ≡ stored L (record { receiver = netIn L s .receiver; modules = timed K xs (netIn L s .modules) }) s
   unfolding netIn
-  ticked-is =
+  ticked-is xs l =
       let w = valid-is L s v in
       let n : ℕ = getD s countAt 0 in
-      ap (λ (l : List ℕ). ticked K L n slotsAt l) (whole-is s (long-enough law s b w) b (w .receiver))
-      ∙ ticked-on K law n slotsAt (front (receiverIn s) n) (drop slotsAt s) (length-front (receiverIn s) n) (slots-long law s b w)
-      ∙ stored-again law (receiverIn s) (map (K .tick) (netIn L s .modules)) s w (length-map (netIn L s .modules) (K .tick) ∙ length-modules L s)
+      ap (λ (l : List ℕ). ticked K L xs slotsAt l) (whole-is s (long-enough law s b w) b (w .receiver))
+      ∙ ticked-on K law xs slotsAt (front (receiverIn s) n) (drop slotsAt s) (length-front (receiverIn s) n) (rw l (slots-long law s b w))
+      ∙ ap (λ (k : ℕ). front (receiverIn s) n ++ putSlots L (timed K xs (modulesIn L k (drop slotsAt s))) (drop slotsAt s)) l
+      ∙ stored-again law (receiverIn s) (timed K xs (netIn L s .modules)) s w (length-timed K xs (netIn L s .modules) ∙ length-modules L s)
 
   -- one place
-  pub changed-is : (g : M → M) (i : ℕ) → i < getD s countAt 0
-      → changedAt K L g (slotsAt + slotSize * i) s
-      ≡ stored L (record { receiver = netIn L s .receiver; modules = changed g i (netIn L s .modules) }) s
-  unfolding netIn
-  changed-is g i l =
-      let w = valid-is L s v in
-      let n : ℕ = getD s countAt 0 in
-      ap (λ (x : List ℕ). changedAt K L g (slotsAt + slotSize * i) x) (whole-is s (long-enough law s b w) b (w .receiver))
-      ∙ changed-on K law g i n slotsAt (front (receiverIn s) n) (drop slotsAt s) (length-front (receiverIn s) n) (slots-long law s b w)
-      (bytes-drop slotsAt s b) (w .slots) l
-      ∙ stored-again law (receiverIn s) (changed g i (netIn L s .modules)) s w (length-changed g i (netIn L s .modules) ∙ length-modules L s)
-
   pub module-at : (i : ℕ) → i < getD s countAt 0 → getElem? (netIn L s .modules) i ≡ some (moduleAt K L (slotsAt + slotSize * i) s)
   unfolding netIn
   module-at i l =

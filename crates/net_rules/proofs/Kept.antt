@@ -1,10 +1,9 @@
--- A sound network stays sound: under a byte, a sample and a tick. Assumes nothing.
+-- A sound network stays sound: under a byte and a tick. Assumes nothing.
 use mathlib.Core.Path.{_≡_, refl}
-use mathlib.Core.List.{List, [], _∷_, map}
+use mathlib.Core.List.{List, [], _∷_}
 use mathlib.Core.Bool.{Bool, true, false, cond, _&&_}
-use Prim.Native.Nat.{ℕ, zero, suc}
 use native.Mathlib.Omega.{arith}
-use lib.ListN.{length, length-map}
+use lib.ListN.{length}
 use Rattle.base_layout.specs.Bytes.{Bytes}
 use Rattle.line_receiver.specs.declared.Receiver.{Receiver}
 use Rattle.line_receiver.specs.declared.Received.{Received}
@@ -16,13 +15,13 @@ use Rattle.line_receiver.specs.Promises.{Sound}
 use Rattle.line_receiver.proofs.Kept.{kept}
 use Rattle.module_rules.specs.Touch.{individually, named}
 use Rattle.module_rules.specs.Kind.{Kind, executed}
-use Rattle.chain_rules.specs.Chain.{Net, handed, byteStep, changed}
+use Rattle.chain_rules.specs.Chain.{Net, handed, byteStep, timed}
 use Rattle.chain_rules.proofs.Along.{length-handed}
+use Rattle.chain_rules.proofs.Timing.{length-timed}
 use Rattle.chain_rules.proofs.Bytes.{step-on, step-end}
 use Rattle.module_rules.specs.Slots.{Preserves, Slots}
-use Rattle.net_rules.specs.Promises.{Each, SoundNet, KeptByByte, KeptBySample, KeptByTick}
+use Rattle.net_rules.specs.Promises.{Each, SoundNet, KeptByByte, KeptByTick}
 use Rattle.base_layout.proofs.Laws.{bytes-take}
-use Rattle.net_rules.proofs.Exact.{length-changed}
 
 -- the data of a frame are bytes
 pub content-bytes : (r : Receiver) (d : Bool) → Sound r → Bytes (frameIn r d .content)
@@ -37,14 +36,10 @@ module _ {M S : Type 0} (K : Kind M S) (L : Slots M) (Good : S → Type 0) (p : 
       go true = p .execute f (individually (f .address) (K .address m)) m b (h .0)
       go false = h .0
 
-  changed-fit : (g : M → M) → ((m : M) → L .fits m → L .fits (g m)) → (i : ℕ) (ms : List M) → Each (L .fits) ms → Each (L .fits) (changed g i ms)
-  changed-fit g q i [] h = tt
-  changed-fit g q zero (m ∷ ms) h = (q m (h .0), h .1)
-  changed-fit g q (suc i) (m ∷ ms) h = (h .0, changed-fit g q i ms (h .1))
-
-  ticked-fit : (ms : List M) → Each (L .fits) ms → Each (L .fits) (map (K .tick) ms)
-  ticked-fit [] h = tt
-  ticked-fit (m ∷ ms) h = (p .tick m (h .0), ticked-fit ms (h .1))
+  timed-fit : (xs : List S) (ms : List M) → Each Good xs → Each (L .fits) ms → Each (L .fits) (timed K xs ms)
+  timed-fit xs [] g h = tt
+  timed-fit [] (m ∷ ms) g h = h
+  timed-fit (x ∷ xs) (m ∷ ms) g h = (p .tick x m (g .0) (h .0), timed-fit xs ms (g .1) (h .1))
 
 -- as many modules as before
 same-count : {M : Type 0} {L : Slots M} (n : Net M) (r : Receiver) (ms : List M) → SoundNet L n → Sound r → length ms ≡ length (n .modules)
@@ -68,12 +63,7 @@ module _ {M S : Type 0} (K : Kind M S) (L : Slots M) (Good : S → Type 0) where
           (same-count n r (handed K f true (n .modules)) h s (length-handed K f true (n .modules))
           (handed-fit K L Good p (n .modules) f true (content-bytes (n .receiver) d (h .receiver)) (h .each)))
 
-  pub kept-by-sample : KeptBySample K L Good
-  kept-by-sample p n x i h g =
-      same-count n (n .receiver) (changed (K .sample x) i (n .modules)) h (h .receiver) (length-changed (K .sample x) i (n .modules))
-      (changed-fit K L Good p (K .sample x) (λ m f. p .sample x m g f) i (n .modules) (h .each))
-
   pub kept-by-tick : KeptByTick K L Good
-  kept-by-tick p n h =
-      same-count n (n .receiver) (map (K .tick) (n .modules)) h (h .receiver) (length-map (n .modules) (K .tick))
-      (ticked-fit K L Good p (n .modules) (h .each))
+  kept-by-tick p n xs h g =
+      same-count n (n .receiver) (timed K xs (n .modules)) h (h .receiver) (length-timed K xs (n .modules))
+      (timed-fit K L Good p xs (n .modules) g (h .each))

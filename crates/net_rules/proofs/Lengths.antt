@@ -13,19 +13,12 @@ use Rattle.line_receiver.specs.Frames.{Frame}
 use Rattle.module_rules.specs.Kind.{Kind, executed, replied}
 use Rattle.chain_rules.specs.Chain.{join}
 use Rattle.module_rules.specs.Slots.{Slots, slotSize, Lawful}
-use Rattle.net_rules.specs.Walk.{moduleAt, touchedAt, turned, wordsAt, lowAt, walked, speech, changedAt, ticked}
+use Rattle.net_rules.specs.Walk.{moduleAt, touchedAt, turned, wordsAt, lowAt, walked, speech}
 use Rattle.net_rules.specs.Calls.{noted}
 use Rattle.net_rules.specs.Record.{chainMost}
 use Rattle.module_rules.specs.Owes.{replySize}
 
 module _ {M S : Type 0} (K : Kind M S) {L : Slots M} (law : Lawful L) where
-  pub changed-length : (g : M → M) (at : ℕ) (s : List ℕ) → at + slotSize ≤ length s → length (changedAt K L g at s) ≡ length s
-  unfolding changedAt
-  changed-length g at s h =
-      let x : List ℕ = L .enc (g (moduleAt K L at s)) in
-      let z : length x ≤ slotSize = law .short (g (moduleAt K L at s)) in
-      length-pasted at x s (omega arith)
-
   pub turned-length : (f : Frame) (enabled : Bool) (at : ℕ) (s : List ℕ) → at + slotSize ≤ length s → length (turned K L f enabled at s) ≡ length s
   unfolding turned
   turned-length f enabled at s h = go (touchedAt K L f enabled at s)
@@ -44,14 +37,6 @@ module _ {M S : Type 0} (K : Kind M S) {L : Slots M} (law : Lawful L) where
       let m = mul-suc slotSize k in
       let t = turned-length f enabled at s (omega arith) in
       walked-length k f (lowAt K L at s) (at + slotSize) (turned K L f enabled at s) (omega arith) ∙ t
-
-  pub ticked-length : (k at : ℕ) (s : List ℕ) → at + slotSize * k ≤ length s → length (ticked K L k at s) ≡ length s
-  unfolding ticked
-  ticked-length zero at s h = refl
-  ticked-length (suc k) at s h =
-      let m = mul-suc slotSize k in
-      let t = changed-length (K .tick) at s (omega arith) in
-      ticked-length k (at + slotSize) (changedAt K L (K .tick) at s) (omega arith) ∙ t
 
 module _ {M S : Type 0} (K : Kind M S) (L : Slots M) (f : Frame) where
   pub words-short : ((m : M) → length (replied K f m) ≤ replySize) → (enabled : Bool) (at : ℕ) (s : List ℕ) → length (wordsAt K L f enabled at s) ≤ replySize

@@ -13,3 +13,4 @@ pub mod OneTurn
 pub mod Rounds
 pub mod Calls
 pub mod Powered
+pub mod Listed

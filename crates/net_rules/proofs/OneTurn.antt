@@ -6,7 +6,7 @@ use Prim.Native.Nat.{ℕ, zero, suc, _+_, _-_, _<_, _≤_}
 use native.Mathlib.Numerals.{add-one}
 use native.Mathlib.Omega.{arith}
 use lib.ListN.{length, getD, take, drop}
-use lib.Seq.{drop-cons}
+use lib.Seq.{drop-cons, drop-drop}
 use Rattle.base_layout.specs.Bytes.{pasted}
 use Rattle.base_layout.proofs.Pasted.{pasted-none, put-part}
 use Rattle.line_receiver.specs.Frames.{Frame}
@@ -14,13 +14,14 @@ use Rattle.module_rules.specs.declared.Address.{Address}
 use Rattle.module_rules.specs.Touch.{named}
 use Rattle.module_rules.specs.Slot.{address}
 use Rattle.module_rules.specs.Kind.{executed, replied}
-use Rattle.module_rules.specs.Slots.{slotSize}
-use Rattle.types_rules.specs.Types.{kind, slots, powered, Module}
+use Rattle.module_rules.specs.Slots.{slotSize, sampleSize}
+use Rattle.types_rules.specs.Types.{kind, slots, powered, Module, AnySample, sampleIn}
 use Rattle.types_rules.proofs.Laws.{lawful, address-is}
 use Rattle.net_rules.specs.declared.Turn.{Turn}
 use Rattle.net_rules.specs.Walk.{moduleAt, touchedAt, turned, wordsAt, lowAt, changedAt, ticked, turnOf}
 use Rattle.net_rules.specs.Record.{putModules}
-use Rattle.net_rules.proofs.Turns.{ticked-turn}
+use Rattle.net_rules.specs.Calls.{samplesIn}
+use Rattle.net_rules.proofs.Turns.{ticked-none, ticked-turn}
 
 -- a slot's bytes written where a slot was lent
 pub slot-back : (at : ℕ) (m : Module) (s : List ℕ) {x : List ℕ} → at + slotSize ≤ length s → x ≡ pasted 0 (slots .enc m) (take (at + slotSize - at) (drop at s))
@@ -98,14 +99,25 @@ changed-turn g at s h e =
     slot-back at (g (slots .dec (take (at + slotSize - at) (drop at s)))) s h e
     ∙ ap (λ (n : ℕ). pasted at (slots .enc (g (slots .dec (take n (drop at s))))) s) n
 
--- a turn of the loop that ticks, with k modules to go before it
-pub tick-round : (k at : ℕ) (s : List ℕ) {x : List ℕ} → 0 < k → at + slotSize ≤ length s
-    → x ≡ pasted 0 (slots .enc (kind .tick (slots .dec (take (at + slotSize - at) (drop at s))))) (take (at + slotSize - at) (drop at s))
-    → ticked kind slots (k - 1) (at + slotSize) (take at s ++ (x ++ drop (at + slotSize - at) (drop at s))) ≡ ticked kind slots k at s
-tick-round zero at s p h e = absurd (omega arith)
-tick-round (suc k) at s p h e =
+-- a turn of the loop that ticks, with k modules to go before it and their samples in the list from a place on
+pub tick-round : (k at from : ℕ) (s list : List ℕ) (y : AnySample) {x : List ℕ} → 0 < k → at + slotSize ≤ length s
+    → y ≡ sampleIn (take (from + sampleSize - from) (drop from list))
+    → x ≡ pasted 0 (slots .enc (kind .tick y (slots .dec (take (at + slotSize - at) (drop at s))))) (take (at + slotSize - at) (drop at s))
+    → ticked kind slots (samplesIn (k - 1) (drop (from + sampleSize) list)) (at + slotSize) (take at s ++ (x ++ drop (at + slotSize - at) (drop at s)))
+    ≡ ticked kind slots (samplesIn k (drop from list)) at s
+unfolding samplesIn
+tick-round zero at from s list y p h q e = absurd (omega arith)
+tick-round (suc k) at from s list y p h q e =
     let one : suc k - 1 ≡ k = omega arith in
-    rw (one, changed-turn (kind .tick) at s h e) (ticked-turn kind slots k at s)
+    let n : from + sampleSize - from ≡ sampleSize = omega arith in
+    let own : y ≡ sampleIn (take sampleSize (drop from list)) = q ∙ ap (λ (n : ℕ). sampleIn (take n (drop from list))) n in
+    rw (one, changed-turn (kind .tick y) at s h e, ← drop-drop sampleSize from list, own)
+    (ticked-turn kind slots (sampleIn (take sampleSize (drop from list))) (samplesIn k (drop sampleSize (drop from list))) at s)
+
+-- none to go
+pub tick-over : (at : ℕ) (s l : List ℕ) → ticked kind slots (samplesIn 0 l) at s ≡ s
+unfolding samplesIn
+tick-over at s l = ticked-none kind slots at s
 
 pub put-none : (at : ℕ) (s : List ℕ) → putModules slots [] at s ≡ s
 unfolding putModules

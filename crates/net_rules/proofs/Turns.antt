@@ -30,13 +30,13 @@ module _ {M S : Type 0} (K : Kind M S) (L : Slots M) where
   unfolding speech
   speech-turn f enabled k at s = refl
 
-  pub ticked-none : (at : ℕ) (s : List ℕ) → ticked K L 0 at s ≡ s
+  pub ticked-none : (at : ℕ) (s : List ℕ) → ticked K L [] at s ≡ s
   unfolding ticked
   ticked-none at s = refl
 
-  pub ticked-turn : (k at : ℕ) (s : List ℕ) → ticked K L k (at + slotSize) (changedAt K L (K .tick) at s) ≡ ticked K L (suc k) at s
+  pub ticked-turn : (x : S) (xs : List S) (at : ℕ) (s : List ℕ) → ticked K L xs (at + slotSize) (changedAt K L (K .tick x) at s) ≡ ticked K L (x ∷ xs) at s
   unfolding ticked
-  ticked-turn k at s = refl
+  ticked-turn x xs at s = refl
 
 pub noted-none : (i : ℕ) (l : List ℕ) → noted [] i l ≡ l
 unfolding noted

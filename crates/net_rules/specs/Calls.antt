@@ -1,17 +1,18 @@
 -- What the calls on a network mean, before their refusals (document 01, "What the boards do", "Numbers given back").
-use Prim.Native.Nat.{ℕ, _+_}
+use Prim.Native.Nat.{ℕ, zero, suc, _+_, _*_}
 use mathlib.Core.List.{List, [], _∷_, map}
 use mathlib.Core.Bool.{Bool, true, false, _&&_}
 use mathlib.Core.Option.{Option, some, none}
-use lib.ListN.{length, replicate, set, getElem?}
+use lib.ListN.{length, replicate, set, getD, getElem?, take, drop}
 use lib.Dec.{eqb}
 use Rattle.line_receiver.specs.declared.Received.{Received}
 use Rattle.line_receiver.specs.declared.Answer.the-variants.{Ended, Nothing}
 use Rattle.line_receiver.specs.Receive.{idle, taken}
 use Rattle.line_receiver.specs.Frames.{Byte, frameIn}
 use Rattle.module_rules.specs.Kind.{Kind}
-use Rattle.chain_rules.specs.Chain.{Net, flat, said, byteStep, changed}
-use Rattle.types_rules.specs.Types.{Module, AnySample, kind, slots, known, typeOf, powered, outputs, causeOf}
+use Rattle.module_rules.specs.Slots.{sampleSize}
+use Rattle.chain_rules.specs.Chain.{Net, flat, said, byteStep, timed}
+use Rattle.types_rules.specs.Types.{Module, AnySample, kind, slots, known, typeOf, powered, outputs, causeOf, sampleIn, inRange}
 use Rattle.net_rules.specs.declared.Called.{Called}
 use Rattle.net_rules.specs.Record.{recordSize, stored, chainMost}
 
@@ -27,13 +28,36 @@ allKnown (t ∷ ts) = known t && allKnown ts
 unfoldable pub fresh : List ℕ → List ℕ
 fresh types = stored slots (setUp types) (replicate recordSize 0)
 
--- a tick at every module
-abbrev pub tickStep : Net Module → Net Module
-tickStep n = record { receiver = n .receiver; modules = map (kind .tick) (n .modules) }
+-- 02 P11: the samples that a tick's list has for k places: ten bytes each, in chain order
+unfoldable pub samplesIn : ℕ → List ℕ → List AnySample
+samplesIn zero l = []
+samplesIn (suc k) l = sampleIn (take sampleSize l) ∷ samplesIn k (drop sampleSize l)
 
--- a sample for the module at a place
-abbrev pub sampleStep : ℕ → AnySample → Net Module → Net Module
-sampleStep place x n = record { receiver = n .receiver; modules = changed (kind .sample x) place (n .modules) }
+-- the ten bytes that the list has for place i
+abbrev pub tenAt : List ℕ → ℕ → List ℕ
+tenAt l i = take sampleSize (drop (sampleSize * i) l)
+
+-- how long the list is for a chain of k modules
+abbrev pub listSize : ℕ → ℕ
+listSize k = sampleSize * k
+
+-- 02 P11, 13: whether each sample begins with the number of its module's type
+unfoldable pub allTyped : List Module → List ℕ → Bool
+allTyped [] l = true
+allTyped (m ∷ ms) l = eqb (getD l 0 0) (typeOf m) && allTyped ms (drop sampleSize l)
+
+-- 02 P11, 14: whether the fields of k samples are all in range
+unfoldable pub allInRange : ℕ → List ℕ → Bool
+allInRange zero l = true
+allInRange (suc k) l = inRange (take sampleSize l) && allInRange k (drop sampleSize l)
+
+-- a tick at every module, each with its own sample
+abbrev pub tickStep : List AnySample → Net Module → Net Module
+tickStep xs n = record { receiver = n .receiver; modules = timed kind xs (n .modules) }
+
+-- the samples that a tick's list has for a network
+abbrev pub samplesFor : Net Module → List ℕ → List AnySample
+samplesFor n l = samplesIn (length (n .modules)) l
 
 -- a byte of the line with its mark
 abbrev pub byteOf : ℕ → Bool → Byte

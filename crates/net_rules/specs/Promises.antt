@@ -1,14 +1,14 @@
 -- What is promised of the lent record, whatever the module type. Each is proved under its name, with small letters, in proofs/.
 use mathlib.Core.Path.{_≡_}
 use Prim.Native.Nat.{ℕ, _<_, _≤_}
-use mathlib.Core.List.{List, [], _∷_, map}
+use mathlib.Core.List.{List, [], _∷_}
 use mathlib.Core.Bool.{true}
 use lib.ListN.{length}
 use Rattle.base_layout.specs.Bytes.{Bytes}
 use Rattle.line_receiver.specs.Frames.{Byte}
 use Rattle.line_receiver.specs.Promises.{Sound}
 use Rattle.module_rules.specs.Kind.{Kind}
-use Rattle.chain_rules.specs.Chain.{Net, byteStep, changed}
+use Rattle.chain_rules.specs.Chain.{Net, byteStep, timed}
 use Rattle.module_rules.specs.Slots.{Slots, Preserves}
 use Rattle.net_rules.specs.Record.{recordSize, netIn, stored, valid, chainMost}
 
@@ -46,14 +46,8 @@ abbrev pub KeptByByte : {M S : Type 0} → Kind M S → Slots M → (S → Type 
 KeptByByte {M} K L Good =
     Preserves K L Good → (n : Net M) (b : Byte) → SoundNet L n → b .value < 256 → SoundNet L (byteStep K n b .net)
 
--- A sound network stays sound when a good sample comes, at whatever place.
-abbrev pub KeptBySample : {M S : Type 0} → Kind M S → Slots M → (S → Type 0) → Type 0
-KeptBySample {M} {S} K L Good =
-    Preserves K L Good → (n : Net M) (x : S) (i : ℕ) → SoundNet L n → Good x
-    → SoundNet L (record { receiver = n .receiver; modules = changed (K .sample x) i (n .modules) })
-
--- A sound network stays sound when its modules tick.
+-- A sound network stays sound when its modules tick with good samples.
 abbrev pub KeptByTick : {M S : Type 0} → Kind M S → Slots M → (S → Type 0) → Type 0
-KeptByTick {M} K L Good =
-    Preserves K L Good → (n : Net M) → SoundNet L n
-    → SoundNet L (record { receiver = n .receiver; modules = map (K .tick) (n .modules) })
+KeptByTick {M} {S} K L Good =
+    Preserves K L Good → (n : Net M) (xs : List S) → SoundNet L n → Each Good xs
+    → SoundNet L (record { receiver = n .receiver; modules = timed K xs (n .modules) })

@@ -45,13 +45,13 @@ module _ {M S : Type 0} (K : Kind M S) (L : Slots M) where
   speech f enabled zero at s = []
   speech f enabled (suc k) at s = wordsAt f enabled at s ∷ speech f (lowAt at s) k (at + slotSize) (turned f enabled at s)
 
-  -- one module with another record, and a tick at k modules from place at on
+  -- one module with another record, and a tick with samples for the modules from place at on
   unfoldable pub changedAt : (M → M) → ℕ → List ℕ → List ℕ
   changedAt g at s = pasted at (L .enc (g (moduleAt at s))) s
 
-  unfoldable pub ticked : ℕ → ℕ → List ℕ → List ℕ
-  ticked zero at s = s
-  ticked (suc k) at s = ticked k (at + slotSize) (changedAt (K .tick) at s)
+  unfoldable pub ticked : List S → ℕ → List ℕ → List ℕ
+  ticked [] at s = s
+  ticked (x ∷ xs) at s = ticked xs (at + slotSize) (changedAt (K .tick x) at s)
 
 -- what a turn and a walk of the code hand back
 unfoldable pub turnOf : Frame → Bool → ℕ → List ℕ → Turn

@@ -12,7 +12,7 @@ ghost use Rattle.module_rules.specs.Slots.{slotSize};
 ghost use Rattle.types_rules.specs.Types.{kind, slots};
 ghost use Rattle.net_rules.specs.Record.{recordSize, slotsAt, countAt, okSlots, netIn, stored, valid, chainMost, roomSize};
 ghost use Rattle.net_rules.specs.Walk.{walked, speech, ticked, endedOf};
-ghost use Rattle.net_rules.specs.Calls.{tickStep, calledBy, byteOf};
+ghost use Rattle.net_rules.specs.Calls.{samplesIn, listSize, samplesFor, tickStep, calledBy, byteOf};
 use line_receiver::Answer;
 use line_receiver::Receiver;
 use module_rules::Head;
@@ -72,26 +72,30 @@ pub fn byte(net: &mut [u8], value: u8, mark: bool, room: &mut [u8]) -> Called
     hand_on(net, r, damaged, room)
 }
 
-// A tick at the first n modules.
-fn tick_each(net: &mut [u8], n: usize)
-    requires { ⌜ (slotsAt + slotSize * n ≤ length (now net)) × (okSlots slots n (drop slotsAt (now net)) ≡ true) ⌝ }
-    ensures { λ _. ⌜ now (net .exit) ≡ ticked kind slots n slotsAt (now (net .entry)) ⌝ }
+// A tick at the first n modules, each with its own sample.
+fn tick_each(net: &mut [u8], n: usize, samples: &[u8])
+    requires { ⌜ (slotsAt + slotSize * n ≤ length (now net)) × (okSlots slots n (drop slotsAt (now net)) ≡ true) × (length (now samples) ≡ listSize n) ⌝ }
+    ensures { λ _. ⌜ now (net .exit) ≡ ticked kind slots (samplesIn n (now (samples .entry))) slotsAt (now (net .entry)) ⌝ }
 {
     let mut at: usize = net_rules::SLOTS_AT;
+    let mut from: usize = 0;
     let mut left = n;
     while 0 < left {
         let end = at + module_rules::SLOT_LEN;
-        types_dispatch::tick(&mut net[at..end]);
+        let to = from + module_rules::SAMPLE_LEN;
+        let x = types_dispatch::sample_in(&samples[from..to]);
+        types_dispatch::tick(&mut net[at..end], x);
         at = end;
+        from = to;
         left -= 1;
     }
 }
 
-// A tick.
-pub fn tick(net: &mut [u8])
-    requires { ⌜ valid slots (now net) ≡ true ⌝ }
-    ensures { λ _. ⌜ now (net .exit) ≡ stored slots (tickStep (netIn slots (now (net .entry)))) (now (net .entry)) ⌝ }
+// A tick with its list of samples.
+pub fn tick(net: &mut [u8], samples: &[u8])
+    requires { ⌜ (valid slots (now net) ≡ true) × (length (now samples) ≡ listSize (length (netIn slots (now net) .modules))) ⌝ }
+    ensures { λ _. ⌜ now (net .exit) ≡ stored slots (tickStep (samplesFor (netIn slots (now (net .entry))) (now (samples .entry))) (netIn slots (now (net .entry)))) (now (net .entry)) ⌝ }
 {
     let n = net[net_rules::COUNT_AT];
-    tick_each(net, n as usize);
+    tick_each(net, n as usize, samples);
 }

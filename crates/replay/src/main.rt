@@ -6,6 +6,7 @@ ghost use lib.ListN.{length, drop};
 ghost use lib.Seq.{paste};
 ghost use Rattle.replay_file.specs.Turns.{Held};
 ghost use Rattle.net_rules.specs.Record.{chainMost, recordSize};
+ghost use Rattle.net_rules.specs.Calls.{listSize};
 ghost use Rattle.replay_print.specs.Text.{textSize};
 use libc::STDOUT_FILENO;
 use replay_file::Place;
@@ -68,18 +69,19 @@ fn step(
     s: State,
     buf: &mut [u8],
     types: &mut [u8],
+    samples: &mut [u8],
     net: &mut [u8],
     out: &mut [u8],
 ) -> State
-    requires { ⌜ Held (s .at) (now types) (now net) ⌝ }
+    requires { ⌜ Held (s .at) (now types) (now samples) (now net) ⌝ }
     requires { ⌜ (s .at .offset + 11 < 2 ^ 64) × (s .start ≤ s .end) × (s .end ≤ length (now buf)) × (textSize ≤ length (now out)) ⌝ }
-    ensures { λ r. ⌜ Held (r .at) (now (types .exit)) (now (net .exit)) ⌝ }
+    ensures { λ r. ⌜ Held (r .at) (now (types .exit)) (now (samples .exit)) (now (net .exit)) ⌝ }
     ensures { λ r. ⌜ (r .at .offset ≤ s .at .offset + 11) × (r .start ≤ r .end) × (r .end ≤ length (now (buf .entry))) ⌝ }
 {
     let at = s.at;
     let start = s.start;
     let end = s.end;
-    let t = replay_play::turn(at, types, net, &buf[start..end], s.last, out);
+    let t = replay_play::turn(at, types, samples, net, &buf[start..end], s.last, out);
     let wrote = t.wrote;
     let is_written = put(&out[..wrote]);
     let next = t.next;
@@ -96,8 +98,15 @@ fn step(
 }
 
 // A proved loop has to end, and nothing says that a file does: the turns are counted down from a number that no run uses up.
-fn run(fd: i32, buf: &mut [u8], types: &mut [u8], net: &mut [u8], out: &mut [u8])
-    requires { ⌜ (length (now types) ≡ chainMost) × (length (now net) ≡ recordSize) × (textSize ≤ length (now out)) ⌝ }
+fn run(
+    fd: i32,
+    buf: &mut [u8],
+    types: &mut [u8],
+    samples: &mut [u8],
+    net: &mut [u8],
+    out: &mut [u8],
+)
+    requires { ⌜ (length (now types) ≡ chainMost) × (length (now samples) ≡ listSize chainMost) × (length (now net) ≡ recordSize) × (textSize ≤ length (now out)) ⌝ }
 {
     let mut s = State {
         at: Place::start(),
@@ -108,7 +117,7 @@ fn run(fd: i32, buf: &mut [u8], types: &mut [u8], net: &mut [u8], out: &mut [u8]
     };
     let mut turns: u64 = 1_152_921_504_606_846_976;
     while 0 < turns {
-        s = step(fd, s, buf, types, net, out);
+        s = step(fd, s, buf, types, samples, net, out);
         if s.over {
             return;
         }
@@ -119,9 +128,10 @@ fn run(fd: i32, buf: &mut [u8], types: &mut [u8], net: &mut [u8], out: &mut [u8]
 fn replay(fd: i32) {
     let mut buf = io::large_buffer();
     let mut types = [0u8; net_rules::CHAIN_MOST];
+    let mut samples = [0u8; net_rules::CHAIN_MOST * module_rules::SAMPLE_LEN];
     let mut net = [0u8; net_rules::NET_LEN];
     let mut out = [0u8; replay_print::TEXT_LEN];
-    run(fd, &mut buf, &mut types, &mut net, &mut out);
+    run(fd, &mut buf, &mut types, &mut samples, &mut net, &mut out);
 }
 
 // Replays the file that the argument names.

@@ -1,9 +1,5 @@
 -- Document 01's replay examples and more of the kind, computed; a record's bytes. Assumes nothing.
-use mathlib.Core.Path.{_≡_, refl, ap, ap₂}
-use mathlib.Core.List.{[], _∷_}
-use Prim.Native.Nat.{ℕ, _+_, _*_}
-use native.Mathlib.Omega.{arith}
-use Rattle.base_layout.specs.Bytes.{ofLe}
+use mathlib.Core.Path.{refl}
 use Rattle.line_receiver.specs.Receive.{taken}
 use Rattle.module_rules.specs.Commands.{asked}
 use Rattle.module_rules.specs.Report.{report, replyOf}
@@ -13,35 +9,29 @@ use Rattle.inout_rules.specs.Asks.{own}
 use Rattle.inout_rules.specs.Pins.{blend}
 use Rattle.servo_rules.specs.Tick.{ran, ticked}
 use Rattle.servo_rules.specs.Answers.{done, statusOf, numbersOf}
+use Rattle.net_rules.specs.Calls.{samplesIn}
 use Rattle.replay_print.specs.Text.{decimal, line, badLine}
-use Rattle.replay_file.specs.Records.{bodyLength, lineByte, servoSampleIn, ioSampleIn, sampleRecord, servoSample, ioSample, netRecord, recordStep, replayed}
-use Rattle.replay_file.specs.Promises.{Examples, Bodies, Sampled, Bad}
+use Rattle.replay_file.specs.Records.{bodyLength, lineByte, measured, sampleRecord, netRecord, recordStep, replayed}
+use Rattle.replay_file.specs.Promises.{Examples, Bodies, Sampled, Latest, Bad}
 
 pub examples : Examples
 unfolding taken asked report replyOf byteStep own request execute reply blend done statusOf numbersOf decimal line badLine bodyLength lineByte netRecord recordStep replayed
 examples = (refl, refl, refl, refl)
 
 pub bodies : Bodies
-unfolding bodyLength servoSampleIn ioSampleIn
+unfolding bodyLength measured
 bodies = record {
   joins = refl;
   lineByte = refl;
   servoSample = refl;
   ioSample = refl;
   tick = refl;
-  servo = λ place power ad r0 r1 r2 r3. ap (λ (raw : ℕ). record { raw = raw; power = power; ad = ad }) (four r0 r1 r2 r3);
-  inout = λ place i0 i1 ad1 ad2 ad3 c0 c1 c2 c3.
-      ap₂ (λ (inputs counter : ℕ). record { inputs = inputs; ad1 = ad1; ad2 = ad2; ad3 = ad3; counter = counter }) (two i0 i1) (four c0 c1 c2 c3);
+  servo = λ place power ad r0 r1 r2 r3. refl;
+  inout = λ place i0 i1 ad1 ad2 ad3 c0 c1 c2 c3. refl;
 }
-  where
-    two : (a b : ℕ) → ofLe (a ∷ b ∷ []) ≡ a + 256 * b
-    two a b = omega arith
-
-    four : (a b c d : ℕ) → ofLe (a ∷ b ∷ c ∷ d ∷ []) ≡ a + 256 * b + 65536 * c + 16777216 * d
-    four a b c d = omega arith
 
 pub bad : Bad
-unfolding decimal badLine bodyLength lineByte netRecord recordStep replayed servoSampleIn ioSampleIn sampleRecord servoSample ioSample
+unfolding decimal badLine bodyLength lineByte netRecord recordStep replayed measured sampleRecord
 bad = record {
   first = refl;
   late = refl;
@@ -58,5 +48,9 @@ bad = record {
 }
 
 pub sampled : Sampled
-unfolding taken asked report replyOf byteStep request execute reply blend done statusOf numbersOf decimal line bodyLength lineByte netRecord recordStep replayed servoSampleIn ioSampleIn sampleRecord servoSample ioSample ticked ran
+unfolding taken asked report replyOf byteStep request execute reply blend done statusOf numbersOf decimal line bodyLength lineByte netRecord recordStep replayed measured sampleRecord ticked ran samplesIn
 sampled = (refl, refl)
+
+pub latest : Latest
+unfolding taken asked report replyOf byteStep request execute reply blend decimal line bodyLength lineByte netRecord recordStep replayed measured sampleRecord samplesIn
+latest = (refl, refl, refl)

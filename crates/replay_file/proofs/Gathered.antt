@@ -5,7 +5,7 @@ use mathlib.Core.Bool.{Bool, true, false, cond, not, _&&_, _||_}
 use Prim.Native.Nat.{ℕ, suc, _+_, _<_, _≤_}
 use native.Mathlib.Numerals.{add-one}
 use native.Mathlib.Omega.{arith}
-use lib.ListN.{length, take, drop, set, length-append}
+use lib.ListN.{length, take, drop, set, replicate, length-append}
 use lib.Seq.{length-take-le, take-suc-set, set-split, append-snoc}
 use lib.Dec.{leb, ltb}
 use borrow.Author.Tests.{ltb-true, ltb-false, lt-leb, le-leb}
@@ -13,10 +13,11 @@ use Rattle.base_layout.specs.Bytes.{pasted}
 use Rattle.base_layout.proofs.Pasted.{pasted-start}
 use Rattle.types_rules.specs.Types.{slots, known}
 use Rattle.net_rules.specs.Record.{netIn, chainMost}
-use Rattle.net_rules.specs.Calls.{allKnown}
+use Rattle.net_rules.specs.Calls.{allKnown, listSize}
 use Rattle.replay_file.specs.declared.Place.{Place}
-use Rattle.replay_file.specs.Records.{gathering, running, Effect, goes, bad, moduleRecord}
+use Rattle.replay_file.specs.Records.{gathering, running, Effect, goes, bad, moduleRecord, unmeasured}
 use Rattle.replay_file.specs.Turns.{stageIn}
+use Rattle.replay_file.proofs.Measured.{unmeasured-more}
 
 pub never : {A : Type 0} → false ≡ true → A
 never e = let z : _≡_ {A = ℕ} 0 1 = cc in absurd (omega arith)
@@ -53,7 +54,7 @@ known-more (x ∷ ts) t a h = go (known x) (λ b. known-more ts t b h) a
     go true on a = on a
     go false on a = never a
 
-module _ (at : Place) (types net : List ℕ) (t : ℕ) (size : length types ≡ chainMost) (most : at .count ≤ chainMost) where
+module _ (at : Place) (types samples net : List ℕ) (t : ℕ) (size : length types ≡ chainMost) (most : at .count ≤ chainMost) where
   abbrev ts : List ℕ
   ts = take (at .count) types
 
@@ -65,10 +66,10 @@ module _ (at : Place) (types net : List ℕ) (t : ℕ) (size : length types ≡ 
   test-is false = rw (full-not (at .count), length-ts) refl
 
   -- a module that is bad, by the code's test
-  pub module-bad : ((at .running || leb chainMost (at .count)) || not (known t)) ≡ true → moduleRecord (stageIn at types net) t ≡ bad
+  pub module-bad : ((at .running || leb chainMost (at .count)) || not (known t)) ≡ true → moduleRecord (stageIn at types samples net) t ≡ bad
   module-bad h = go (at .running) (sym (test-is (at .running)) ∙ h)
     where
-      go : (r : Bool) → (r || (not (ltb (length ts) chainMost) || not (known t))) ≡ true → moduleRecord (cond r (running (netIn slots net)) (gathering ts)) t ≡ bad
+      go : (r : Bool) → (r || (not (ltb (length ts) chainMost) || not (known t))) ≡ true → moduleRecord (cond r (running (netIn slots net) (take (listSize (at .count)) samples)) (gathering ts)) t ≡ bad
       go true h = refl
       go false h = either-bad (ltb (length ts) chainMost) (known t) (goes (gathering (ts ++ t ∷ [])) []) h
 
@@ -84,7 +85,7 @@ module _ (at : Place) (types net : List ℕ) (t : ℕ) (size : length types ≡ 
     pub module-room : at .count < chainMost
     module-room = omega (arith, ltb-true (length ts) chainMost (good-parts (ltb (length ts) chainMost) (known t) (split .1) .0), length-ts)
 
-    pub module-good : moduleRecord (stageIn at types net) t ≡ goes (gathering (ts ++ t ∷ [])) []
+    pub module-good : moduleRecord (stageIn at types samples net) t ≡ goes (gathering (ts ++ t ∷ [])) []
     module-good =
         rw (split .0) (both-good (ltb (length ts) chainMost) (known t) (goes (gathering (ts ++ t ∷ [])) []) (split .1))
 
@@ -105,3 +106,17 @@ module _ (at : Place) (types net : List ℕ) (t : ℕ) (size : length types ≡ 
 
     pub types-more : length (take (at .count + 1) (set types (at .count) t)) ≡ at .count + 1
     types-more = rw types-taken (omega (arith, length-append ts (t ∷ []), length-ts))
+
+    -- and a place in the list of samples, in which nothing is measured yet
+    pub samples-put : length samples ≡ listSize chainMost → (at .running ≡ false → take (listSize (at .count)) samples ≡ unmeasured ts)
+        → pasted (listSize (at .count)) (t ∷ replicate 9 0) samples ≡ pasted 0 (unmeasured (ts ++ t ∷ [])) samples
+    samples-put room blank =
+        let r = module-room in
+        let ten : List ℕ = t ∷ replicate 9 0 in
+        let j : ℕ = listSize (at .count) in
+        let l : List ℕ = take j samples in
+        let n : length (l ++ ten) ≡ j + 10 = omega (arith, length-append l ten, length-take-le j samples (omega arith)) in
+        ap (λ (k : ℕ). (l ++ ten) ++ drop k samples) (sym n)
+        ∙ sym (pasted-start (l ++ ten) samples)
+        ∙ ap (λ (x : List ℕ). pasted 0 (x ++ ten) samples) (blank (split .0))
+        ∙ ap (λ (x : List ℕ). pasted 0 x samples) (sym (unmeasured-more ts t))

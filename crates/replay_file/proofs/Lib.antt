@@ -1,5 +1,6 @@
 pub mod Spoken
 pub mod Gathered
+pub mod Measured
 pub mod Fine
 pub mod Turning
 pub mod Whole

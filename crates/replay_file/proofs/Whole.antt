@@ -13,7 +13,7 @@ use Rattle.base_layout.proofs.Laws.{bytes-drop}
 use Rattle.replay_file.specs.declared.Place.{Place}
 use Rattle.replay_print.specs.Text.{badLine}
 use Rattle.replay_file.specs.Records.{Stage, gathering, running, Effect, goes, bad, bodyLength, recordStep, replayFrom, replayed}
-use Rattle.replay_file.specs.Turns.{start, stageIn, Held, Outcome, over, wants, judged, headSize, turnStep, turned, textAfter, turnedBy, typesBy, netBy, textBy}
+use Rattle.replay_file.specs.Turns.{start, stageIn, Held, Outcome, over, wants, judged, headSize, turnStep, turned, textAfter, turnedBy, typesBy, samplesBy, netBy, textBy}
 use Rattle.replay_file.specs.Promises.{Run, stops, turns, Whole, Ends, HeadOnly}
 use Rattle.replay_file.proofs.Gathered.{never}
 use Rattle.replay_file.proofs.Fine.{by-cond, begun}
@@ -114,16 +114,16 @@ stop-is t wants at s left h = never h
 stop-is t (judged size bad) at s left h = refl
 stop-is t (judged size (goes r said)) at s left h = never h
 
-go-is : (t : ℕ) (o : Outcome) (at : Place) (types net left text : List ℕ) → turnedBy o at .over ≡ false → LeadsBy at types net o
-    → text ≡ replayFrom t (stageIn (turnedBy o at .next) (typesBy o types) (netBy o net)) (turnedBy o at .next .offset) (drop (turnedBy o at .took) left)
-    → textBy o (at .offset) ++ text ≡ onward t o (stageIn at types net) (at .offset) left
-unfolding turnedBy turned textBy textAfter typesBy netBy
-go-is t over at types net left text h d e = never (sym h)
-go-is t wants at types net left text h d e = e
-go-is t (judged size bad) at types net left text h d e = never (sym h)
-go-is t (judged size (goes (gathering ts) said)) at types net left text h d e =
+go-is : (t : ℕ) (o : Outcome) (at : Place) (types samples net left text : List ℕ) → turnedBy o at .over ≡ false → LeadsBy at types samples net o
+    → text ≡ replayFrom t (stageIn (turnedBy o at .next) (typesBy o types) (samplesBy o samples) (netBy o net)) (turnedBy o at .next .offset) (drop (turnedBy o at .took) left)
+    → textBy o (at .offset) ++ text ≡ onward t o (stageIn at types samples net) (at .offset) left
+unfolding turnedBy turned textBy textAfter typesBy samplesBy netBy
+go-is t over at types samples net left text h d e = never (sym h)
+go-is t wants at types samples net left text h d e = e
+go-is t (judged size bad) at types samples net left text h d e = never (sym h)
+go-is t (judged size (goes (gathering ts) said)) at types samples net left text h d e =
     ap (λ (x : List ℕ). said ++ x) (e ∙ ap (λ (r : Stage). replayFrom t r (at .offset + size) (drop size left)) d)
-go-is t (judged size (goes (running n) said)) at types net left text h d e =
+go-is t (judged size (goes (running n l) said)) at types samples net left text h d e =
     ap (λ (x : List ℕ). said ++ x) (e ∙ ap (λ (r : Stage). replayFrom t r (at .offset + size) (drop size left)) d)
 
 bytes-first : (a b : List ℕ) → Bytes (a ++ b) → Bytes a
@@ -131,22 +131,22 @@ bytes-first [] b h i = omega arith
 bytes-first (x ∷ a) b h zero = h 0
 bytes-first (x ∷ a) b h (suc i) = bytes-first a b (λ j. h (suc j)) i
 
-run-is : {at : Place} {types net left text : List ℕ} → Run at types net left text → (t : ℕ) → Held at types net → Bytes left → length left ≤ t
-    → text ≡ replayFrom t (stageIn at types net) (at .offset) left
-run-is {at} {types} {net} (stops input more last honest h) t k b l =
-    stop-is t (turnStep (stageIn at types net) input last) at (stageIn at types net) (input ++ more) h
-    ∙ sym (turn-is t (stageIn at types net) (at .offset) input more last honest l)
-run-is {at} {types} {net} (turns input more last {text} honest h r) t k b l =
-    let o : Outcome = turnStep (stageIn at types net) input last in
-    let d : Done at types net (length input) o = done at types net k input (bytes-first input more b) last in
+run-is : {at : Place} {types samples net left text : List ℕ} → Run at types samples net left text → (t : ℕ) → Held at types samples net → Bytes left → length left ≤ t
+    → text ≡ replayFrom t (stageIn at types samples net) (at .offset) left
+run-is {at} {types} {samples} {net} (stops input more last honest h) t k b l =
+    stop-is t (turnStep (stageIn at types samples net) input last) at (stageIn at types samples net) (input ++ more) h
+    ∙ sym (turn-is t (stageIn at types samples net) (at .offset) input more last honest l)
+run-is {at} {types} {samples} {net} (turns input more last {text} honest h r) t k b l =
+    let o : Outcome = turnStep (stageIn at types samples net) input last in
+    let d : Done at types samples net (length input) o = done at types samples net k input (bytes-first input more b) last in
     let n = length-drop (turnedBy o at .took) (input ++ more) in
-    go-is t o at types net (input ++ more) text h (d .leads)
+    go-is t o at types samples net (input ++ more) text h (d .leads)
     (run-is r t (d .held) (bytes-drop (turnedBy o at .took) (input ++ more) b) (omega arith))
-    ∙ sym (turn-is t (stageIn at types net) (at .offset) input more last honest l)
+    ∙ sym (turn-is t (stageIn at types samples net) (at .offset) input more last honest l)
 
 pub whole : Whole
 unfolding replayed
-whole types net file text e l b f r = run-is r (length file) (begun types net e l b) f (omega arith)
+whole types samples net file text l f r = run-is r (length file) (begun types samples net l) f (omega arith)
 
 pub head-only : HeadOnly
 head-only s [] more last end p h = absurd (omega arith)
@@ -175,19 +175,19 @@ progress s left =
     taken size bad p q = tt
     taken size (goes r said) p q = (p, q)
 
-record SomeRun (at : Place) (types net left : List ℕ) : Type 0 where
+record SomeRun (at : Place) (types samples net left : List ℕ) : Type 0 where
   pub text : List ℕ
-  pub run : Run at types net left text
+  pub run : Run at types samples net left text
 
-module _ (at : Place) (types net left : List ℕ) where
+module _ (at : Place) (types samples net left : List ℕ) where
   abbrev first : Outcome
-  first = turnStep (stageIn at types net) left true
+  first = turnStep (stageIn at types samples net) left true
 
   close-run : (o : Outcome) → first ≡ o → Progress (length left) o
       → (1 ≤ turnedBy first at .took
       → turnedBy first at .took ≤ length left
-      → SomeRun (turnedBy first at .next) (typesBy first types) (netBy first net) (drop (turnedBy first at .took) (left ++ [])))
-      → SomeRun at types net (left ++ [])
+      → SomeRun (turnedBy first at .next) (typesBy first types) (samplesBy first samples) (netBy first net) (drop (turnedBy first at .took) (left ++ [])))
+      → SomeRun at types samples net (left ++ [])
   unfolding turnedBy turned
   close-run over e p next =
       record { text = textBy first (at .offset); run = stops left [] true (λ q. refl) (ap (λ (o : Outcome). turnedBy o at .over) e) }
@@ -199,20 +199,20 @@ module _ (at : Place) (types net left : List ℕ) where
       let r = next (omega arith) (omega arith) in
       record { text = textBy first (at .offset) ++ r .text; run = turns left [] true (λ q. refl) (ap (λ (o : Outcome). turnedBy o at .over) e) (r .run) }
 
-some-run : (t : ℕ) (at : Place) (types net left : List ℕ) → Held at types net → Bytes left → length left < t → SomeRun at types net left
-some-run zero at types net left k b l = absurd (omega arith)
-some-run (suc t) at types net left k b l =
-    let o : Outcome = turnStep (stageIn at types net) left true in
-    let d : Done at types net (length left) o = done at types net k left b true in
+some-run : (t : ℕ) (at : Place) (types samples net left : List ℕ) → Held at types samples net → Bytes left → length left < t → SomeRun at types samples net left
+some-run zero at types samples net left k b l = absurd (omega arith)
+some-run (suc t) at types samples net left k b l =
+    let o : Outcome = turnStep (stageIn at types samples net) left true in
+    let d : Done at types samples net (length left) o = done at types samples net k left b true in
     let e = append-nil left in
-    subst (λ (x : List ℕ). SomeRun at types net x) e
-    (close-run at types net left o refl (progress (stageIn at types net) left)
+    subst (λ (x : List ℕ). SomeRun at types samples net x) e
+    (close-run at types samples net left o refl (progress (stageIn at types samples net) left)
     (λ p q.
-    some-run t (turnedBy o at .next) (typesBy o types) (netBy o net) (drop (turnedBy o at .took) (left ++ [])) (d .held)
+    some-run t (turnedBy o at .next) (typesBy o types) (samplesBy o samples) (netBy o net) (drop (turnedBy o at .took) (left ++ [])) (d .held)
     (bytes-drop (turnedBy o at .took) (left ++ []) (subst Bytes (sym e) b))
     (omega (arith, length-drop (turnedBy o at .took) (left ++ []), ap length e))))
 
 pub ends : Ends
-ends types net file e l b f =
-    let r = some-run (suc (length file)) start types net file (begun types net e l b) f (omega arith) in
-    subst (λ (x : List ℕ). Run start types net file x) (whole types net file (r .text) e l b f (r .run)) (r .run)
+ends types samples net file l f =
+    let r = some-run (suc (length file)) start types samples net file (begun types samples net l) f (omega arith) in
+    subst (λ (x : List ℕ). Run start types samples net file x) (whole types samples net file (r .text) l f (r .run)) (r .run)

@@ -1,49 +1,50 @@
 -- What is promised of a replay. Each is proved under its name, with small letters, in proofs/.
 use mathlib.Core.Path.{_≡_}
-use Prim.Native.Nat.{ℕ, _+_, _*_, _≤_}
+use Prim.Native.Nat.{ℕ, _+_, _≤_}
 use mathlib.Core.List.{List, [], _∷_, _++_}
 use mathlib.Core.Bool.{Bool, true, false}
 use lib.ListN.{length, drop}
 use Rattle.base_layout.specs.Bytes.{Bytes}
 use Rattle.net_rules.specs.Record.{recordSize, chainMost}
+use Rattle.net_rules.specs.Calls.{listSize}
 use Rattle.replay_file.specs.declared.Place.{Place}
-use Rattle.replay_file.specs.Records.{Stage, bodyLength, servoSampleIn, ioSampleIn, replayed}
-use Rattle.replay_file.specs.Turns.{start, stageIn, headSize, turnStep, turnedBy, typesBy, netBy, textBy}
+use Rattle.replay_file.specs.Records.{Stage, bodyLength, measured, replayed}
+use Rattle.replay_file.specs.Turns.{start, stageIn, headSize, turnStep, turnedBy, typesBy, samplesBy, netBy, textBy}
 
 -- 01 Replay file: a run of turns over the bytes that are left of a file, and all that it prints. Each turn is handed some of the bytes left, from the first on, as
 -- many as the caller likes; that they are the last is said only of all of them. What it hands back and leaves in the slices goes into the next turn.
-pub data Run : Place → List ℕ → List ℕ → List ℕ → List ℕ → Type 0 where
-  stops : {at : Place} {types net : List ℕ} (input more : List ℕ) (last : Bool)
+pub data Run : Place → List ℕ → List ℕ → List ℕ → List ℕ → List ℕ → Type 0 where
+  stops : {at : Place} {types samples net : List ℕ} (input more : List ℕ) (last : Bool)
       → (last ≡ true → more ≡ [])
-      → turnedBy (turnStep (stageIn at types net) input last) at .over ≡ true
-      → Run at types net (input ++ more) (textBy (turnStep (stageIn at types net) input last) (at .offset))
-  turns : {at : Place} {types net : List ℕ} (input more : List ℕ) (last : Bool) {text : List ℕ}
+      → turnedBy (turnStep (stageIn at types samples net) input last) at .over ≡ true
+      → Run at types samples net (input ++ more) (textBy (turnStep (stageIn at types samples net) input last) (at .offset))
+  turns : {at : Place} {types samples net : List ℕ} (input more : List ℕ) (last : Bool) {text : List ℕ}
       → (last ≡ true → more ≡ [])
-      → turnedBy (turnStep (stageIn at types net) input last) at .over ≡ false
-      → Run (turnedBy (turnStep (stageIn at types net) input last) at .next) (typesBy (turnStep (stageIn at types net) input last) types)
-      (netBy (turnStep (stageIn at types net) input last) net) (drop (turnedBy (turnStep (stageIn at types net) input last) at .took) (input ++ more)) text
-      → Run at types net (input ++ more) (textBy (turnStep (stageIn at types net) input last) (at .offset) ++ text)
+      → turnedBy (turnStep (stageIn at types samples net) input last) at .over ≡ false
+      → Run (turnedBy (turnStep (stageIn at types samples net) input last) at .next) (typesBy (turnStep (stageIn at types samples net) input last) types)
+      (samplesBy (turnStep (stageIn at types samples net) input last) samples) (netBy (turnStep (stageIn at types samples net) input last) net)
+      (drop (turnedBy (turnStep (stageIn at types samples net) input last) at .took) (input ++ more)) text
+      → Run at types samples net (input ++ more) (textBy (turnStep (stageIn at types samples net) input last) (at .offset) ++ text)
+
+-- the slices that a replay is lent, whatever they hold
+pub record Lent (types samples net : List ℕ) : Type 0 where
+  pub size : length types ≡ chainMost
+  pub room : length samples ≡ listSize chainMost
+  pub long : length net ≡ recordSize
+  pub bytes : Bytes net
 
 -- 01 Replay file: in whatever pieces a file is handed over, and whatever the slices held before: a run over all of it prints what document 01 says.
 abbrev pub Whole : Type 0
 Whole =
-    (types net file text : List ℕ)
-    → length types ≡ chainMost
-    → length net ≡ recordSize
-    → Bytes net
+    (types samples net file text : List ℕ)
+    → Lent types samples net
     → Bytes file
-    → Run start types net file text
+    → Run start types samples net file text
     → text ≡ replayed file
 
 -- 01 Replay file: there is such a run for every file: with all the bytes left at each turn.
 abbrev pub Ends : Type 0
-Ends =
-    (types net file : List ℕ)
-    → length types ≡ chainMost
-    → length net ≡ recordSize
-    → Bytes net
-    → Bytes file
-    → Run start types net file (replayed file)
+Ends = (types samples net file : List ℕ) → Lent types samples net → Bytes file → Run start types samples net file (replayed file)
 
 -- 01 Replay file: a turn that is handed the whole record at the head does not look at what follows it, nor at whether anything does.
 abbrev pub HeadOnly : Type 0
@@ -61,7 +62,8 @@ Examples =
     × (replayed (0 ∷ 2 ∷ 1 ∷ 0 ∷ 0xAA ∷ 1 ∷ 0 ∷ 0 ∷ 1 ∷ 0 ∷ 0x0E ∷ 1 ∷ 0 ∷ 0x0F ∷ []) ≡ 48 ∷ 32 ∷ 48 ∷ 50 ∷ 32 ∷ 48 ∷ 50 ∷ 10 ∷ [])
     × (replayed [] ≡ [])
 
--- 01 Replay file: how many bytes follow the kind byte, and what those of the samples are, every number least significant byte first.
+-- 01 Replay file: how many bytes follow the kind byte, and what those of the samples are, every number least significant byte first: as in a tick's list
+-- (02 P11).
 pub record Bodies : Type 0 where
   pub joins : bodyLength 0 ≡ 1
   pub lineByte : bodyLength 1 ≡ 2
@@ -69,17 +71,10 @@ pub record Bodies : Type 0 where
   pub ioSample : bodyLength 3 ≡ 10
   pub tick : bodyLength 4 ≡ 0
   pub servo : (place power ad r0 r1 r2 r3 : ℕ)
-      → servoSampleIn (place ∷ power ∷ ad ∷ r0 ∷ r1 ∷ r2 ∷ r3 ∷ [])
-      ≡ record { raw = r0 + 256 * r1 + 65536 * r2 + 16777216 * r3; power = power; ad = ad }
+      → measured 0 (place ∷ power ∷ ad ∷ r0 ∷ r1 ∷ r2 ∷ r3 ∷ []) ≡ 0 ∷ power ∷ ad ∷ r0 ∷ r1 ∷ r2 ∷ r3 ∷ 0 ∷ 0 ∷ 0 ∷ []
   pub inout : (place i0 i1 ad1 ad2 ad3 c0 c1 c2 c3 : ℕ)
-      → ioSampleIn (place ∷ i0 ∷ i1 ∷ ad1 ∷ ad2 ∷ ad3 ∷ c0 ∷ c1 ∷ c2 ∷ c3 ∷ [])
-      ≡ record {
-        inputs = i0 + 256 * i1;
-        ad1 = ad1;
-        ad2 = ad2;
-        ad3 = ad3;
-        counter = c0 + 256 * c1 + 65536 * c2 + 16777216 * c3;
-      }
+      → measured 2 (place ∷ i0 ∷ i1 ∷ ad1 ∷ ad2 ∷ ad3 ∷ c0 ∷ c1 ∷ c2 ∷ c3 ∷ [])
+      ≡ 2 ∷ i0 ∷ i1 ∷ ad1 ∷ ad2 ∷ ad3 ∷ c0 ∷ c1 ∷ c2 ∷ c3 ∷ []
 
 -- records of line bytes, none of them marked
 abbrev pub onLine : List ℕ → List ℕ
@@ -98,6 +93,23 @@ Sampled =
     ++ (2 ∷ 1 ∷ 1 ∷ 0xAB ∷ 0x78 ∷ 0x56 ∷ 0x34 ∷ 0x12 ∷ 4 ∷ onLine (0xAA ∷ 0 ∷ 0x13 ∷ 3 ∷ 0x16 ∷ [])))
     ≡ (48 ∷ 32 ∷ 48 ∷ 48 ∷ 32 ∷ 48 ∷ 48 ∷ 10 ∷ [])
     ++ (49 ∷ 32 ∷ 49 ∷ 57 ∷ 32 ∷ 55 ∷ 56 ∷ 32 ∷ 53 ∷ 54 ∷ 32 ∷ 51 ∷ 52 ∷ 32 ∷ 49 ∷ 50 ∷ 32 ∷ 65 ∷ 66 ∷ 32 ∷ 68 ∷ 56 ∷ 10 ∷ []))
+
+-- 02 P11: an I/O module that is asked for its first A/D value: after two samples and a tick it shows the later one, and so it does after another tick; after
+-- a tick with no sample it shows 0, and a sample shows no sooner than its tick. Printed are "0 00 09 09", "0 00 00 00" and "0 00 00 00".
+abbrev pub asked : List ℕ
+asked = onLine (0xAA ∷ 0 ∷ 0x13 ∷ 2 ∷ 0x15 ∷ [])
+
+abbrev pub sampledAd : ℕ → List ℕ
+sampledAd ad = 3 ∷ 0 ∷ 0 ∷ 0 ∷ ad ∷ 0 ∷ 0 ∷ 0 ∷ 0 ∷ 0 ∷ 0 ∷ []
+
+abbrev pub told : ℕ → List ℕ
+told digit = 48 ∷ 32 ∷ 48 ∷ 48 ∷ 32 ∷ 48 ∷ digit ∷ 32 ∷ 48 ∷ digit ∷ 10 ∷ []
+
+abbrev pub Latest : Type 0
+Latest =
+    (replayed (0 ∷ 2 ∷ sampledAd 7 ++ sampledAd 9 ++ 4 ∷ 4 ∷ asked) ≡ told 57)
+    × (replayed (0 ∷ 2 ∷ 4 ∷ asked) ≡ told 48)
+    × (replayed (0 ∷ 2 ∷ 4 ∷ sampledAd 9 ++ asked) ≡ told 48)
 
 -- "bad ", an offset of one digit and a newline
 abbrev pub badAt : ℕ → List ℕ

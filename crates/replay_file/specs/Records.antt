@@ -1,19 +1,17 @@
 -- What the records of a replay file do, one after another, and what is printed.
-use Prim.Native.Nat.{ℕ, zero, suc, _+_}
+use Prim.Native.Nat.{ℕ, zero, suc, _+_, _*_}
 use mathlib.Core.List.{List, [], _∷_, _++_}
-use mathlib.Core.Bool.{Bool, cond, _&&_}
+use mathlib.Core.Bool.{cond, _&&_}
 use mathlib.Core.Option.{Option, some, none}
-use lib.ListN.{length, getD, take, drop}
+use lib.ListN.{length, getD, take, drop, replicate}
 use lib.Dec.{eqb, leb, ltb}
-use Rattle.base_layout.specs.Bytes.{ofLe, readAt}
-use Rattle.inout_rules.specs.declared.Sample as InoutSample
+use Rattle.base_layout.specs.Bytes.{pasted}
+use Rattle.module_rules.specs.Slots.{sampleSize}
 use Rattle.inout_rules.specs.Answers as Inouts
-use Rattle.servo_rules.specs.declared.Sample as ServoSample
 use Rattle.servo_rules.specs.Answers as Servos
 use Rattle.chain_rules.specs.Chain.{Net, Step, byteStep}
-use Rattle.types_rules.specs.Table.{servo, inout}
-use Rattle.types_rules.specs.Types.{Module, AnySample, kind, known}
-use Rattle.net_rules.specs.Calls.{setUp, tickStep, sampleStep, byteOf, ofType}
+use Rattle.types_rules.specs.Types.{Module, kind, known, inRange}
+use Rattle.net_rules.specs.Calls.{setUp, samplesFor, tickStep, byteOf, ofType}
 use Rattle.replay_print.specs.Text.{lines, badLine}
 use Rattle.net_rules.specs.Record.{chainMost}
 
@@ -27,10 +25,11 @@ bodyLength k =
     (cond (eqb k 3) 10
     0)))
 
--- 01 Replay file: kind 0 only first. So a replay first gathers the types of its modules, and then it has a network.
+-- 01 Replay file: kind 0 only first. So a replay first gathers the types of its modules, and then it has a network and, as 02 P11 asks, the list of
+-- samples for its next tick.
 pub data Stage : Type 0 where
   gathering : List ℕ → Stage
-  running : Net Module → Stage
+  running : Net Module → List ℕ → Stage
 
 -- 01 Replay file: a record is taken, with what is printed for it, or it is bad.
 pub data Effect : Type 0 where
@@ -39,61 +38,52 @@ pub data Effect : Type 0 where
 
 -- 01 Replay file: a module: bad after any other kind, of a type that there is not, or as the 33rd.
 abbrev pub moduleRecord : Stage → ℕ → Effect
-moduleRecord (running n) t = bad
+moduleRecord (running n list) t = bad
 moduleRecord (gathering ts) t = cond (ltb (length ts) chainMost && known t) (goes (gathering (ts ++ t ∷ [])) []) bad
 
 -- 01 Replay file: a line byte prints a line for each reply; 01 Numbers given back, 14: its mark is 0 or 1.
-unfoldable pub lineByte : Net Module → ℕ → ℕ → Effect
-lineByte n mark value =
+unfoldable pub lineByte : Net Module → List ℕ → ℕ → ℕ → Effect
+lineByte n list mark value =
     let s : Step Module = byteStep kind n (byteOf value (eqb mark 1)) in
-    cond (leb mark 1) (goes (running (s .net)) (lines (s .replies))) bad
+    cond (leb mark 1) (goes (running (s .net) list) (lines (s .replies))) bad
 
--- 01 Replay file: the body of a servo sample: place, power, A/D, raw 4.
-unfoldable pub servoSampleIn : List ℕ → ServoSample.Sample
-servoSampleIn body = record { raw = ofLe (readAt 4 3 body); power = getD body 1 0; ad = getD body 2 0 }
+-- 02 P11: before any sample there are zeros behind each type.
+abbrev pub unmeasured : List ℕ → List ℕ
+unmeasured [] = []
+unmeasured (t ∷ ts) = t ∷ replicate 9 0 ++ unmeasured ts
 
--- 01 Replay file: the body of an I/O sample: place, inputs 2, A/D 3, counter 4.
-unfoldable pub ioSampleIn : List ℕ → InoutSample.Sample
-ioSampleIn body = record {
-  inputs = ofLe (readAt 2 1 body);
-  ad1 = getD body 3 0;
-  ad2 = getD body 4 0;
-  ad3 = getD body 5 0;
-  counter = ofLe (readAt 4 6 body);
-}
+-- 01 Replay file, 02 P11: the ten bytes of a sample record for a module of type t: the type, the body without its place, zeros.
+unfoldable pub measured : ℕ → List ℕ → List ℕ
+measured t body = pasted 0 (t ∷ drop 1 body) (replicate sampleSize 0)
 
--- 01 Numbers given back, 13 and 14: the place has a module of type t, and the sample's fields are in range, as fine says.
-unfoldable pub sampleRecord : ℕ → Bool → AnySample → ℕ → Net Module → Effect
-sampleRecord t fine x place n = cond (ofType t n place && fine) (goes (running (sampleStep place x n)) []) bad
-
--- 01 Servo: power is 0 to 2.
-unfoldable pub servoSample : Net Module → List ℕ → Effect
-servoSample n body = sampleRecord Servos.typeNumber (ltb (servoSampleIn body .power) 3) (servo, servoSampleIn body) (getD body 0 0) n
-
--- 01 I/O module: the inputs are twelve bits.
-unfoldable pub ioSample : Net Module → List ℕ → Effect
-ioSample n body = sampleRecord Inouts.typeNumber (ltb (ioSampleIn body .inputs) 4096) (inout, ioSampleIn body) (getD body 0 0) n
+-- 01 Numbers given back, 13 and 14: the place, which comes first, has a module of type t, and the fields are in range. 02 P11: the sample takes the place
+-- of the one before it in the list, and waits there for ticks.
+unfoldable pub sampleRecord : ℕ → Net Module → List ℕ → List ℕ → Effect
+sampleRecord t n list body =
+    cond (ofType t n (getD body 0 0) && inRange (measured t body))
+    (goes (running n (pasted (sampleSize * getD body 0 0) (measured t body) list)) [])
+    bad
 
 -- 01 Replay file: a record of each kind that needs a network; any kind but these is unknown.
-unfoldable pub netRecord : ℕ → Net Module → List ℕ → Effect
-netRecord k n body =
-    cond (eqb k 1) (lineByte n (getD body 0 0) (getD body 1 0))
-    (cond (eqb k 2) (servoSample n body)
-    (cond (eqb k 3) (ioSample n body)
-    (cond (eqb k 4) (goes (running (tickStep n)) [])
+unfoldable pub netRecord : ℕ → Net Module → List ℕ → List ℕ → Effect
+netRecord k n list body =
+    cond (eqb k 1) (lineByte n list (getD body 0 0) (getD body 1 0))
+    (cond (eqb k 2) (sampleRecord Servos.typeNumber n list body)
+    (cond (eqb k 3) (sampleRecord Inouts.typeNumber n list body)
+    (cond (eqb k 4) (goes (running (tickStep (samplesFor n list) n) list) [])
     bad)))
 
--- 01 Replay file: the network that a record works on: none before any module, and newly set up when the last module is in.
-abbrev pub netOf : Stage → Option (Net Module)
+-- 01 Replay file: the network and the list that a record works on: none before any module, and newly set up when the last module is in.
+abbrev pub netOf : Stage → Option (Net Module × List ℕ)
 netOf (gathering []) = none
-netOf (gathering (t ∷ ts)) = some (setUp (t ∷ ts))
-netOf (running n) = some n
+netOf (gathering (t ∷ ts)) = some (setUp (t ∷ ts), unmeasured (t ∷ ts))
+netOf (running n list) = some (n, list)
 
 -- 01 Replay file: one record.
 unfoldable pub recordStep : Stage → ℕ → List ℕ → Effect
 recordStep stage k body =
     cond (eqb k 0) (moduleRecord stage (getD body 0 0))
-    (elim (netOf stage) [ none ↦ bad | some n ↦ netRecord k n body ])
+    (elim (netOf stage) [ none ↦ bad | some p ↦ netRecord k (p .0) (p .1) body ])
 
 -- 01 Replay file: what is printed for the bytes left, of which the first stands at offset in the file; a bad record, or one that the file's end
 -- cuts, ends it. As many turns as there are bytes are enough.

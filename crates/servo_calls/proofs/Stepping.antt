@@ -11,21 +11,20 @@ use Rattle.servo_rules.specs.declared.Counts.{Counts}
 use Rattle.servo_rules.specs.declared.Run.{Run}
 use Rattle.servo_rules.specs.State.{positionAt}
 use Rattle.servo_rules.specs.Tick.{ran, ticked}
-use Rattle.servo_slot_rules.specs.Slot.{sample, counts, gains, run, waitingAt, latchedAt, countsAt, tuningAt, profileAt, servoSize, encodeOf, decodeOf, okOf}
+use Rattle.servo_slot_rules.specs.Slot.{sample, counts, gains, run, latchedAt, countsAt, tuningAt, profileAt, servoSize, encodeOf, decodeOf, okOf}
 use Rattle.servo_slot_rules.specs.Parts.{tickedOver}
 use Rattle.servo_slot_rules.proofs.Over.{ticked-over}
 
-pub tick-is : (s : List ℕ) {s′ : List ℕ} {waiting latched : Sample} {k : Counts} {g : Gains} {before after : Run} {here last : ℕ}
+pub tick-is : (x : Sample) (s : List ℕ) {s′ : List ℕ} {latched : Sample} {k : Counts} {g : Gains} {before after : Run} {here last : ℕ}
     → servoSize ≤ length s → Bytes s → okOf s ≡ true
-    → waiting ≡ sample .codec .dec waitingAt s
     → latched ≡ sample .codec .dec latchedAt s
     → k ≡ counts .codec .dec countsAt s
     → g ≡ gains .codec .dec tuningAt s
     → before ≡ run .codec .dec profileAt s
     → last ≡ positionAt latched k
-    → here ≡ positionAt waiting k
-    → after ≡ ran (waiting .power) here g before
-    → s′ ≡ tickedOver waiting last after s
-    → s′ ≡ pasted 0 (encodeOf (ticked (decodeOf s))) s
+    → here ≡ positionAt x k
+    → after ≡ ran (x .power) here g before
+    → s′ ≡ tickedOver x last after s
+    → s′ ≡ pasted 0 (encodeOf (ticked x (decodeOf s))) s
 unfolding decodeOf ticked
-tick-is s h bytes ok ew el ek eg eb ea eh er p = p ∙ rw (er, eh, ea, eb, eg, ek, el, ew) (sym (ticked-over s h bytes ok))
+tick-is x s h bytes ok el ek eg eb ea eh er p = p ∙ rw (er, eh, ea, eb, eg, ek, el) (sym (ticked-over s h bytes ok x))

@@ -9,7 +9,6 @@ ghost use Rattle.module_rules.specs.Kind.{executed, replied};
 ghost use Rattle.module_rules.specs.Rules.{wants, settled, kindOf};
 ghost use Rattle.module_rules.specs.Slots.{slotSize};
 ghost use Rattle.module_rules.specs.Owes.{replySize};
-ghost use Rattle.servo_rules.specs.State.{sampled};
 ghost use Rattle.servo_rules.specs.Tick.{ticked};
 ghost use Rattle.servo_rules.specs.Answers.{outputsOf, servo, execute, reply};
 ghost use Rattle.servo_slot_rules.specs.Slot.{encodeOf, decodeOf, okOf};
@@ -54,8 +53,8 @@ fn settle(s: &mut [u8], f: Head, alone: bool, ds: &[u8])
             module_station::put_station(s, module_station::with_cause(x, 0));
         }
         Request::Reset => {
-            let samples = servo_slot_read::samples_in(s);
-            servo_slot_put::put(s, servo_perform::fresh(samples));
+            let latched = servo_slot_read::latched_in(s);
+            servo_slot_put::put(s, servo_perform::fresh(latched));
         }
         Request::Wants(order) => {
             perform(s, order);
@@ -96,31 +95,17 @@ pub fn touch(s: &mut [u8], f: Head, ds: &[u8], room: &mut [u8], from: usize) -> 
     0
 }
 
-// The servo in a slot, after a tick; what a tick leaves is neither read nor put.
-pub fn tick(s: &mut [u8])
+// The servo in a slot, after a tick with this sample; what a tick leaves is neither read nor put.
+pub fn tick(s: &mut [u8], x: Sample)
     requires { ⌜ (length (now s) ≡ slotSize) × (okOf (now s) ≡ true) ⌝ }
-    ensures { λ _. ⌜ now (s .exit) ≡ pasted 0 (encodeOf (ticked (decodeOf (now (s .entry))))) (now (s .entry)) ⌝ }
+    ensures { λ _. ⌜ now (s .exit) ≡ pasted 0 (encodeOf (ticked x (decodeOf (now (s .entry))))) (now (s .entry)) ⌝ }
 {
-    let waiting = servo_slot_read::waiting_in(s);
     let counts = servo_slot_read::counts_in(s);
     let last = servo_run::position(servo_slot_read::latched_in(s), counts);
-    let here = servo_run::position(waiting, counts);
+    let here = servo_run::position(x, counts);
     let gains = servo_slot_read::gains_in(s);
     let run = servo_slot_read::run_in(s);
-    servo_slot_put::put_ticked(
-        s,
-        waiting,
-        last,
-        servo_tick::ran(waiting.power, here, gains, run),
-    );
-}
-
-// The servo in a slot, with a sample waiting.
-pub fn put_sample(s: &mut [u8], x: Sample)
-    requires { ⌜ (length (now s) ≡ slotSize) × (okOf (now s) ≡ true) ⌝ }
-    ensures { λ _. ⌜ now (s .exit) ≡ pasted 0 (encodeOf (sampled x (decodeOf (now (s .entry))))) (now (s .entry)) ⌝ }
-{
-    servo_slot_put::put_sample(s, x);
+    servo_slot_put::put_ticked(s, x, last, servo_tick::ran(x.power, here, gains, run));
 }
 
 // What the board drives for the servo in a slot.

@@ -12,7 +12,6 @@ use servo_rules::Order;
 use servo_rules::Rates;
 use servo_rules::Run;
 use servo_rules::Sample;
-use servo_rules::Samples;
 use servo_rules::Servo;
 use servo_rules::Settings;
 use servo_rules::Tuning;
@@ -69,15 +68,15 @@ fn no_run() -> Run
     }
 }
 
-// Power-up with these samples, at position 0.
-pub fn fresh(x: Samples) -> Servo
+// Power-up with this sample latched, at position 0.
+pub fn fresh(x: Sample) -> Servo
     ensures { λ r. ⌜ r ≡ fresh x ⌝ }
 {
     Servo {
         station: module_station::power_up(),
-        samples: x,
+        latched: x,
         counts: Counts {
-            offset: x.latched.raw,
+            offset: x.raw,
             last: 0,
         },
         settings: no_settings(),
@@ -88,14 +87,10 @@ pub fn fresh(x: Samples) -> Servo
 pub fn power_up() -> Servo
     ensures { λ r. ⌜ r ≡ started ⌝ }
 {
-    let none = Sample {
+    fresh(Sample {
         raw: 0,
         power: 0,
         ad: 0,
-    };
-    fresh(Samples {
-        waiting: none,
-        latched: none,
     })
 }
 

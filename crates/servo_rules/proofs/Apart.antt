@@ -66,8 +66,7 @@ apart = record {
   again = λ s t m. refl;
   perform = λ c m. ap (λ (n : Servo). n .station) (order-blind c (m .station) m);
   renewed = λ m. refl;
-  sample = λ x m. refl;
-  tick = λ m. refl;
+  tick = λ x m. refl;
 }
 
 pub unseen : Unseen servo
@@ -76,8 +75,7 @@ unseen = record {
   renewed = λ s m. refl;
   can = can-blind;
   perform = order-blind;
-  sample = λ x s m. refl;
-  tick = λ s m. refl;
+  tick = λ x s m. refl;
   numbers = λ s m. refl;
   outputs = λ s m. refl;
   status = λ s m e.
@@ -85,6 +83,6 @@ unseen = record {
       bitAt 1 (done (m .run))
       + cond t 0 2
       + bitAt 4 (m .run .drive .cut)
-      + bitAt 8 (good (m .samples .latched .power))
+      + bitAt 8 (good (m .latched .power))
       + bitAt 16 (m .run .drive .error)) e;
 }

@@ -15,6 +15,7 @@ use Rattle.servo_rules.specs.declared.Order.{Order}
 use Rattle.servo_rules.specs.declared.Order.the-variants.{ResetPosition, LoadTrajectory, Start, SetGain, Stop, ClearBits}
 use Rattle.servo_rules.specs.declared.Mode.the-variants.{Off, Pwm, Hold, Velocity, Trapezoid}
 use Rattle.servo_rules.specs.declared.Run.{Run}
+use Rattle.servo_rules.specs.declared.Sample.{Sample}
 use Rattle.servo_rules.specs.declared.Servo.{Servo}
 use Rattle.servo_rules.specs.Carried.{isSet, carriedIn}
 use Rattle.servo_rules.specs.State.{position, servoOff, idled, off}
@@ -69,12 +70,12 @@ order-rests (SetGain t) m k r n = r
 order-rests (Stop a h x) m k r n = halted-rests h (position m) x (m .run) r
 order-rests ClearBits m k r n = r
 
-tick-rests : (m : Servo) → m .run .profile .setpoint < 2 ^ 48 → Resting m
-    → Resting (ticked m) × (ticked m .run .profile .setpoint ≡ m .run .profile .setpoint)
+tick-rests : (x : Sample) (m : Servo) → m .run .profile .setpoint < 2 ^ 48 → Resting m
+    → Resting (ticked x m) × (ticked x m .run .profile .setpoint ≡ m .run .profile .setpoint)
 unfolding pulsed tripped idled off
-tick-rests m h r =
+tick-rests x m h r =
     let e = rest-advanced (m .run) h r in
-    tick-ends (λ (s : Run). Still s × (s .profile .setpoint ≡ m .run .profile .setpoint)) m (record {
+    tick-ends (λ (s : Run). Still s × (s .profile .setpoint ≡ m .run .profile .setpoint)) x m (record {
       low = λ q. (off-rests _ refl, refl);
       off = λ q. (r, refl);
       pwm = λ q. (r, refl);
@@ -94,7 +95,6 @@ stays-resting = record {
         renewed = λ d q. off-rests _ refl;
         performed = λ c d q t. order-rests c m k r (n c d q t);
       });
-  sampling = λ x m r. r;
   tick = tick-rests;
 }
 
@@ -144,9 +144,9 @@ rouses f (Stop a h x) (c, e, y, n, b, w) o = inr (inr (c, at o))
     at (inr q) = inr (bits Here q)
 rouses f ClearBits k o = absurd o
 
-tick-off : (m : Servo) → Released (m .run) → Released (ticked m .run)
+tick-off : (x : Sample) (m : Servo) → Released (m .run) → Released (ticked x m .run)
 unfolding pulsed
-tick-off m r = tick-ends Released m (record {
+tick-off x m r = tick-ends Released x m (record {
   low = λ q. off-released (m .run);
   off = λ q. r;
   pwm = λ q. absurd (distinct Off Pwm refl (sym (r .mode) ∙ q));

@@ -7,7 +7,7 @@ use lib.IntN.{pos}
 use Rattle.line_receiver.specs.Frames.{Frame}
 use Rattle.servo_rules.specs.declared.Order.{Order}
 use Rattle.servo_rules.specs.declared.Order.the-variants.{ResetPosition, LoadTrajectory, Start, SetGain, Stop, ClearBits}
-use Rattle.servo_rules.specs.declared.Samples.{Samples}
+use Rattle.servo_rules.specs.declared.Sample.{Sample}
 use Rattle.servo_rules.specs.declared.Mode.the-variants.{Off, Pwm}
 use Rattle.servo_rules.specs.declared.Drive.{Drive}
 use Rattle.servo_rules.specs.declared.Run.{Run}
@@ -24,9 +24,9 @@ use Rattle.servo_rules.proofs.Framed.{leaves}
 use Rattle.servo_rules.proofs.Ends.{tick-ends}
 use Rattle.servo_rules.proofs.Ticking.{ticks}
 
--- the samples as they were, and no new output
-abbrev Quiet : Servo → Servo → Type 0
-Quiet m n = (n .samples ≡ m .samples) × Undriven (m .run .drive) (n .run .drive)
+-- the latched sample as it was, and no new output
+abbrev pub Quiet : Servo → Servo → Type 0
+Quiet m n = (n .latched ≡ m .latched) × Undriven (m .run .drive) (n .run .drive)
 
 start-quiet : (m : Servo) → Quiet m (start m)
 unfolding start
@@ -42,7 +42,7 @@ order-quiet (SetGain t) m = (refl, still (m .run .drive))
 order-quiet (Stop a h x) m = (refl, halted-keeps h (position m) x (m .run) .undriven)
 order-quiet ClearBits m = (refl, still (m .run .drive))
 
-frame-quiet : (f : Frame) (alone : Bool) (m : Servo) → Quiet m (execute f alone m)
+pub frame-quiet : (f : Frame) (alone : Bool) (m : Servo) → Quiet m (execute f alone m)
 frame-quiet f alone m = leaves (Quiet m) f alone m (record {
   kept = λ s. (refl, still (m .run .drive));
   renewed = λ d q. (refl, inr (refl, refl, refl));
@@ -63,15 +63,15 @@ quiet-silent m n q s = by (q .1)
     by : Undriven (m .run .drive) (n .run .drive) → Silent n
     by (inl h) = record {
       off = λ e. h .0 ∙ s .off (h .2 e);
-      unpowered = λ p. h .0 ∙ s .unpowered (λ e. p (ap (λ (x : Samples). x .latched .power) (q .0) ∙ e));
+      unpowered = λ p. h .0 ∙ s .unpowered (λ e. p (ap (λ (x : Sample). x .power) (q .0) ∙ e));
     }
     by (inr h) = record { off = λ e. h .0; unpowered = λ p. h .0 }
 
 -- no tick that ends in off has an output
-tick-off : (m : Servo) → Silent m → ticked m .run .drive .mode ≡ Off → ticked m .run .drive .output ≡ pos 0
+tick-off : (x : Sample) (m : Servo) → Silent m → ticked x m .run .drive .mode ≡ Off → ticked x m .run .drive .output ≡ pos 0
 unfolding pulsed tripped idled off
-tick-off m s =
-    tick-ends (λ (r : Run). r .drive .mode ≡ Off → r .drive .output ≡ pos 0) m (record {
+tick-off x m s =
+    tick-ends (λ (r : Run). r .drive .mode ≡ Off → r .drive .output ≡ pos 0) x m (record {
       low = λ e k. refl;
       off = λ e k. s .off k;
       pwm = λ q k. absurd (distinct Pwm Off refl (sym q ∙ k));
@@ -84,8 +84,7 @@ unfolding ticked
 driven-only = record {
   power = record { off = λ e. refl; unpowered = λ p. refl };
   frame = λ f alone m s. quiet-silent m (execute f alone m) (frame-quiet f alone m) s;
-  sampling = λ x m s. record { off = s .off; unpowered = s .unpowered };
-  tick = λ m s. record { off = tick-off m s; unpowered = λ p. ticks m .unpowered p (s .off) };
+  tick = λ x m s. record { off = tick-off x m s; unpowered = λ p. ticks x m .unpowered p (s .off) };
 }
 
 -- ---- the cut bit
@@ -94,10 +93,10 @@ quiet-uncut : (m n : Servo) → Undriven (m .run .drive) (n .run .drive) → Unc
 quiet-uncut m n (inl h) u e = h .1 ∙ u (h .3 e)
 quiet-uncut m n (inr h) u e = h .1
 
-tick-uncut : (m : Servo) → Uncut m → Uncut (ticked m)
+tick-uncut : (x : Sample) (m : Servo) → Uncut m → Uncut (ticked x m)
 unfolding pulsed tripped idled off
-tick-uncut m u =
-    tick-ends (λ (r : Run). servoOff (r .drive .mode) ≡ true → r .drive .cut ≡ false) m (record {
+tick-uncut x m u =
+    tick-ends (λ (r : Run). servoOff (r .drive .mode) ≡ true → r .drive .cut ≡ false) x m (record {
       low = λ e k. refl;
       off = λ e k. u k;
       pwm = λ q k. u k;
@@ -110,7 +109,6 @@ cut-bit = record {
   between = λ f alone m. by m (execute f alone m .run .drive) (frame-quiet f alone m .1);
   power = λ e. refl;
   frame = λ f alone m. quiet-uncut m (execute f alone m) (frame-quiet f alone m .1);
-  sampling = λ x m u. u;
   tick = tick-uncut;
 }
   where

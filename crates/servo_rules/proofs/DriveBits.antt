@@ -79,19 +79,19 @@ trip-far here g r q = by (ends g (r .memory) (followedAt here r))
     by (cut h l) = absurd (not-told _ refl (works g (r .memory) (followedAt here r) h .cut l))
 
 -- an error bit as it was, or set by such an error
-abbrev Marked : Servo → Run → Type 0
-Marked m r =
-    (r .drive .error ≡ m .run .drive .error) ⊎ ((r .drive .error ≡ true) × (m .settings .tuning .gains .el < natAbs (followed m)))
+abbrev Marked : Sample → Servo → Run → Type 0
+Marked x m r =
+    (r .drive .error ≡ m .run .drive .error) ⊎ ((r .drive .error ≡ true) × (m .settings .tuning .gains .el < natAbs (followed x m)))
 
-tick-error : (m : Servo) → Marked m (ticked m .run)
+tick-error : (x : Sample) (m : Servo) → Marked x m (ticked x m .run)
 unfolding pulsed tripping idled off
-tick-error m =
-    tick-ends (Marked m) m (record {
+tick-error x m =
+    tick-ends (Marked x m) x m (record {
       low = λ e. inl refl;
       off = λ e. inl refl;
       pwm = λ q. inl refl;
       output = λ s t q. inl refl;
-      trip = λ q. inr (refl, trip-far (positionAt (m .samples .waiting) (m .counts)) (m .settings .tuning .gains) (m .run) q);
+      trip = λ q. inr (refl, trip-far (positionAt x (m .counts)) (m .settings .tuning .gains) (m .run) q);
     })
 
 pub error-bit : ErrorBit
@@ -108,9 +108,9 @@ error-bit = record {
   tick = tick-error;
 }
 
-tick-amplifier : (m : Servo) → Amplifier m (ticked m)
+tick-amplifier : (x : Sample) (m : Servo) → Amplifier m (ticked x m)
 unfolding pulsed tripping idled off
-tick-amplifier m = tick-ends (λ (s : Run). s .drive .amplifier ≡ m .run .drive .amplifier) m (record {
+tick-amplifier x m = tick-ends (λ (s : Run). s .drive .amplifier ≡ m .run .drive .amplifier) x m (record {
   low = λ e. refl;
   off = λ e. refl;
   pwm = λ q. refl;
@@ -118,8 +118,8 @@ tick-amplifier m = tick-ends (λ (s : Run). s .drive .amplifier ≡ m .run .driv
   trip = λ q. refl;
 })
 
-latched-power : (m : Servo) → ticked m .samples .latched .power ≡ m .samples .waiting .power
-latched-power m = ap (λ (x : Sample). x .power) (ticks m .latched)
+latched-power : (x : Sample) (m : Servo) → ticked x m .latched .power ≡ x .power
+latched-power x m = ap (λ (x : Sample). x .power) (ticks x m .latched)
 
 -- a Stop and a Hard Reset that are executed
 module _ (f : Frame) (alone : Bool) (m : Servo) where
@@ -172,7 +172,7 @@ amplifier-bit = record {
   reset = reset-puts;
   frame = others-keep;
   tick = tick-amplifier;
-  high = λ m a p. enabled (ticked m) .high (tick-amplifier m ∙ a) (latched-power m ∙ p);
-  unset = λ m a. enabled (ticked m) .unset (tick-amplifier m ∙ a);
-  unpowered = λ m p. enabled (ticked m) .unpowered (λ e. p (sym (latched-power m) ∙ e));
+  high = λ x m a p. enabled (ticked x m) .high (tick-amplifier x m ∙ a) (latched-power x m ∙ p);
+  unset = λ x m a. enabled (ticked x m) .unset (tick-amplifier x m ∙ a);
+  unpowered = λ x m p. enabled (ticked x m) .unpowered (λ e. p (sym (latched-power x m) ∙ e));
 }

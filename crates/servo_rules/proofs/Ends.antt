@@ -9,6 +9,7 @@ use Rattle.servo_filter.specs.Filter.{filtered, Told, told}
 use Rattle.servo_rules.specs.declared.Mode.{Mode}
 use Rattle.servo_rules.specs.declared.Mode.the-variants.{Off, Pwm, Hold, Velocity, Trapezoid}
 use Rattle.servo_rules.specs.declared.Run.{Run}
+use Rattle.servo_rules.specs.declared.Sample.{Sample}
 use Rattle.servo_rules.specs.declared.Servo.{Servo}
 use Rattle.servo_rules.specs.State.{positionAt, servoOff, off}
 use Rattle.servo_rules.specs.Tick.{advanced, tripped, workedTo, filteredTo, followedAt, servoed, pulsed, drivenBy, ran, ticked}
@@ -44,12 +45,10 @@ ends P power here g r e = seen (eqb power 0) refl
     seen true q = e .low (eqb-true _ _ q)
     seen false q = drive (r .drive .mode) refl
 
--- of a servo's tick: at the power and the position of the sample that waited
-abbrev pub TickEnds : (Run → Type 0) → Servo → Type 0
-TickEnds P m =
-    Ends P (m .samples .waiting .power) (positionAt (m .samples .waiting) (m .counts)) (m .settings .tuning .gains) (m .run)
+-- of a servo's tick: at the power and the position of its sample
+abbrev pub TickEnds : (Run → Type 0) → Sample → Servo → Type 0
+TickEnds P x m = Ends P (x .power) (positionAt x (m .counts)) (m .settings .tuning .gains) (m .run)
 
-pub tick-ends : (P : Run → Type 0) (m : Servo) → TickEnds P m → P (ticked m .run)
+pub tick-ends : (P : Run → Type 0) (x : Sample) (m : Servo) → TickEnds P x m → P (ticked x m .run)
 unfolding ticked
-tick-ends P m e =
-    ends P (m .samples .waiting .power) (positionAt (m .samples .waiting) (m .counts)) (m .settings .tuning .gains) (m .run) e
+tick-ends P x m e = ends P (x .power) (positionAt x (m .counts)) (m .settings .tuning .gains) (m .run) e

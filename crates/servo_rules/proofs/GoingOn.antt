@@ -13,6 +13,7 @@ use Rattle.servo_motion.specs.Setpoint.{whole, moved}
 use Rattle.servo_motion.proofs.Moves.{moves}
 use Rattle.servo_rules.specs.declared.Mode.{Mode}
 use Rattle.servo_rules.specs.declared.Mode.the-variants.{Off, Pwm, Hold, Velocity, Trapezoid}
+use Rattle.servo_rules.specs.declared.Sample.{Sample}
 use Rattle.servo_rules.specs.declared.Servo.{Servo}
 use Rattle.servo_rules.specs.State.{position, servoOff}
 use Rattle.servo_rules.specs.Tick.{advancedBy, advanced, ticked}
@@ -35,9 +36,9 @@ off-modes Trapezoid = (λ e. absurd (false≢true e), λ e. absurd (neither Trap
 pub put-at : PutAt
 put-at x = (omega arith, omega arith)
 
-module _ (m : Servo) (on : servoOff (ticked m .run .drive .mode) ≡ false) where
+module _ (x : Sample) (m : Servo) (on : servoOff (ticked x m .run .drive .mode) ≡ false) where
   -- it ended in no mode that counts as off
-  not-ended : (k : Mode) → servoOff k ≡ true → ticked m .run .drive .mode ≡ k → ⊥
+  not-ended : (k : Mode) → servoOff k ≡ true → ticked x m .run .drive .mode ≡ k → ⊥
   not-ended k o e = true≢false (sym o ∙ ap servoOff (sym e) ∙ on)
 
   -- the step of the profile, by the mode
@@ -50,38 +51,38 @@ module _ (m : Servo) (on : servoOff (ticked m .run .drive .mode) ≡ false) wher
   goes q s (inr e) = subst (λ (q : Profile). q .setpoint ≡ moved (m .run .profile .setpoint) (q .speed)) (sym (steps q Trapezoid e s)) (moves (m .run .profile) .1)
 
   -- the position that the filter saw is the one after the tick
-  seen : (q : Profile) → q ≡ advanced (m .run) → followed m ≡ difference (whole (q .setpoint)) (position (ticked m))
+  seen : (q : Profile) → q ≡ advanced (m .run) → followed x m ≡ difference (whole (q .setpoint)) (position (ticked x m))
   unfolding ticked
-  seen q s = ap (λ (q : Profile). difference (whole (q .setpoint)) (position (ticked m))) (sym s)
+  seen q s = ap (λ (q : Profile). difference (whole (q .setpoint)) (position (ticked x m))) (sym s)
 
-  went : (m .samples .waiting .power ≡ 0 → ⊥) → servoOff (m .run .drive .mode) ≡ false → natAbs (followed m) ≤ m .settings .tuning .gains .el → StillOn m (ticked m)
+  went : (x .power ≡ 0 → ⊥) → servoOff (m .run .drive .mode) ≡ false → natAbs (followed x m) ≤ m .settings .tuning .gains .el → StillOn m (ticked x m)
   went n k h =
-      let r = ticks m .runs n k h in
+      let r = ticks x m .runs n k h in
       record {
         mode = r .mode;
-        goes = goes (ticked m .run .profile) (r .profile);
-        holds = λ e. let s = steps (ticked m .run .profile) Hold e (r .profile) in (ap (λ (p : Profile). p .setpoint) s, ap (λ (p : Profile). p .speed) s);
-        previous = r .previous ∙ seen (ticked m .run .profile) (r .profile);
+        goes = goes (ticked x m .run .profile) (r .profile);
+        holds = λ e. let s = steps (ticked x m .run .profile) Hold e (r .profile) in (ap (λ (p : Profile). p .setpoint) s, ap (λ (p : Profile). p .speed) s);
+        previous = r .previous ∙ seen (ticked x m .run .profile) (r .profile);
         within = subst (λ (z : ℤ). natAbs z ≤ m .settings .tuning .gains .el) (sym (r .previous)) h;
       }
 
-  by-error : (m .samples .waiting .power ≡ 0 → ⊥) → servoOff (m .run .drive .mode) ≡ false → (t : Bool) → leb (natAbs (followed m)) (m .settings .tuning .gains .el) ≡ t → StillOn m (ticked m)
+  by-error : (x .power ≡ 0 → ⊥) → servoOff (m .run .drive .mode) ≡ false → (t : Bool) → leb (natAbs (followed x m)) (m .settings .tuning .gains .el) ≡ t → StillOn m (ticked x m)
   by-error n k true h = went n k (leb-true _ _ h)
-  by-error n k false h = absurd (not-ended Off refl (ticks m .trip n k (leb-false _ _ h) .0 .mode))
+  by-error n k false h = absurd (not-ended Off refl (ticks x m .trip n k (leb-false _ _ h) .0 .mode))
 
-  by-mode : (m .samples .waiting .power ≡ 0 → ⊥) → (k : Mode) → m .run .drive .mode ≡ k → StillOn m (ticked m)
-  by-mode n Off e = absurd (not-ended Off refl (ap (λ (s : Servo). s .run .drive .mode) (ticks m .off n e) ∙ e))
-  by-mode n Pwm e = absurd (not-ended Pwm refl (ticks m .pulse n e .2))
+  by-mode : (x .power ≡ 0 → ⊥) → (k : Mode) → m .run .drive .mode ≡ k → StillOn m (ticked x m)
+  by-mode n Off e = absurd (not-ended Off refl (ap (λ (s : Servo). s .run .drive .mode) (ticks x m .off n e) ∙ e))
+  by-mode n Pwm e = absurd (not-ended Pwm refl (ticks x m .pulse n e .2))
   by-mode n Hold e = by-error n (ap servoOff e) _ refl
   by-mode n Velocity e = by-error n (ap servoOff e) _ refl
   by-mode n Trapezoid e = by-error n (ap servoOff e) _ refl
 
-  still-on : StillOn m (ticked m)
-  still-on = at (eqb (m .samples .waiting .power) 0) refl
+  still-on : StillOn m (ticked x m)
+  still-on = at (eqb (x .power) 0) refl
     where
-      at : (t : Bool) → eqb (m .samples .waiting .power) 0 ≡ t → StillOn m (ticked m)
-      at true e = absurd (not-ended Off refl (ticks m .low (eqb-true _ _ e) .mode))
+      at : (t : Bool) → eqb (x .power) 0 ≡ t → StillOn m (ticked x m)
+      at true e = absurd (not-ended Off refl (ticks x m .low (eqb-true _ _ e) .mode))
       at false e = by-mode (eqb-false _ _ e) (m .run .drive .mode) refl
 
 pub goes-on : GoesOn
-goes-on m on = still-on m on
+goes-on x m on = still-on x m on

@@ -80,7 +80,7 @@ pub only-here : OnlyHere
 unfolding difference signed
 only-here f alone m k n = leaves (Placed m) f alone m (record {
   kept = λ s. inl refl;
-  renewed = λ d q. inr (ap (difference 0) (less-self (m .samples .latched .raw) (k .raw)));
+  renewed = λ d q. inr (ap (difference 0) (less-self (m .latched .raw) (k .raw)));
   performed = λ c d q t.
       order-placed c m k (λ a x e. n a x d (q ∙ ap wants e) (ap (λ (c : Order). can c m) (sym e) ∙ t));
 })

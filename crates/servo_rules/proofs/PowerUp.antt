@@ -1,11 +1,11 @@
 -- What a servo is at power-up, field by field. Assumes nothing.
 use mathlib.Core.Path.{refl}
-use Rattle.servo_rules.specs.declared.Samples.{Samples}
+use Rattle.servo_rules.specs.declared.Sample.{Sample}
 use Rattle.servo_rules.specs.State.{fresh}
 use Rattle.servo_rules.specs.Answers.{done, statusOf}
 use Rattle.servo_rules.specs.Promises.{Blank, PowerUp}
 
-fresh-blank : (x : Samples) → Blank (fresh x)
+fresh-blank : (x : Sample) → Blank (fresh x)
 unfolding done
 fresh-blank x = record {
   mode = refl;
@@ -48,8 +48,7 @@ pub power-up : PowerUp
 unfolding statusOf done
 power-up = record {
   blank = fresh-blank _;
-  renewed = λ m. fresh-blank (m .samples);
-  waiting = (refl, refl, refl);
+  renewed = λ m. fresh-blank (m .latched);
   latched = (refl, refl, refl);
   counts = (refl, refl);
   here = refl;

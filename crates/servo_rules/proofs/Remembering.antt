@@ -21,6 +21,7 @@ use Rattle.servo_rules.specs.declared.Way.{Way}
 use Rattle.servo_rules.specs.declared.Way.the-variants.{Pulse, Speed, Move}
 use Rattle.servo_rules.specs.declared.Settings.{Settings}
 use Rattle.servo_rules.specs.declared.Run.{Run}
+use Rattle.servo_rules.specs.declared.Sample.{Sample}
 use Rattle.servo_rules.specs.declared.Servo.{Servo}
 use Rattle.servo_rules.specs.Carried.{isSet, carriedIn}
 use Rattle.servo_rules.specs.Asks.{oneHalt}
@@ -226,15 +227,15 @@ frame-blank f alone m d z o = by (request f alone) refl (known f alone)
             absurd (omega arith)
 
 -- a tick that is cut
-tick-same : (m : Servo) → ticked m .run .drive .cut ≡ true → ticked m .run .memory .integral ≡ m .run .memory .integral
+tick-same : (x : Sample) (m : Servo) → ticked x m .run .drive .cut ≡ true → ticked x m .run .memory .integral ≡ m .run .memory .integral
 unfolding pulsed tripped idled off
-tick-same m =
-    tick-ends (λ (s : Run). s .drive .cut ≡ true → s .memory .integral ≡ m .run .memory .integral) m (record {
+tick-same x m =
+    tick-ends (λ (s : Run). s .drive .cut ≡ true → s .memory .integral ≡ m .run .memory .integral) x m (record {
       low = λ e c. absurd (false≢true c);
       off = λ e c. refl;
       pwm = λ q c. refl;
       output = λ s t q c.
-          let here : ℕ = positionAt (m .samples .waiting) (m .counts) in
+          let here : ℕ = positionAt x (m .counts) in
           sym (ap (λ (t : Told). t .memory .integral) q)
           ∙ cut-leaves (m .settings .tuning .gains) (m .run .memory) (followedAt here (m .run)) (ap (λ (t : Told). t .cut) q ∙ c);
       trip = λ q c. absurd (false≢true c);

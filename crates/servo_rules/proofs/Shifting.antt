@@ -72,7 +72,7 @@ resets-position m c =
     let p : ℕ = m .run .profile .setpoint in
     let hx : x < 2 ^ 32 = omega arith in
     let hp : p < 2 ^ 48 = c .profile .setpoint in
-    let zero : less (m .samples .latched .raw) (m .samples .latched .raw) ≡ 0 = less-self (m .samples .latched .raw) (c .raw) in
+    let zero : less (m .latched .raw) (m .latched .raw) ≡ 0 = less-self (m .latched .raw) (c .raw) in
     let w = whole-shifted p x hp hx in
     let f = part-shifted p x hp hx in
     record {

@@ -24,6 +24,7 @@ use Rattle.servo_rules.specs.Loads.{signedBy}
 use Rattle.servo_rules.specs.Tick.{ticked}
 use Rattle.servo_rules.specs.Answers.{bitAt, numbersOf, outputsFrom, servo, request, withCause, execute}
 use Rattle.servo_rules.specs.Promises.{Resets, Enabled, Gains, Samples}
+use Rattle.servo_rules.proofs.Between.{frame-quiet}
 use Rattle.servo_rules.proofs.Taken.{gain-read}
 use Rattle.servo_rules.proofs.Apart.{apart}
 use Rattle.servo_rules.proofs.Signs.{signed-itself}
@@ -35,17 +36,17 @@ pub resets : Resets
 unfolding numbersOf
 resets f alone m d c n =
     let r = after-reset servo apart f alone m d c n in
-    let e : execute f alone m ≡ fresh (m .samples) = r .whole in
+    let e : execute f alone m ≡ fresh (m .latched) = r .whole in
     record {
       whole = e;
-      samples = ap (λ (m : Servo). m .samples) e;
+      latched = ap (λ (m : Servo). m .latched) e;
       mode = ap (λ (m : Servo). m .run .drive .mode) e;
       error = ap (λ (m : Servo). m .run .drive .error) e;
       waits = ap (λ (m : Servo). m .settings .load .waits) e;
-      here = λ h. ap position e ∙ less-self (m .samples .latched .raw) h;
+      here = λ h. ap position e ∙ less-self (m .latched .raw) h;
       change = λ h.
           ap (λ (m : Servo). less (position m) (m .counts .last) % 65536) e
-          ∙ ap (λ (x : ℕ). less x 0 % 65536) (less-self (m .samples .latched .raw) h);
+          ∙ ap (λ (x : ℕ). less x 0 % 65536) (less-self (m .latched .raw) h);
       silent = r .silent;
     }
 
@@ -91,15 +92,12 @@ gains f alone m =
     }
 
 pub samples : Samples
-unfolding Any.reply numbersOf ticked
+unfolding numbersOf ticked
 samples x m = record {
-  unseen = refl;
-  unread = refl;
-  unsaid = λ f. refl;
-  undriven = refl;
   latched = refl;
-  waited = refl;
-  again = refl;
+  kept = λ f alone. frame-quiet f alone m .0;
+  power = refl;
+  ad = refl;
   place = refl;
   change = refl;
 }

@@ -12,6 +12,7 @@ use Rattle.servo_filter.proofs.Answers.{trips, works}
 use Rattle.servo_rules.specs.declared.Mode.{Mode}
 use Rattle.servo_rules.specs.declared.Mode.the-variants.{Off, Pwm, Hold, Velocity, Trapezoid}
 use Rattle.servo_rules.specs.declared.Run.{Run}
+use Rattle.servo_rules.specs.declared.Sample.{Sample}
 use Rattle.servo_rules.specs.declared.Servo.{Servo}
 use Rattle.servo_rules.specs.State.{positionAt, position, servoOff, withLast, idled, off}
 use Rattle.servo_rules.specs.Tick.{advanced, putOut, tripped, workedTo, filteredTo, servoed, pulsed, drivenBy, ran, ticked}
@@ -50,12 +51,12 @@ module _ (power here : ℕ) (g : Gains) (r : Run) where
       → ran power here g r ≡ filteredTo t power (advanced r) r
   answered n s t e = by-mode n ∙ by-filter (r .drive .mode) s ∙ ap (λ (t : Told). filteredTo t power (advanced r) r) e
 
-module _ (m : Servo) where
+module _ (x : Sample) (m : Servo) where
   -- no output without power 1
-  no-output : (m .samples .waiting .power ≡ 1 → ⊥) → (m .run .drive .mode ≡ Off → m .run .drive .output ≡ pos 0)
-      → ticked m .run .drive .output ≡ pos 0
+  no-output : (x .power ≡ 1 → ⊥) → (m .run .drive .mode ≡ Off → m .run .drive .output ≡ pos 0)
+      → ticked x m .run .drive .output ≡ pos 0
   unfolding pulsed putOut tripped idled off
-  no-output n h = tick-ends (λ (s : Run). s .drive .output ≡ pos 0) m (record {
+  no-output n h = tick-ends (λ (s : Run). s .drive .output ≡ pos 0) x m (record {
     low = λ e. refl;
     off = h;
     pwm = λ q. rw (ne-eqb _ _ n) refl;
@@ -64,31 +65,31 @@ module _ (m : Servo) where
   })
 
   abbrev place : ℕ
-  place = positionAt (m .samples .waiting) (m .counts)
+  place = positionAt x (m .counts)
 
   -- what the filter tells within EL, with the integral and the cut bit that it stores
   abbrev stored : ℤ → Bool → Told
   stored integral cut =
-      record { trips = false; memory = record { integral = integral; previous = followed m }; output = worked m; cut = cut }
+      record { trips = false; memory = record { integral = integral; previous = followed x m }; output = worked x m; cut = cut }
 
   -- a tick that runs, by what is told
-  module _ (n : m .samples .waiting .power ≡ 0 → ⊥) (k : servoOff (m .run .drive .mode) ≡ false) (integral : ℤ) (cut : Bool)
+  module _ (n : x .power ≡ 0 → ⊥) (k : servoOff (m .run .drive .mode) ≡ false) (integral : ℤ) (cut : Bool)
       (q : answer place (m .settings .tuning .gains) (m .run) ≡ stored integral cut) where
-    made : ticked m .run ≡ workedTo (stored integral cut) (m .samples .waiting .power) (advanced (m .run)) (m .run)
+    made : ticked x m .run ≡ workedTo (stored integral cut) (x .power) (advanced (m .run)) (m .run)
     unfolding ticked
-    made = answered (m .samples .waiting .power) place (m .settings .tuning .gains) (m .run) n k (stored integral cut) q
+    made = answered (x .power) place (m .settings .tuning .gains) (m .run) n k (stored integral cut) q
 
-    put-out : m .samples .waiting .power ≡ 1 → ticked m .run .drive .output ≡ worked m
+    put-out : x .power ≡ 1 → ticked x m .run .drive .output ≡ worked x m
     unfolding putOut
-    put-out p = ap (λ (s : Run). s .drive .output) made ∙ ap (λ (t : Bool). cond t (worked m) (pos 0)) (eq-eqb _ _ p)
+    put-out p = ap (λ (s : Run). s .drive .output) made ∙ ap (λ (t : Bool). cond t (worked x m) (pos 0)) (eq-eqb _ _ p)
 
-    winds : Winds integral cut (ticked m)
+    winds : Winds integral cut (ticked x m)
     winds = (ap (λ (s : Run). s .memory .integral) made, ap (λ (s : Run). s .drive .cut) made)
 
-    going : (natAbs (reaching m) ≤ m .settings .tuning .gains .ol
-        → Winds (summed (m .settings .tuning .gains) (m .run .memory) (followed m)) false (ticked m))
-        → (m .settings .tuning .gains .ol < natAbs (reaching m) → Winds (m .run .memory .integral) true (ticked m))
-        → Runs m (ticked m)
+    going : (natAbs (reaching x m) ≤ m .settings .tuning .gains .ol
+        → Winds (summed (m .settings .tuning .gains) (m .run .memory) (followed x m)) false (ticked x m))
+        → (m .settings .tuning .gains .ol < natAbs (reaching x m) → Winds (m .run .memory .integral) true (ticked x m))
+        → Runs x m (ticked x m)
     going p c = record {
       profile = ap (λ (s : Run). s .profile) made;
       previous = ap (λ (s : Run). s .memory .previous) made;
@@ -99,25 +100,25 @@ module _ (m : Servo) where
       cut = c;
     }
 
-  runs : (m .samples .waiting .power ≡ 0 → ⊥) → servoOff (m .run .drive .mode) ≡ false
-      → natAbs (followed m) ≤ m .settings .tuning .gains .el → Runs m (ticked m)
-  runs n k h = at (leb (natAbs (reaching m)) (m .settings .tuning .gains .ol)) refl
+  runs : (x .power ≡ 0 → ⊥) → servoOff (m .run .drive .mode) ≡ false
+      → natAbs (followed x m) ≤ m .settings .tuning .gains .el → Runs x m (ticked x m)
+  runs n k h = at (leb (natAbs (reaching x m)) (m .settings .tuning .gains .ol)) refl
     where
-      at : (t : Bool) → leb (natAbs (reaching m)) (m .settings .tuning .gains .ol) ≡ t → Runs m (ticked m)
+      at : (t : Bool) → leb (natAbs (reaching x m)) (m .settings .tuning .gains .ol) ≡ t → Runs x m (ticked x m)
       at true e =
           let l = leb-true _ _ e in
-          let q = works _ (m .run .memory) (followed m) h .plain l in
+          let q = works _ (m .run .memory) (followed x m) h .plain l in
           going n k _ false q (λ l. winds n k _ false q) (λ z. absurd (omega arith))
       at false e =
           let l = leb-false _ _ e in
-          let q = works _ (m .run .memory) (followed m) h .cut l in
+          let q = works _ (m .run .memory) (followed x m) h .cut l in
           going n k _ true q (λ z. absurd (omega arith)) (λ l. winds n k _ true q)
 
 pub ticks : Ticks
 unfolding ticked pulsed putOut
-ticks m =
-    let power : ℕ = m .samples .waiting .power in
-    let here : ℕ = positionAt (m .samples .waiting) (m .counts) in
+ticks x m =
+    let power : ℕ = x .power in
+    let here : ℕ = positionAt x (m .counts) in
     let g : Gains = m .settings .tuning .gains in
     let r : Run = m .run in
     record {
@@ -125,16 +126,15 @@ ticks m =
       last = refl;
       offset = refl;
       station = refl;
-      waiting = refl;
       tuning = refl;
       rates = refl;
       load = refl;
       low = λ e. subst Released (sym (at-low power here g r e)) (off-released r);
-      unpowered = no-output m;
+      unpowered = no-output x m;
       off = λ n e.
           ap (λ (s : Run). record {
             station = m .station;
-            samples = record { waiting = m .samples .waiting; latched = m .samples .waiting };
+            latched = x;
             counts = withLast (position m) (m .counts);
             settings = m .settings;
             run = s;
@@ -150,6 +150,6 @@ ticks m =
           );
       trip = λ n k h.
           subst (λ (s : Run). Released s × (s .drive .error ≡ true))
-          (sym (answered power here g r n k _ (trips g (r .memory) (followed m) h))) (tripped-released r);
-      runs = runs m;
+          (sym (answered power here g r n k _ (trips g (r .memory) (followed x m) h))) (tripped-released r);
+      runs = runs x m;
     }

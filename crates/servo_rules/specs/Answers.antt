@@ -20,7 +20,7 @@ use Rattle.servo_rules.specs.declared.Run.{Run}
 use Rattle.servo_rules.specs.declared.Servo.{Servo}
 use Rattle.servo_rules.specs.declared.Order.{Order}
 use Rattle.servo_rules.specs.Asks.{own}
-use Rattle.servo_rules.specs.State.{positionAt, good, withStation, fresh, started, sampled}
+use Rattle.servo_rules.specs.State.{positionAt, good, withStation, fresh, started}
 use Rattle.servo_rules.specs.Loads.{atRest}
 use Rattle.servo_rules.specs.Perform.{can, perform}
 use Rattle.servo_rules.specs.Tick.{ticked}
@@ -55,7 +55,7 @@ unfoldable pub statusOf : ℕ → ℕ → Run → ℕ
 statusOf cause power r = bitAt 1 (done r) + causeBit cause + bitAt 4 (r .drive .cut) + bitAt 8 (good power) + bitAt 16 (r .drive .error)
 
 abbrev pub status : Servo → ℕ
-status m = statusOf (m .station .cause) (m .samples .latched .power) (m .run)
+status m = statusOf (m .station .cause) (m .latched .power) (m .run)
 
 -- 01 Servo, Items 0 to 7: position, A/D, last tick's change, 0, home, type and version, previous error, 0; and how many bytes each has
 unfoldable pub numbersOf : Sample → Counts → Memory → List ℕ
@@ -71,7 +71,7 @@ numbersOf x k y =
     ∷ []
 
 abbrev pub numbers : Servo → List ℕ
-numbers m = numbersOf (m .samples .latched) (m .counts) (m .run .memory)
+numbers m = numbersOf (m .latched) (m .counts) (m .run .memory)
 
 abbrev pub sizes : List ℕ
 sizes = 4 ∷ 1 ∷ 2 ∷ 1 ∷ 4 ∷ 2 ∷ 2 ∷ 1 ∷ []
@@ -94,7 +94,7 @@ outputsFrom power d =
     ∷ []
 
 abbrev pub outputsOf : Servo → List ℕ
-outputsOf m = outputsFrom (m .samples .latched .power) (m .run .drive)
+outputsOf m = outputsFrom (m .latched .power) (m .run .drive)
 
 -- the byte of the enable line there
 abbrev pub enableLine : Servo → ℕ
@@ -107,11 +107,10 @@ servo = record {
   station = λ m. m .station;
   withStation = withStation;
   started = started;
-  renewed = λ m. fresh (m .samples);
+  renewed = λ m. fresh (m .latched);
   own = own;
   can = can;
   perform = perform;
-  sample = sampled;
   tick = ticked;
   status = status;
   sizes = sizes;

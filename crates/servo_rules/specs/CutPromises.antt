@@ -10,7 +10,7 @@ use Rattle.servo_rules.specs.declared.Way.the-variants.{Pulse}
 use Rattle.servo_rules.specs.declared.Sample.{Sample}
 use Rattle.servo_rules.specs.declared.Servo.{Servo}
 use Rattle.servo_rules.specs.Carried.{isSet}
-use Rattle.servo_rules.specs.State.{servoOff, started, sampled}
+use Rattle.servo_rules.specs.State.{servoOff, started}
 use Rattle.servo_rules.specs.Tick.{ticked}
 use Rattle.servo_rules.specs.Answers.{execute}
 
@@ -18,16 +18,15 @@ use Rattle.servo_rules.specs.Answers.{execute}
 abbrev pub Uncut : Servo → Type 0
 Uncut m = servoOff (m .run .drive .mode) ≡ true → m .run .drive .cut ≡ false
 
--- Between ticks only going off and a PWM start change the cut bit, and then to 0. In off and PWM it is 0: so at power-up, and every frame, sample and
--- tick keeps it. What a tick makes of it is told with the tick (`Ticks`).
+-- Between ticks only going off and a PWM start change the cut bit, and then to 0. In off and PWM it is 0: so at power-up, and every frame and tick keeps
+-- it. What a tick makes of it is told with the tick (`Ticks`).
 pub record CutBit : Type 0 where
   pub between : (f : Frame) (alone : Bool) (m : Servo)
       → (execute f alone m .run .drive .cut ≡ m .run .drive .cut)
       ⊎ ((execute f alone m .run .drive .cut ≡ false) × (servoOff (execute f alone m .run .drive .mode) ≡ true))
   pub power : Uncut started
   pub frame : (f : Frame) (alone : Bool) (m : Servo) → Uncut m → Uncut (execute f alone m)
-  pub sampling : (x : Sample) (m : Servo) → Uncut m → Uncut (sampled x m)
-  pub tick : (m : Servo) → Uncut m → Uncut (ticked m)
+  pub tick : (x : Sample) (m : Servo) → Uncut m → Uncut (ticked x m)
 
 -- 01 Load Trajectory, Start, Stop, Hard Reset: the frames that blank the filter's memory where they are executed: a PWM start; a Stop with bit 1, 2 or 4,
 -- and one with bit 3 while the servo is off; Hard Reset
@@ -55,4 +54,4 @@ pub record Remembers : Type 0 where
   pub frame : (f : Frame) (alone : Bool) (m : Servo)
       → (f .damaged ≡ false → execute f alone m .station .cause ≡ 0 → Blanks m f → ⊥)
       → execute f alone m .run .memory ≡ m .run .memory
-  pub cut : (m : Servo) → ticked m .run .drive .cut ≡ true → ticked m .run .memory .integral ≡ m .run .memory .integral
+  pub cut : (x : Sample) (m : Servo) → ticked x m .run .drive .cut ≡ true → ticked x m .run .memory .integral ≡ m .run .memory .integral

@@ -26,7 +26,7 @@ use Rattle.servo_rules.specs.Answers.{request, withCause, execute}
 
 -- power is good and the error bit is clear
 abbrev pub Ready : Servo → Type 0
-Ready m = (m .samples .latched .power ≡ 1) × (m .run .drive .error ≡ false)
+Ready m = (m .latched .power ≡ 1) × (m .run .drive .error ≡ false)
 
 -- Start can be carried out exactly if a load waits, it is complete, power is 1 and the error bit is clear (01 Start).
 pub record Startable (m : Servo) : Type 0 where

@@ -28,7 +28,7 @@ shifted x p = record {
 
 unfoldable pub resetPosition : Servo → Servo
 resetPosition m =
-    withCounts (record { offset = m .samples .latched .raw; last = less (m .counts .last) (position m) })
+    withCounts (record { offset = m .latched .raw; last = less (m .counts .last) (position m) })
     (withSettings (dropped (m .settings))
     (withRun (withProfile (shifted (position m) (m .run .profile)) (m .run)) m))
 

@@ -21,7 +21,7 @@ use Rattle.servo_rules.specs.declared.Sample.{Sample}
 use Rattle.servo_rules.specs.declared.Mode.the-variants.{Off, Velocity, Trapezoid}
 use Rattle.servo_rules.specs.declared.Servo.{Servo}
 use Rattle.servo_rules.specs.Asks.{gainsIn, tuningIn, gainsFit}
-use Rattle.servo_rules.specs.State.{position, powered, fresh, started, withSettings, sampled, withTuning}
+use Rattle.servo_rules.specs.State.{position, good, powered, fresh, started, withSettings, withTuning}
 use Rattle.servo_rules.specs.Loads.{signedBy}
 use Rattle.servo_rules.specs.Perform.{can, perform}
 use Rattle.servo_rules.specs.Tick.{ticked}
@@ -52,12 +52,12 @@ MoveDone = (m : Servo) → Finished m
 
 -- Every item's number fits into its bytes, so that a reply spells it whole.
 abbrev pub NumbersFit : Type 0
-NumbersFit = (m : Servo) → m .samples .latched .ad < 256 → Fit sizes (numbers m)
+NumbersFit = (m : Servo) → m .latched .ad < 256 → Fit sizes (numbers m)
 
 -- Each item by its number, of as many bytes as its size; the type's byte comes before the version's (01 Servo, Items).
 pub record Items (m : Servo) : Type 0 where
-  pub place : getD (numbers m) 0 0 ≡ less (m .samples .latched .raw) (m .counts .offset)
-  pub ad : getD (numbers m) 1 0 ≡ m .samples .latched .ad
+  pub place : getD (numbers m) 0 0 ≡ less (m .latched .raw) (m .counts .offset)
+  pub ad : getD (numbers m) 1 0 ≡ m .latched .ad
   pub change : getD (numbers m) 2 0 ≡ less (position m) (m .counts .last) % 65536
   pub zero : (getD (numbers m) 3 0 ≡ 0) × (getD (numbers m) 7 0 ≡ 0)
   pub home : getD (numbers m) 4 0 ≡ 0
@@ -105,25 +105,24 @@ pub record Blank (m : Servo) : Type 0 where
   pub items : m .station .items ≡ 0
   pub baud : m .station .baud ≡ 0
 
--- Power-up: all samples and counts 0, and the status byte has bits 0 and 4 (01 Who is touched, Servo).
+-- Power-up: sample and counts 0, and the status byte has bits 0 and 4 (01 Who is touched, Servo).
 pub record PowerUp : Type 0 where
   pub blank : Blank started
   pub renewed : (m : Servo) → Blank (servo .renewed m)
-  pub waiting : (started .samples .waiting .raw ≡ 0) × (started .samples .waiting .power ≡ 0) × (started .samples .waiting .ad ≡ 0)
-  pub latched : (started .samples .latched .raw ≡ 0) × (started .samples .latched .power ≡ 0) × (started .samples .latched .ad ≡ 0)
+  pub latched : (started .latched .raw ≡ 0) × (started .latched .power ≡ 0) × (started .latched .ad ≡ 0)
   pub counts : (started .counts .offset ≡ 0) × (started .counts .last ≡ 0)
   pub here : position started ≡ 0
   pub status : status started ≡ 17
 
--- Hard Reset, which has no data: the power-up record with both samples kept, position and last tick's change 0, and no reply.
+-- Hard Reset, which has no data: the power-up record with the latched sample kept, position and last tick's change 0, and no reply.
 pub record AfterReset (f : Frame) (alone : Bool) (m : Servo) : Type 0 where
-  pub whole : execute f alone m ≡ fresh (m .samples)
-  pub samples : execute f alone m .samples ≡ m .samples
+  pub whole : execute f alone m ≡ fresh (m .latched)
+  pub latched : execute f alone m .latched ≡ m .latched
   pub mode : execute f alone m .run .drive .mode ≡ Off
   pub error : execute f alone m .run .drive .error ≡ true
   pub waits : execute f alone m .settings .load .waits ≡ false
-  pub here : m .samples .latched .raw < 2 ^ 32 → position (execute f alone m) ≡ 0
-  pub change : m .samples .latched .raw < 2 ^ 32 → getD (numbers (execute f alone m)) 2 0 ≡ 0
+  pub here : m .latched .raw < 2 ^ 32 → position (execute f alone m) ≡ 0
+  pub change : m .latched .raw < 2 ^ 32 → getD (numbers (execute f alone m)) 2 0 ≡ 0
   pub silent : reply f (execute f alone m) ≡ []
 
 abbrev pub Resets : Type 0
@@ -134,9 +133,9 @@ pub record Drives (m : Servo) : Type 0 where
   pub size : getD (outputsOf m) 0 0 ≡ natAbs (m .run .drive .output)
   pub sign : getD (outputsOf m) 1 0 ≡ bitAt 1 (ltZ (m .run .drive .output) (pos 0))
   pub signed : signedBy (eqb (getD (outputsOf m) 1 0) 1) (getD (outputsOf m) 0 0) ≡ m .run .drive .output
-  pub high : m .run .drive .amplifier ≡ true → m .samples .latched .power ≡ 1 → getD (outputsOf m) 2 0 ≡ 1
+  pub high : m .run .drive .amplifier ≡ true → m .latched .power ≡ 1 → getD (outputsOf m) 2 0 ≡ 1
   pub unset : m .run .drive .amplifier ≡ false → getD (outputsOf m) 2 0 ≡ 0
-  pub unpowered : (m .samples .latched .power ≡ 1 → ⊥) → getD (outputsOf m) 2 0 ≡ 0
+  pub unpowered : (m .latched .power ≡ 1 → ⊥) → getD (outputsOf m) 2 0 ≡ 0
   pub zeros : drop 3 (outputsOf m) ≡ 0 ∷ 0 ∷ 0 ∷ 0 ∷ 0 ∷ []
 
 abbrev pub Enabled : Type 0
@@ -168,7 +167,7 @@ pub record Cleared (m n : Servo) : Type 0 where
   pub address : n .station .address ≡ m .station .address
   pub items : n .station .items ≡ m .station .items
   pub baud : n .station .baud ≡ m .station .baud
-  pub samples : n .samples ≡ m .samples
+  pub latched : n .latched ≡ m .latched
   pub counts : n .counts ≡ m .counts
   pub settings : n .settings ≡ m .settings
   pub profile : n .run .profile ≡ m .run .profile
@@ -187,17 +186,14 @@ Clears = (f : Frame) (alone : Bool) (m : Servo) → f .damaged ≡ false → f .
 abbrev pub AlwaysNow : Type 0
 AlwaysNow = (m : Servo) → (can ClearBits m ≡ true) × ((t : Tuning) → can (SetGain t) m ≡ true)
 
--- A sample is unseen until the next tick, which latches it; a tick with no newer one latches it again (01 Servo, Sample).
+-- A tick latches the sample that it is handed, whatever was latched before; until the next one no frame changes it (01 Servo, Sample; 02 P11).
 pub record Sampling (x : Sample) (m : Servo) : Type 0 where
-  pub unseen : numbers (sampled x m) ≡ numbers m
-  pub unread : status (sampled x m) ≡ status m
-  pub unsaid : (f : Frame) → reply f (sampled x m) ≡ reply f m
-  pub undriven : outputsOf (sampled x m) ≡ outputsOf m
-  pub latched : ticked (sampled x m) .samples .latched ≡ x
-  pub waited : ticked m .samples .latched ≡ m .samples .waiting
-  pub again : ticked (ticked m) .samples .latched ≡ m .samples .waiting
-  pub place : position (ticked m) ≡ less (m .samples .waiting .raw) (m .counts .offset)
-  pub change : getD (numbers (ticked m)) 2 0 ≡ less (position (ticked m)) (position m) % 65536
+  pub latched : ticked x m .latched ≡ x
+  pub kept : (f : Frame) (alone : Bool) → execute f alone m .latched ≡ m .latched
+  pub power : powered (ticked x m) ≡ good (x .power)
+  pub ad : getD (numbers (ticked x m)) 1 0 ≡ x .ad
+  pub place : position (ticked x m) ≡ less (x .raw) (m .counts .offset)
+  pub change : getD (numbers (ticked x m)) 2 0 ≡ less (position (ticked x m)) (position m) % 65536
 
 abbrev pub Samples : Type 0
 Samples = (x : Sample) (m : Servo) → Sampling x m

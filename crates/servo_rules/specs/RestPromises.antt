@@ -19,7 +19,7 @@ use Rattle.servo_rules.specs.declared.Mode.{Mode}
 use Rattle.servo_rules.specs.declared.Mode.the-variants.{Velocity, Trapezoid}
 use Rattle.servo_rules.specs.declared.Servo.{Servo}
 use Rattle.servo_rules.specs.Carried.{isSet}
-use Rattle.servo_rules.specs.State.{position, servoOff, started, sampled}
+use Rattle.servo_rules.specs.State.{position, servoOff, started}
 use Rattle.servo_rules.specs.Perform.{can}
 use Rattle.servo_rules.specs.Tick.{ticked}
 use Rattle.servo_rules.specs.Answers.{request, execute}
@@ -44,11 +44,10 @@ pub record StaysResting : Type 0 where
       → Resting m
       → ((c : Order) → f .damaged ≡ false → request f alone ≡ wants c → can c m ≡ true → Starting c → ⊥)
       → Resting (execute f alone m)
-  pub sampling : (x : Sample) (m : Servo) → Resting m → Resting (sampled x m)
-  pub tick : (m : Servo)
+  pub tick : (x : Sample) (m : Servo)
       → m .run .profile .setpoint < 2 ^ 48
       → Resting m
-      → Resting (ticked m) × (ticked m .run .profile .setpoint ≡ m .run .profile .setpoint)
+      → Resting (ticked x m) × (ticked x m .run .profile .setpoint ≡ m .run .profile .setpoint)
 
 -- 01 Load Trajectory, Start, Stop: the frames that turn a servo on, or start PWM, where they are executed: a Load with bit 7, a Start, a Stop with
 -- bit 2 or bit 4
@@ -64,7 +63,7 @@ pub record StaysOff : Type 0 where
       → Released (m .run)
       → (f .damaged ≡ false → execute f alone m .station .cause ≡ 0 → TurnsOn f → ⊥)
       → Released (execute f alone m .run)
-  pub tick : (m : Servo) → Released (m .run) → Released (ticked m .run)
+  pub tick : (x : Sample) (m : Servo) → Released (m .run) → Released (ticked x m .run)
 
 -- how far the setpoint is from the position
 abbrev pub following : Servo → ℤ

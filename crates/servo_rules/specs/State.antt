@@ -10,7 +10,6 @@ use Rattle.servo_motion.specs.declared.Profile.{Profile}
 use Rattle.servo_filter.specs.declared.Memory.{Memory}
 use Rattle.servo_filter.specs.Filter.{blank}
 use Rattle.servo_rules.specs.declared.Sample.{Sample}
-use Rattle.servo_rules.specs.declared.Samples.{Samples}
 use Rattle.servo_rules.specs.declared.Counts.{Counts}
 use Rattle.servo_rules.specs.declared.Tuning.{Tuning}
 use Rattle.servo_rules.specs.declared.Way.the-variants.{Pulse}
@@ -28,7 +27,7 @@ abbrev pub positionAt : Sample → Counts → ℕ
 positionAt x k = less (x .raw) (k .offset)
 
 abbrev pub position : Servo → ℕ
-position m = positionAt (m .samples .latched) (m .counts)
+position m = positionAt (m .latched) (m .counts)
 
 -- 01 Tick: the setpoint at a position, without a fraction
 abbrev pub setpointAt : ℕ → ℕ
@@ -39,7 +38,7 @@ abbrev pub good : ℕ → Bool
 good power = eqb power 1
 
 abbrev pub powered : Servo → Bool
-powered m = good (m .samples .latched .power)
+powered m = good (m .latched .power)
 
 -- 01 Start, Stop: power is good and the error bit is clear
 abbrev pub ready : Servo → Bool
@@ -57,7 +56,7 @@ servoOff Trapezoid = false
 abbrev pub noLoad : Load
 noLoad = record { waits = false; way = Pulse; placed = false; place = 0; pulsed = false; pulse = 0; reverse = false }
 
--- 01 Servo, Power-up: off, the error bit set, SM 1, the rest 0. The samples are given, since Hard Reset keeps them; the position is then 0.
+-- 01 Servo, Power-up: off, the error bit set, SM 1, the rest 0. The latched sample is given, since Hard Reset keeps it (02 P11); the position is then 0.
 abbrev pub noSettings : Settings
 noSettings = record {
   tuning = record { gains = record { kp = 0; kd = 0; ki = 0; il = 0; ol = 0; el = 0 }; cl = 0; sm = 1 };
@@ -72,11 +71,11 @@ noRun = record {
   drive = record { mode = Off; pulse = pos 0; output = pos 0; error = true; amplifier = false; cut = false };
 }
 
-abbrev pub fresh : Samples → Servo
+abbrev pub fresh : Sample → Servo
 fresh x = record {
   station = powerUp;
-  samples = x;
-  counts = record { offset = x .latched .raw; last = 0 };
+  latched = x;
+  counts = record { offset = x .raw; last = 0 };
   settings = noSettings;
   run = noRun;
 }
@@ -85,7 +84,7 @@ abbrev pub noSample : Sample
 noSample = record { raw = 0; power = 0; ad = 0 }
 
 abbrev pub started : Servo
-started = fresh (record { waiting = noSample; latched = noSample })
+started = fresh noSample
 
 -- the counts with another position before the last tick
 abbrev pub withLast : ℕ → Counts → Counts
@@ -93,26 +92,16 @@ withLast x k = record { offset = k .offset; last = x }
 
 -- a servo with one of its parts replaced
 abbrev pub withStation : Station → Servo → Servo
-withStation x m = record { station = x; samples = m .samples; counts = m .counts; settings = m .settings; run = m .run }
+withStation x m = record { station = x; latched = m .latched; counts = m .counts; settings = m .settings; run = m .run }
 
 abbrev pub withCounts : Counts → Servo → Servo
-withCounts x m = record { station = m .station; samples = m .samples; counts = x; settings = m .settings; run = m .run }
+withCounts x m = record { station = m .station; latched = m .latched; counts = x; settings = m .settings; run = m .run }
 
 abbrev pub withSettings : Settings → Servo → Servo
-withSettings x m = record { station = m .station; samples = m .samples; counts = m .counts; settings = x; run = m .run }
+withSettings x m = record { station = m .station; latched = m .latched; counts = m .counts; settings = x; run = m .run }
 
 abbrev pub withRun : Run → Servo → Servo
-withRun x m = record { station = m .station; samples = m .samples; counts = m .counts; settings = m .settings; run = x }
-
--- 01 Servo: a sample waits, and takes effect at the next tick
-abbrev pub sampled : Sample → Servo → Servo
-sampled x m = record {
-  station = m .station;
-  samples = record { waiting = x; latched = m .samples .latched };
-  counts = m .counts;
-  settings = m .settings;
-  run = m .run;
-}
+withRun x m = record { station = m .station; latched = m .latched; counts = m .counts; settings = m .settings; run = x }
 
 -- what frames store, with one of its parts replaced
 abbrev pub withTuning : Tuning → Settings → Settings

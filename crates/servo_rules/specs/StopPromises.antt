@@ -90,7 +90,7 @@ pub record Shifts (m : Servo) : Type 0 where
 -- the counts fit into their 32 bits
 pub record Counted (m : Servo) : Type 0 where
   pub profile : Ranged (m .run .profile)
-  pub raw : m .samples .latched .raw < 2 ^ 32
+  pub raw : m .latched .raw < 2 ^ 32
   pub last : m .counts .last < 2 ^ 32
 
 abbrev pub ResetsPosition : Type 0

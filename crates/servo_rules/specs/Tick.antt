@@ -13,6 +13,7 @@ use Rattle.servo_filter.specs.Filter.{Kept, held, filtered, Told, told}
 use Rattle.servo_rules.specs.declared.Mode.{Mode}
 use Rattle.servo_rules.specs.declared.Mode.the-variants.{Off, Pwm, Hold, Velocity, Trapezoid}
 use Rattle.servo_rules.specs.declared.Run.{Run}
+use Rattle.servo_rules.specs.declared.Sample.{Sample}
 use Rattle.servo_rules.specs.declared.Servo.{Servo}
 use Rattle.servo_rules.specs.State.{positionAt, position, good, withLast, running, withProfile, withDrive, putting, erring, off}
 
@@ -66,14 +67,14 @@ drivenBy Trapezoid power here g r = servoed power here g r
 unfoldable pub ran : ℕ → ℕ → Gains → Run → Run
 ran power here g r = cond (eqb power 0) (off r) (drivenBy (r .drive .mode) power here g r)
 
--- 01 Tick: the waiting sample is latched and the position before the tick kept; then what runs goes on, at the new power and position
-unfoldable pub ticked : Servo → Servo
-ticked m = record {
+-- 01 Tick, 02 P11: the tick's sample is latched and the position before the tick kept; then what runs goes on, at the new power and position
+unfoldable pub ticked : Sample → Servo → Servo
+ticked x m = record {
   station = m .station;
-  samples = record { waiting = m .samples .waiting; latched = m .samples .waiting };
+  latched = x;
   counts = withLast (position m) (m .counts);
   settings = m .settings;
-  run = ran (m .samples .waiting .power) (positionAt (m .samples .waiting) (m .counts)) (m .settings .tuning .gains) (m .run);
+  run = ran (x .power) (positionAt x (m .counts)) (m .settings .tuning .gains) (m .run);
 }
 
 -- what every stored servo's run has, and a tick's arithmetic needs

@@ -16,86 +16,85 @@ use Rattle.servo_rules.specs.declared.Sample.{Sample}
 use Rattle.servo_rules.specs.declared.Mode.the-variants.{Off, Pwm, Hold, Velocity, Trapezoid}
 use Rattle.servo_rules.specs.declared.Servo.{Servo}
 use Rattle.servo_rules.specs.Carried.{isSet}
-use Rattle.servo_rules.specs.State.{positionAt, position, servoOff, started, withLast, withRun, sampled, erring}
+use Rattle.servo_rules.specs.State.{positionAt, position, servoOff, started, withLast, withRun, erring}
 use Rattle.servo_rules.specs.Perform.{perform}
 use Rattle.servo_rules.specs.Tick.{advanced, followedAt, ticked}
 use Rattle.servo_rules.specs.Answers.{enableLine, servo, request, execute}
 use Rattle.servo_rules.specs.StopPromises.{Released}
 
 -- the following error that a tick's filter sees: at the new setpoint and the new position
-abbrev pub followed : Servo → ℤ
-followed m = followedAt (positionAt (m .samples .waiting) (m .counts)) (m .run)
+abbrev pub followed : Sample → Servo → ℤ
+followed x m = followedAt (positionAt x (m .counts)) (m .run)
 
 -- the u that the filter works out of it, a 256th of that, and what of it is put out
-abbrev pub drivenTo : Servo → ℤ
-drivenTo m = driven (m .settings .tuning .gains) (m .run .memory) (followed m)
+abbrev pub drivenTo : Sample → Servo → ℤ
+drivenTo x m = driven (m .settings .tuning .gains) (m .run .memory) (followed x m)
 
-abbrev pub reaching : Servo → ℤ
-reaching m = scaled (drivenTo m)
+abbrev pub reaching : Sample → Servo → ℤ
+reaching x m = scaled (drivenTo x m)
 
-abbrev pub worked : Servo → ℤ
-worked m = output (m .settings .tuning .gains .ol) (drivenTo m)
+abbrev pub worked : Sample → Servo → ℤ
+worked x m = output (m .settings .tuning .gains .ol) (drivenTo x m)
 
 -- n has stored this integral and this cut bit
 abbrev pub Winds : ℤ → Bool → Servo → Type 0
 Winds integral cut n = (n .run .memory .integral ≡ integral) × (n .run .drive .cut ≡ cut)
 
--- n is m after a tick in which profile and filter ran: the filter's output is put out at power 1; a tick that OL does not cut stores the new integral,
+-- n is m after a tick with the sample x in which profile and filter ran: the filter's output is put out at power 1; a tick that OL does not cut stores the new integral,
 -- one that it cuts the former one, at whatever power (01 Tick, Filter; 02 P5)
-pub record Runs (m n : Servo) : Type 0 where
+pub record Runs (x : Sample) (m n : Servo) : Type 0 where
   pub profile : n .run .profile ≡ advanced (m .run)
-  pub previous : n .run .memory .previous ≡ followed m
+  pub previous : n .run .memory .previous ≡ followed x m
   pub mode : n .run .drive .mode ≡ m .run .drive .mode
   pub error : n .run .drive .error ≡ m .run .drive .error
-  pub output : m .samples .waiting .power ≡ 1 → n .run .drive .output ≡ worked m
-  pub plain : natAbs (reaching m) ≤ m .settings .tuning .gains .ol
-      → Winds (summed (m .settings .tuning .gains) (m .run .memory) (followed m)) false n
-  pub cut : m .settings .tuning .gains .ol < natAbs (reaching m) → Winds (m .run .memory .integral) true n
+  pub output : x .power ≡ 1 → n .run .drive .output ≡ worked x m
+  pub plain : natAbs (reaching x m) ≤ m .settings .tuning .gains .ol
+      → Winds (summed (m .settings .tuning .gains) (m .run .memory) (followed x m)) false n
+  pub cut : m .settings .tuning .gains .ol < natAbs (reaching x m) → Winds (m .run .memory .integral) true n
 
--- A tick latches what waited and keeps the position before it; station, tuning, rates and load never change in it (01 Tick).
-pub record Ticking (m : Servo) : Type 0 where
-  pub latched : ticked m .samples .latched ≡ m .samples .waiting
-  pub last : ticked m .counts .last ≡ position m
-  pub offset : ticked m .counts .offset ≡ m .counts .offset
-  pub station : ticked m .station ≡ m .station
-  pub waiting : ticked m .samples .waiting ≡ m .samples .waiting
-  pub tuning : ticked m .settings .tuning ≡ m .settings .tuning
-  pub rates : ticked m .settings .rates ≡ m .settings .rates
-  pub load : ticked m .settings .load ≡ m .settings .load
+-- A tick latches its sample and keeps the position before it; station, tuning, rates and load never change in it (01 Tick).
+pub record Ticking (x : Sample) (m : Servo) : Type 0 where
+  pub latched : ticked x m .latched ≡ x
+  pub last : ticked x m .counts .last ≡ position m
+  pub offset : ticked x m .counts .offset ≡ m .counts .offset
+  pub station : ticked x m .station ≡ m .station
+  pub tuning : ticked x m .settings .tuning ≡ m .settings .tuning
+  pub rates : ticked x m .settings .rates ≡ m .settings .rates
+  pub load : ticked x m .settings .load ≡ m .settings .load
   -- power 0 ends in off
-  pub low : m .samples .waiting .power ≡ 0 → Released (ticked m .run)
+  pub low : x .power ≡ 0 → Released (ticked x m .run)
   -- no power but 1 has an output
-  pub unpowered : (m .samples .waiting .power ≡ 1 → ⊥) → (m .run .drive .mode ≡ Off → m .run .drive .output ≡ pos 0)
-      → ticked m .run .drive .output ≡ pos 0
-  -- off with any power but 0: only the samples and the last position change
-  pub off : (m .samples .waiting .power ≡ 0 → ⊥) → m .run .drive .mode ≡ Off
-      → ticked m
+  pub unpowered : (x .power ≡ 1 → ⊥) → (m .run .drive .mode ≡ Off → m .run .drive .output ≡ pos 0)
+      → ticked x m .run .drive .output ≡ pos 0
+  -- off with any power but 0: only the latched sample and the last position change
+  pub off : (x .power ≡ 0 → ⊥) → m .run .drive .mode ≡ Off
+      → ticked x m
       ≡ record {
         station = m .station;
-        samples = record { waiting = m .samples .waiting; latched = m .samples .waiting };
+        latched = x;
         counts = withLast (position m) (m .counts);
         settings = m .settings;
         run = m .run;
       }
   -- PWM stays as it is, and at power 1 the loaded value is put out, held to OL
-  pub pulse : (m .samples .waiting .power ≡ 0 → ⊥) → m .run .drive .mode ≡ Pwm
-      → (ticked m .run .profile ≡ m .run .profile)
-      × (ticked m .run .memory ≡ m .run .memory)
-      × (ticked m .run .drive .mode ≡ Pwm)
-      × (ticked m .run .drive .pulse ≡ m .run .drive .pulse)
-      × (m .samples .waiting .power ≡ 1 → ticked m .run .drive .output ≡ held (m .settings .tuning .gains .ol) (m .run .drive .pulse))
-      × (ticked m .run .drive .cut ≡ m .run .drive .cut)
+  pub pulse : (x .power ≡ 0 → ⊥) → m .run .drive .mode ≡ Pwm
+      → (ticked x m .run .profile ≡ m .run .profile)
+      × (ticked x m .run .memory ≡ m .run .memory)
+      × (ticked x m .run .drive .mode ≡ Pwm)
+      × (ticked x m .run .drive .pulse ≡ m .run .drive .pulse)
+      × (x .power ≡ 1 → ticked x m .run .drive .output ≡ held (m .settings .tuning .gains .ol) (m .run .drive .pulse))
+      × (ticked x m .run .drive .cut ≡ m .run .drive .cut)
   -- a following error above EL sets the error bit and ends in off
-  pub trip : (m .samples .waiting .power ≡ 0 → ⊥) → servoOff (m .run .drive .mode) ≡ false
-      → m .settings .tuning .gains .el < natAbs (followed m)
-      → Released (ticked m .run) × (ticked m .run .drive .error ≡ true)
+  pub trip : (x .power ≡ 0 → ⊥) → servoOff (m .run .drive .mode) ≡ false
+      → m .settings .tuning .gains .el < natAbs (followed x m)
+      → Released (ticked x m .run) × (ticked x m .run .drive .error ≡ true)
   -- with any other the profile makes its step, and the filter its own
-  pub runs : (m .samples .waiting .power ≡ 0 → ⊥) → servoOff (m .run .drive .mode) ≡ false
-      → natAbs (followed m) ≤ m .settings .tuning .gains .el
-      → Runs m (ticked m)
+  pub runs : (x .power ≡ 0 → ⊥) → servoOff (m .run .drive .mode) ≡ false
+      → natAbs (followed x m) ≤ m .settings .tuning .gains .el
+      → Runs x m (ticked x m)
 
 abbrev pub Ticks : Type 0
-Ticks = (m : Servo) → Ticking m
+Ticks = (x : Sample) (m : Servo) → Ticking x m
 
 -- n is m after a tick that left the servo on: the setpoint has moved by the new speed, and in a hold neither has changed; the error of the new
 -- setpoint and the new position is within EL, and is the next previous error
@@ -110,7 +109,7 @@ pub record StillOn (m n : Servo) : Type 0 where
 
 -- So it is after every tick that leaves the servo on (01 Tick, Filter).
 abbrev pub GoesOn : Type 0
-GoesOn = (m : Servo) → servoOff (ticked m .run .drive .mode) ≡ false → StillOn m (ticked m)
+GoesOn = (x : Sample) (m : Servo) → servoOff (ticked x m .run .drive .mode) ≡ false → StillOn m (ticked x m)
 
 -- Between ticks only going off and a PWM start change the output, and then to 0 (01 Filter).
 abbrev pub Between : Type 0
@@ -119,16 +118,15 @@ Between =
     → (execute f alone m .run .drive .output ≡ m .run .drive .output)
     ⊎ ((execute f alone m .run .drive .output ≡ pos 0) × (servoOff (execute f alone m .run .drive .mode) ≡ true))
 
--- A motor is driven only at power 1 and not in off: so at power-up, and every frame, sample and tick keeps it.
+-- A motor is driven only at power 1 and not in off: so at power-up, and every frame and tick keeps it.
 pub record Silent (m : Servo) : Type 0 where
   pub off : m .run .drive .mode ≡ Off → m .run .drive .output ≡ pos 0
-  pub unpowered : (m .samples .latched .power ≡ 1 → ⊥) → m .run .drive .output ≡ pos 0
+  pub unpowered : (m .latched .power ≡ 1 → ⊥) → m .run .drive .output ≡ pos 0
 
 pub record DrivenOnly : Type 0 where
   pub power : Silent started
   pub frame : (f : Frame) (alone : Bool) (m : Servo) → Silent m → Silent (execute f alone m)
-  pub sampling : (x : Sample) (m : Servo) → Silent m → Silent (sampled x m)
-  pub tick : (m : Servo) → Silent m → Silent (ticked m)
+  pub tick : (x : Sample) (m : Servo) → Silent m → Silent (ticked x m)
 
 -- Only Hard Reset and a following error above EL set the error bit, and only Clear Bits clears it (01 Servo).
 pub record ErrorBit : Type 0 where
@@ -139,9 +137,9 @@ pub record ErrorBit : Type 0 where
       → execute f alone m .run .drive .error ≡ m .run .drive .error
   pub reset : (m : Servo) → servo .renewed m .run .drive .error ≡ true
   pub clear : (m : Servo) → perform ClearBits m ≡ withRun (erring false (m .run)) m
-  pub tick : (m : Servo)
-      → (ticked m .run .drive .error ≡ m .run .drive .error)
-      ⊎ ((ticked m .run .drive .error ≡ true) × (m .settings .tuning .gains .el < natAbs (followed m)))
+  pub tick : (x : Sample) (m : Servo)
+      → (ticked x m .run .drive .error ≡ m .run .drive .error)
+      ⊎ ((ticked x m .run .drive .error ≡ true) × (m .settings .tuning .gains .el < natAbs (followed x m)))
 
 -- 01 Stop, Hard Reset: the frames that set or clear the amplifier bit where they are executed
 abbrev pub Switches : Frame → Type 0
@@ -163,7 +161,7 @@ pub record AmplifierBit : Type 0 where
   pub frame : (f : Frame) (alone : Bool) (m : Servo)
       → (f .damaged ≡ false → execute f alone m .station .cause ≡ 0 → Switches f → ⊥)
       → execute f alone m .run .drive .amplifier ≡ m .run .drive .amplifier
-  pub tick : (m : Servo) → ticked m .run .drive .amplifier ≡ m .run .drive .amplifier
-  pub high : (m : Servo) → m .run .drive .amplifier ≡ true → m .samples .waiting .power ≡ 1 → enableLine (ticked m) ≡ 1
-  pub unset : (m : Servo) → m .run .drive .amplifier ≡ false → enableLine (ticked m) ≡ 0
-  pub unpowered : (m : Servo) → (m .samples .waiting .power ≡ 1 → ⊥) → enableLine (ticked m) ≡ 0
+  pub tick : (x : Sample) (m : Servo) → ticked x m .run .drive .amplifier ≡ m .run .drive .amplifier
+  pub high : (x : Sample) (m : Servo) → m .run .drive .amplifier ≡ true → x .power ≡ 1 → enableLine (ticked x m) ≡ 1
+  pub unset : (x : Sample) (m : Servo) → m .run .drive .amplifier ≡ false → enableLine (ticked x m) ≡ 0
+  pub unpowered : (x : Sample) (m : Servo) → (x .power ≡ 1 → ⊥) → enableLine (ticked x m) ≡ 0

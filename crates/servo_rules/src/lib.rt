@@ -21,12 +21,6 @@ pub struct Sample {
     pub ad: u8,
 }
 
-// The sample that waits for the next tick, and the one that the last tick latched.
-pub struct Samples {
-    pub waiting: Sample,
-    pub latched: Sample,
-}
-
 // The position is the raw count less the offset; last is the position before the last tick.
 pub struct Counts {
     pub offset: u32,
@@ -99,9 +93,10 @@ pub struct Run {
     pub drive: Drive,
 }
 
+// The latched sample is the one that the last tick was handed.
 pub struct Servo {
     pub station: Station,
-    pub samples: Samples,
+    pub latched: Sample,
     pub counts: Counts,
     pub settings: Settings,
     pub run: Run,

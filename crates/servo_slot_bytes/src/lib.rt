@@ -46,12 +46,12 @@ pub fn sample_bytes(x: Sample) -> [u8; servo_slot_rules::SAMPLE_LEN]
     ensures { λ r. ⌜ r ≡ sample .codec .enc x ⌝ }
 {
     [
+        x.power,
+        x.ad,
         (x.raw % 256) as u8,
         (x.raw / 256 % 256) as u8,
         (x.raw / 256 / 256 % 256) as u8,
         (x.raw / 256 / 256 / 256 % 256) as u8,
-        x.power,
-        x.ad,
     ]
 }
 

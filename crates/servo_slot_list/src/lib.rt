@@ -5,7 +5,8 @@ ghost use lib.ListN.{length};
 ghost use Rattle.base_layout.specs.Every.{every, everyFrom};
 ghost use Rattle.servo_motion.specs.Profile.{Ranged};
 ghost use Rattle.servo_slot_rules.specs.List.{ratesFit, memoryFits, driveFits, emptied, silent, unpulsed, still, live, modeFits, soundAt};
-ghost use Rattle.servo_slot_rules.specs.Slot.{servoSize, okOf};
+ghost use Rattle.module_rules.specs.Slots.{sampleSize, measuredAt};
+ghost use Rattle.servo_slot_rules.specs.Slot.{sample, servoSize, okOf};
 ghost use Rattle.servo_slot_rules.specs.Parts.{frontTests, loadTests, runTests};
 use servo_filter::Memory;
 use servo_motion::Profile;
@@ -14,11 +15,7 @@ use servo_rules::Mode;
 use servo_rules::Rates;
 use servo_rules::Run;
 
-// Power in either sample, and the upper bytes of gains and limits.
-const WAITING_POWER_AT: usize = servo_slot_rules::WAITING_AT + 4;
-
-const LATCHED_POWER_AT: usize = servo_slot_rules::LATCHED_AT + 4;
-
+// The upper bytes of gains and limits.
 const KP_TOP_AT: usize = servo_slot_rules::KP_AT + 1;
 
 const KD_TOP_AT: usize = servo_slot_rules::KD_AT + 1;
@@ -114,8 +111,7 @@ fn is_front_ok(s: &[u8]) -> bool
         & (s[module_rules::LEADER_AT] <= 1)
         & (s[module_rules::LOW_AT] <= 1)
         & (s[module_rules::CAUSE_AT] <= module_rules::CAUSE_MOST)
-        & (s[WAITING_POWER_AT] <= 2)
-        & (s[LATCHED_POWER_AT] <= 2)
+        & (s[servo_slot_rules::POWER_AT] <= 2)
         & (s[KP_TOP_AT] <= 127)
         & (s[KD_TOP_AT] <= 127)
         & (s[KI_TOP_AT] <= 127)
@@ -164,7 +160,15 @@ pub fn is_ok(s: &[u8]) -> bool
     let front = is_front_ok(s);
     let load = is_load_ok(front, s, rates);
     if is_run_ok(load, s, run) {
-        return is_sound(s[LATCHED_POWER_AT], run);
+        return is_sound(s[servo_slot_rules::POWER_AT], run);
     }
     false
+}
+
+// Whether the sample in ten bytes of a tick's list has all its fields in range: power is 0 to 2.
+pub fn is_sample_ok(s: &[u8]) -> bool
+    requires { ⌜ length (now s) ≡ sampleSize ⌝ }
+    ensures { λ r. ⌜ r ≡ every (sample .codec .tests measuredAt (now (s .entry))) ⌝ }
+{
+    s[module_rules::MEASURED_AT] <= 2
 }

@@ -5,7 +5,7 @@ use Prim.Native.Nat.{ℕ, _≤_}
 use native.Mathlib.Omega.{arith}
 use lib.ListN.{length}
 use Rattle.base_layout.specs.Bytes.{le, pasted}
-use Rattle.base_layout.proofs.Pasted.{put-next, put-five}
+use Rattle.base_layout.proofs.Pasted.{put-next, put-four, put-five}
 use Rattle.base_integers.specs.Whole.{word}
 use Rattle.module_rules.specs.Slot.{station}
 use Rattle.servo_motion.specs.declared.Profile.{Profile}
@@ -13,7 +13,7 @@ use Rattle.servo_rules.specs.declared.Sample.{Sample}
 use Rattle.servo_rules.specs.declared.Run.{Run}
 use Rattle.servo_rules.specs.declared.Servo.{Servo}
 use Rattle.servo_rules.specs.Answers.{typeNumber}
-use Rattle.servo_slot_rules.specs.Slot.{sample, counts, tuning, rates, load, profile, memory, drive, waitingAt, latchedAt, countsAt, tuningAt, ratesAt, loadAt, profileAt, memoryAt, driveAt, lastAt, speedAt, servoSize, encodeOf}
+use Rattle.servo_slot_rules.specs.Slot.{sample, counts, tuning, rates, load, profile, memory, drive, latchedAt, countsAt, tuningAt, ratesAt, loadAt, profileAt, memoryAt, driveAt, lastAt, speedAt, servoSize, encodeOf}
 use Rattle.servo_slot_rules.specs.Parts.{frontOf, backOf, tickedOver}
 
 -- what stands after the setpoint
@@ -31,18 +31,17 @@ profile-put p s {a = a} h ev ea ex ey pa pb =
     put-next (le 6 (p .setpoint)) (course (word (p .speed)) (word (p .aim)) p) s profileAt speedAt refl (omega arith) (pa ∙ ap (λ (l : List ℕ). pasted profileAt l s) ex)
     (pb ∙ ap (λ (l : List ℕ). pasted speedAt l a) (ey ∙ ap₂ (λ (v w : ℕ). course v w p) ev ea))
 
-pub front-put : (m : Servo) (s : List ℕ) {head waiting latched counted tuned a b c d e : List ℕ} → servoSize ≤ length s
+pub front-put : (m : Servo) (s : List ℕ) {head latched counted tuned a b c d : List ℕ} → servoSize ≤ length s
     → head ≡ typeNumber ∷ station .codec .enc (m .station)
-    → waiting ≡ sample .codec .enc (m .samples .waiting)
-    → latched ≡ sample .codec .enc (m .samples .latched)
+    → latched ≡ sample .codec .enc (m .latched)
     → counted ≡ counts .codec .enc (m .counts)
     → tuned ≡ tuning .codec .enc (m .settings .tuning)
-    → a ≡ pasted 0 head s → b ≡ pasted waitingAt waiting a → c ≡ pasted latchedAt latched b → d ≡ pasted countsAt counted c → e ≡ pasted tuningAt tuned d
-    → e ≡ pasted 0 (frontOf m) s
+    → a ≡ pasted 0 head s → b ≡ pasted latchedAt latched a → c ≡ pasted countsAt counted b → d ≡ pasted tuningAt tuned c
+    → d ≡ pasted 0 (frontOf m) s
 unfolding frontOf
 front-put m s h =
-    put-five (typeNumber ∷ station .codec .enc (m .station)) (sample .codec .enc (m .samples .waiting)) (sample .codec .enc (m .samples .latched))
-    (counts .codec .enc (m .counts)) (tuning .codec .enc (m .settings .tuning)) s 0 waitingAt latchedAt countsAt tuningAt refl refl refl refl (omega arith)
+    put-four (typeNumber ∷ station .codec .enc (m .station)) (sample .codec .enc (m .latched)) (counts .codec .enc (m .counts))
+    (tuning .codec .enc (m .settings .tuning)) s 0 latchedAt countsAt tuningAt refl refl refl (omega arith)
 
 pub back-put : (m : Servo) (s : List ℕ) {rated loaded kept driven a b c d e : List ℕ} → servoSize ≤ length s
     → rated ≡ rates .codec .enc (m .settings .rates)
@@ -62,10 +61,6 @@ unfolding frontOf backOf encodeOf
 all-put m s h = put-next (frontOf m) (backOf m) s 0 ratesAt refl (omega arith)
 
 -- ---- parts alone
-
-pub sample-put : (x : Sample) (s : List ℕ) {bytes a : List ℕ} → bytes ≡ sample .codec .enc x → a ≡ pasted waitingAt bytes s
-    → a ≡ pasted waitingAt (sample .codec .enc x) s
-sample-put x s e p = p ∙ ap (λ (l : List ℕ). pasted waitingAt l s) e
 
 pub pace-put : (p : Profile) (s : List ℕ) {speed : ℕ} {x a b : List ℕ} → speed ≡ word (p .speed) → x ≡ le 6 (p .setpoint)
     → a ≡ pasted profileAt x s → b ≡ pasted speedAt (le 4 speed) a

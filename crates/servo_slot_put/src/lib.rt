@@ -4,7 +4,7 @@ ghost use Prim.Native.Nat.{_≤_};
 ghost use lib.ListN.{length};
 ghost use Rattle.base_integers.specs.Whole.{word};
 ghost use Rattle.base_layout.specs.Bytes.{le, pasted};
-ghost use Rattle.servo_slot_rules.specs.Slot.{sample, profile, waitingAt, ratesAt, profileAt, speedAt, servoSize, encodeOf};
+ghost use Rattle.servo_slot_rules.specs.Slot.{profile, ratesAt, profileAt, speedAt, servoSize, encodeOf};
 ghost use Rattle.servo_slot_rules.specs.Parts.{frontOf, backOf, tickedOver};
 use servo_motion::Profile;
 use servo_rules::Run;
@@ -30,12 +30,10 @@ fn put_front(s: &mut [u8], m: Servo)
     ensures { λ _. ⌜ now (s .exit) ≡ pasted 0 (frontOf m) (now (s .entry)) ⌝ }
 {
     let head = module_station::head_bytes(servo_rules::TYPE, m.station);
-    let waiting = servo_slot_bytes::sample_bytes(m.samples.waiting);
-    let latched = servo_slot_bytes::sample_bytes(m.samples.latched);
+    let latched = servo_slot_bytes::sample_bytes(m.latched);
     let counts = servo_slot_bytes::counts_bytes(m.counts);
     let tuning = servo_slot_bytes::tuning_bytes(m.settings.tuning);
     base_layout::put_all(s, 0, &head);
-    base_layout::put_all(s, servo_slot_rules::WAITING_AT, &waiting);
     base_layout::put_all(s, servo_slot_rules::LATCHED_AT, &latched);
     base_layout::put_all(s, servo_slot_rules::COUNTS_AT, &counts);
     base_layout::put_all(s, servo_slot_rules::TUNING_AT, &tuning);
@@ -64,15 +62,6 @@ pub fn put(s: &mut [u8], m: Servo)
 {
     put_front(s, m);
     put_back(s, m);
-}
-
-// Puts a waiting sample alone into a slot.
-pub fn put_sample(s: &mut [u8], x: Sample)
-    requires { ⌜ servoSize ≤ length (now s) ⌝ }
-    ensures { λ _. ⌜ now (s .exit) ≡ pasted waitingAt (sample .codec .enc x) (now (s .entry)) ⌝ }
-{
-    let bytes = servo_slot_bytes::sample_bytes(x);
-    base_layout::put_all(s, servo_slot_rules::WAITING_AT, &bytes);
 }
 
 // Puts the setpoint and the speed of a profile into a slot.

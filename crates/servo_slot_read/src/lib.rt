@@ -2,7 +2,7 @@
 ghost use mathlib.Core.Path.{_≡_};
 ghost use Prim.Native.Nat.{_+_, _≤_};
 ghost use lib.ListN.{length};
-ghost use Rattle.servo_slot_rules.specs.Slot.{wayIn, modeIn, sample, samples, counts, gains, tuning, rates, load, settings, profile, memory, drive, run, waitingAt, latchedAt, countsAt, tuningAt, ratesAt, loadAt, profileAt, memoryAt, driveAt, servoSize, decodeOf};
+ghost use Rattle.servo_slot_rules.specs.Slot.{wayIn, modeIn, sample, counts, gains, tuning, rates, load, settings, profile, memory, drive, run, latchedAt, countsAt, tuningAt, ratesAt, loadAt, profileAt, memoryAt, driveAt, servoSize, decodeOf};
 use servo_filter::Gains;
 use servo_filter::Memory;
 use servo_motion::Profile;
@@ -13,7 +13,6 @@ use servo_rules::Mode;
 use servo_rules::Rates;
 use servo_rules::Run;
 use servo_rules::Sample;
-use servo_rules::Samples;
 use servo_rules::Servo;
 use servo_rules::Settings;
 use servo_rules::Tuning;
@@ -41,24 +40,17 @@ fn mode_in(b: u8) -> Mode
     }
 }
 
-fn sample_in(s: &[u8], at: usize) -> Sample
+// The sample that stands from a place on, in a slot or in a tick's list.
+pub fn sample_in(s: &[u8], at: usize) -> Sample
     requires { ⌜ at + sample .codec .size ≤ length (now s) ⌝ }
     ensures { λ r. ⌜ r ≡ sample .codec .dec at (now (s .entry)) ⌝ }
 {
-    let a = at + 4;
+    let a = at + 1;
     Sample {
-        raw: base_layout::get4(s, at),
-        power: s[a],
-        ad: s[a + 1],
+        raw: base_layout::get4(s, a + 1),
+        power: s[at],
+        ad: s[a],
     }
-}
-
-// The sample that waits for the next tick.
-pub fn waiting_in(s: &[u8]) -> Sample
-    requires { ⌜ servoSize ≤ length (now s) ⌝ }
-    ensures { λ r. ⌜ r ≡ sample .codec .dec waitingAt (now (s .entry)) ⌝ }
-{
-    sample_in(s, servo_slot_rules::WAITING_AT)
 }
 
 // The sample that the last tick latched.
@@ -67,16 +59,6 @@ pub fn latched_in(s: &[u8]) -> Sample
     ensures { λ r. ⌜ r ≡ sample .codec .dec latchedAt (now (s .entry)) ⌝ }
 {
     sample_in(s, servo_slot_rules::LATCHED_AT)
-}
-
-pub fn samples_in(s: &[u8]) -> Samples
-    requires { ⌜ servoSize ≤ length (now s) ⌝ }
-    ensures { λ r. ⌜ r ≡ samples .codec .dec waitingAt (now (s .entry)) ⌝ }
-{
-    Samples {
-        waiting: waiting_in(s),
-        latched: latched_in(s),
-    }
 }
 
 pub fn counts_in(s: &[u8]) -> Counts
@@ -208,7 +190,7 @@ pub fn decode(s: &[u8]) -> Servo
 {
     Servo {
         station: module_station::station_in(s),
-        samples: samples_in(s),
+        latched: latched_in(s),
         counts: counts_in(s),
         settings: settings_in(s),
         run: run_in(s),

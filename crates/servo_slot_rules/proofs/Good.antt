@@ -25,7 +25,7 @@ use Rattle.servo_rules.specs.declared.Drive.{Drive}
 use Rattle.servo_rules.specs.declared.Run.{Run}
 use Rattle.servo_rules.specs.declared.Servo.{Servo}
 use Rattle.servo_slot_rules.specs.List.{ratesFit, memoryFits, driveFits, emptied, silent, unpulsed, uncut, still, live, modeFits, soundAt, sound}
-use Rattle.servo_slot_rules.specs.Slot.{samples, counts, rates, settings, profile, memory, drive, run}
+use Rattle.servo_slot_rules.specs.Slot.{sample, counts, rates, settings, profile, memory, drive, run}
 use Rattle.servo_slot_rules.specs.Promises.{Fits}
 
 pub record Rated (r : Rates) : Type 0 where
@@ -63,10 +63,10 @@ pub record Sane (power : ℕ) (r : Run) : Type 0 where
 
 pub record Good (m : Servo) : Type 0 where
   pub station : station .codec .fits (m .station)
-  pub samples : samples .codec .fits (m .samples)
+  pub latched : sample .codec .fits (m .latched)
   pub counts : counts .codec .fits (m .counts)
   pub settings : settings .codec .fits (m .settings)
-  pub sane : Sane (m .samples .latched .power) (m .run)
+  pub sane : Sane (m .latched .power) (m .run)
 
 -- ---- each part's test
 
@@ -232,16 +232,16 @@ module _ (m : Servo) where
       let x = t .0 .1 in
       record {
         station = x .0;
-        samples = x .1 .0;
+        latched = x .1 .0;
         counts = x .1 .1 .0;
         settings = x .1 .1 .1 .0;
-        sane = run-good (m .samples .latched .power) (m .run) (x .1 .1 .1 .1) (t .1);
+        sane = run-good (m .latched .power) (m .run) (x .1 .1 .1 .1) (t .1);
       }
 
   pub fits : Good m → Fits m
   unfolding sound
   fits g =
-      let power : ℕ = m .samples .latched .power in (
-        (tt, (g .station, (g .samples, (g .counts, (g .settings, run-fits power (m .run) (g .sane)))))),
+      let power : ℕ = m .latched .power in (
+        (tt, (g .station, (g .latched, (g .counts, (g .settings, run-fits power (m .run) (g .sane)))))),
         sound-fits power (m .run) (g .sane .powerless) (g .sane .mode),
       )

@@ -125,15 +125,15 @@ module _ {m : Servo} (g : Good m) where
   pub reset-good : atRest (m .run) ≡ true → Good (resetPosition m)
   unfolding resetPosition
   reset-good e =
-      let same = resets-position m (record { profile = g .sane .profile; raw = g .samples .1 .0; last = g .counts .1 }) .far in
+      let same = resets-position m (record { profile = g .sane .profile; raw = g .latched .1 .1; last = g .counts .1 }) .far in
       counts-good
       (settings-good (run-good g _ (shifted-sane (g .sane) (position m) e same)) _ (dropped-fits (m .settings) (g .settings)))
-      (record { offset = m .samples .latched .raw; last = less (m .counts .last) (position m) })
-      (g .samples .1 .0, omega arith)
+      (record { offset = m .latched .raw; last = less (m .counts .last) (position m) })
+      (g .latched .1 .1, omega arith)
 
-  halted-sane : (h : Halt) (x : ℕ) → x < 2 ^ 32 → canHalt h m ≡ true → Sane (m .samples .latched .power) (haltedBy h (position m) x (m .run))
+  halted-sane : (h : Halt) (x : ℕ) → x < 2 ^ 32 → canHalt h m ≡ true → Sane (m .latched .power) (haltedBy h (position m) x (m .run))
   halted-sane Keep x l e = g .sane
-  halted-sane Release x l e = off-sane (m .samples .latched .power) (m .run) (g .sane .profile)
+  halted-sane Release x l e = off-sane (m .latched .power) (m .run) (g .sane .profile)
   halted-sane Abrupt x l e = holding-sane (g .sane) (position m) (omega arith) (ready-live m e)
   halted-sane Smooth x l e = smooth-sane (g .sane)
   halted-sane Here x l e = holding-sane (g .sane) x l (ready-live m e)

@@ -16,10 +16,10 @@ use Rattle.servo_rules.specs.declared.Mode.{Mode}
 use Rattle.servo_rules.specs.declared.Mode.the-variants.{Off, Pwm, Hold, Velocity, Trapezoid}
 use Rattle.servo_rules.specs.declared.Run.{Run}
 use Rattle.servo_rules.specs.declared.Servo.{Servo}
-use Rattle.servo_rules.specs.State.{position, withStation, withRun, sampled, withProfile, idled, off}
+use Rattle.servo_rules.specs.State.{position, withStation, withRun, withProfile, idled, off}
 use Rattle.servo_rules.specs.Tick.{advancedBy, advanced, tripped, workedTo, pulsed, ticked}
 use Rattle.servo_rules.proofs.Ends.{tick-ends}
-use Rattle.servo_slot_rules.specs.Slot.{sample, slot, waitingAt, servoSize, encodeOf, decodeOf, okOf}
+use Rattle.servo_slot_rules.specs.Slot.{slot, servoSize, encodeOf, decodeOf, okOf}
 use Rattle.servo_slot_rules.specs.Parts.{tickedOver}
 
 -- ---- a tick leaves a profile's goal, aim, acceleration and top
@@ -40,16 +40,16 @@ advanced-steps Hold p = refl
 advanced-steps Velocity p = refl
 advanced-steps Trapezoid p = refl
 
-tick-goes : (m : Servo) → onward (m .run) (ticked m .run) ≡ ticked m .run
+tick-goes : (x : Sample) (m : Servo) → onward (m .run) (ticked x m .run) ≡ ticked x m .run
 unfolding advanced pulsed tripped idled off
-tick-goes m =
+tick-goes x m =
     let r : Run = m .run in
     let steps = advanced-steps (r .drive .mode) (r .profile) in
-    tick-ends (λ (x : Run). onward r x ≡ x) m (record {
+    tick-ends (λ (s : Run). onward r s ≡ s) x m (record {
       low = λ e. refl;
       off = λ e. refl;
       pwm = λ e. refl;
-      output = λ s t q. ap (λ (p : Profile). workedTo t (m .samples .waiting .power) p r) steps;
+      output = λ s t q. ap (λ (p : Profile). workedTo t (x .power) p r) steps;
       trip = λ e. ap (λ (p : Profile). tripped p r) steps;
     })
 
@@ -65,14 +65,10 @@ module _ (s : List ℕ) (h : servoSize ≤ length s) (bytes : Bytes s) (ok : okO
   unfolding encodeOf
   station-over x = put-over (withStation x (decodeOf s)) (pasted stationAt (station .codec .enc x)) (λ t. refl)
 
-  pub sampled-over : (x : Sample) → pasted 0 (encodeOf (sampled x (decodeOf s))) s ≡ pasted waitingAt (sample .codec .enc x) s
-  unfolding encodeOf
-  sampled-over x = put-over (sampled x (decodeOf s)) (pasted waitingAt (sample .codec .enc x)) (λ t. refl)
-
-  pub ticked-over : pasted 0 (encodeOf (ticked (decodeOf s))) s
-      ≡ tickedOver (decodeOf s .samples .waiting) (position (decodeOf s)) (ticked (decodeOf s) .run) s
+  pub ticked-over : (x : Sample) → pasted 0 (encodeOf (ticked x (decodeOf s))) s
+      ≡ tickedOver x (position (decodeOf s)) (ticked x (decodeOf s) .run) s
   unfolding encodeOf ticked tickedOver
-  ticked-over =
+  ticked-over x =
       let m : Servo = decodeOf s in
-      let n : Servo = ticked m in
-      put-over n (tickedOver (m .samples .waiting) (position m) (n .run)) (λ t. ap (λ (r : Run). encodeOf (withRun r n) ++ t) (tick-goes m))
+      let n : Servo = ticked x m in
+      put-over n (tickedOver x (position m) (n .run)) (λ t. ap (λ (r : Run). encodeOf (withRun r n) ++ t) (tick-goes x m))

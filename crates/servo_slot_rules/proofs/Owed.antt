@@ -29,7 +29,7 @@ use Rattle.servo_slot_rules.specs.Slot.{sample, slot, encodeOf, decodeOf
 use Rattle.servo_slot_rules.specs.Promises.{Fits}
 use Rattle.servo_slot_rules.proofs.Over.{station-over}
 use Rattle.servo_slot_rules.proofs.Good.{good, fits}
-use Rattle.servo_slot_rules.proofs.Replaced.{station-good, sampled-good, fresh-good}
+use Rattle.servo_slot_rules.proofs.Replaced.{station-good, fresh-good}
 use Rattle.servo_slot_rules.proofs.Starts.{start-good, trajectory-good}
 use Rattle.servo_slot_rules.proofs.Orders.{gain-good, reset-good, stop-good, clear-good}
 use Rattle.servo_slot_rules.proofs.Ticks.{tick-good}
@@ -76,7 +76,7 @@ outputs-bytes : (m : Servo) → Fits m → Bytes (outputsOf m)
 unfolding outputsFrom
 outputs-bytes m t zero = omega (arith, good m t .sane .output)
 outputs-bytes m t (suc zero) = omega (arith, bit-most 1 (ltZ (m .run .drive .output) (pos 0)))
-outputs-bytes m t (suc (suc zero)) = omega (arith, bit-most 1 (enabled (m .samples .latched .power) (m .run .drive)))
+outputs-bytes m t (suc (suc zero)) = omega (arith, bit-most 1 (enabled (m .latched .power) (m .run .drive)))
 outputs-bytes m t (suc (suc (suc i))) = bytes-le 5 0 i
 
 pub owes : Owes servo slots (sample .codec .fits)
@@ -90,17 +90,16 @@ owes = record {
   typed = typed;
   stationed = λ s. refl;
   alone = λ x s l b v. station-over s (omega (arith, l)) b v x;
-  power = fits _ (fresh-good _ ((omega arith, ((omega arith, omega arith), omega arith)), (omega arith, ((omega arith, omega arith), omega arith))));
+  power = fits _ (fresh-good _ ((omega arith, omega arith), (omega arith, omega arith)));
   held = λ m t. good m t .station;
   withStation = λ s m h t. fits _ (station-good (good m t) s h);
-  renewed = λ m t. fits _ (fresh-good (m .samples) (good m t .samples));
+  renewed = λ m t. fits _ (fresh-good (m .latched) (good m t .latched));
   own = λ code ds b. own-means (Safe servo slots (sample .codec .fits)) code ds (each code ds b);
-  sample = λ x m h t. fits _ (sampled-good (good m t) x h);
-  tick = λ m t. fits _ (tick-good (good m t));
+  tick = λ x m h t. fits _ (tick-good (good m t) x h);
   eight = refl;
   four = search needs;
   small = omega arith;
   status = λ m. omega (arith, status-bits m .small);
-  numbers = λ m t. numbers-fit m (good m t .samples .1 .1 .1);
+  numbers = λ m t. numbers-fit m (good m t .latched .1 .0);
   outputs = λ m t. (refl, outputs-bytes m t);
 }

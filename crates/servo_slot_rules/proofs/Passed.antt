@@ -35,10 +35,10 @@ module _ {s : List ℕ} {m : Servo} (l : Lines s m) where
   mode-apart : {j k : Mode} → m .run .drive .mode ≡ j → eqb (modeByte j) (modeByte k) ≡ false → m .run .drive .mode ≡ k → ⊥
   mode-apart e n q = eqb-false _ _ n (ap modeByte (sym e ∙ q))
 
-  is-live : {j : Mode} → m .run .drive .mode ≡ j → eqb (modeByte j) 0 ≡ false → Live (m .samples .latched .power) (m .run .drive .error)
+  is-live : {j : Mode} → m .run .drive .mode ≡ j → eqb (modeByte j) 0 ≡ false → Live (m .latched .power) (m .run .drive .error)
   is-live e n = record { clear = l .clear (mode-apart e n); alive = l .alive (mode-apart e n) }
 
-  in-mode : (k : Mode) → m .run .drive .mode ≡ k → InMode k (m .samples .latched .power) (m .run)
+  in-mode : (k : Mode) → m .run .drive .mode ≡ k → InMode k (m .latched .power) (m .run)
   in-mode Off e =
       let y = l .offEmpty e in
       let x = l .off e in
@@ -53,7 +53,7 @@ module _ {s : List ℕ} {m : Servo} (l : Lines s m) where
   sound-holds : sound m ≡ true
   unfolding sound
   sound-holds =
-      sound-fits (m .samples .latched .power) (m .run) (l .powerless) (in-mode (m .run .drive .mode) refl)
+      sound-fits (m .latched .power) (m .run) (l .powerless) (in-mode (m .run .drive .mode) refl)
 
   -- ---- the tests of rates, load and what runs
 
@@ -98,7 +98,6 @@ module _ (s : List ℕ) (l : Lines s (decodeOf s)) where
       and le-leb _ _ (l .leader)
       and le-leb _ _ (l .low)
       and le-leb _ _ (l .cause)
-      and le-leb _ _ (l .waitingPower)
       and le-leb _ _ (l .latchedPower)
       and upper _ _ 127 (g .kp)
       and upper _ _ 127 (g .kd)

@@ -14,32 +14,29 @@ use Rattle.servo_motion.specs.declared.Profile.{Profile}
 use Rattle.servo_motion.specs.Profile.{Ranged}
 use Rattle.servo_filter.specs.Filter.{Kept, blank}
 use Rattle.servo_rules.specs.declared.Sample.{Sample}
-use Rattle.servo_rules.specs.declared.Samples.{Samples}
+use Rattle.servo_rules.specs.declared.Sample.{Sample}
 use Rattle.servo_rules.specs.declared.Counts.{Counts}
 use Rattle.servo_rules.specs.declared.Settings.{Settings}
 use Rattle.servo_rules.specs.declared.Mode.{Mode}
 use Rattle.servo_rules.specs.declared.Mode.the-variants.{Off}
 use Rattle.servo_rules.specs.declared.Run.{Run}
 use Rattle.servo_rules.specs.declared.Servo.{Servo}
-use Rattle.servo_rules.specs.State.{powered, ready, noLoad, noSettings, noRun, fresh, withStation, withCounts, withSettings, withRun, sampled, dropped, resting, idled, off}
-use Rattle.servo_slot_rules.specs.Slot.{sample, samples, counts, load, settings}
+use Rattle.servo_rules.specs.State.{powered, ready, noLoad, noSettings, noRun, fresh, withStation, withCounts, withSettings, withRun, dropped, resting, idled, off}
+use Rattle.servo_slot_rules.specs.Slot.{sample, counts, load, settings}
 use Rattle.servo_slot_rules.proofs.Good.{Idle, Live, InMode, Sane, Good, rates-fit}
 
 module _ {m : Servo} (g : Good m) where
   pub station-good : (s : Station) → station .codec .fits s → Good (withStation s m)
-  station-good s h = record { station = h; samples = g .samples; counts = g .counts; settings = g .settings; sane = g .sane }
-
-  pub sampled-good : (x : Sample) → sample .codec .fits x → Good (sampled x m)
-  sampled-good x h = record { station = g .station; samples = (h, g .samples .1); counts = g .counts; settings = g .settings; sane = g .sane }
+  station-good s h = record { station = h; latched = g .latched; counts = g .counts; settings = g .settings; sane = g .sane }
 
   pub counts-good : (x : Counts) → counts .codec .fits x → Good (withCounts x m)
-  counts-good x h = record { station = g .station; samples = g .samples; counts = h; settings = g .settings; sane = g .sane }
+  counts-good x h = record { station = g .station; latched = g .latched; counts = h; settings = g .settings; sane = g .sane }
 
   pub settings-good : (x : Settings) → settings .codec .fits x → Good (withSettings x m)
-  settings-good x h = record { station = g .station; samples = g .samples; counts = g .counts; settings = h; sane = g .sane }
+  settings-good x h = record { station = g .station; latched = g .latched; counts = g .counts; settings = h; sane = g .sane }
 
-  pub run-good : (r : Run) → Sane (m .samples .latched .power) r → Good (withRun r m)
-  run-good r s = record { station = g .station; samples = g .samples; counts = g .counts; settings = g .settings; sane = s }
+  pub run-good : (r : Run) → Sane (m .latched .power) r → Good (withRun r m)
+  run-good r s = record { station = g .station; latched = g .latched; counts = g .counts; settings = g .settings; sane = s }
 
 no-load-fits : load .codec .fits noLoad
 no-load-fits = (tt, (tt, (tt, (omega arith, (tt, (omega arith, tt))))))
@@ -88,21 +85,21 @@ no-settings-fit = (
   ),
 )
 
-pub fresh-good : (x : Samples) → samples .codec .fits x → Good (fresh x)
+pub fresh-good : (x : Sample) → sample .codec .fits x → Good (fresh x)
 unfolding off idled
 fresh-good x h = record {
   station = powerUp-fits;
-  samples = h;
-  counts = (h .1 .0, omega arith);
+  latched = h;
+  counts = (h .1 .1, omega arith);
   settings = no-settings-fit;
   sane =
-      off-sane (x .latched .power) noRun
+      off-sane (x .power) noRun
       (record { setpoint = omega arith; speed = omega arith; goal = omega arith; aim = omega arith; acceleration = omega arith; top = omega arith });
 }
 
 -- good power and a clear error bit
-pub ready-live : (m : Servo) → ready m ≡ true → Live (m .samples .latched .power) (m .run .drive .error)
+pub ready-live : (m : Servo) → ready m ≡ true → Live (m .latched .power) (m .run .drive .error)
 ready-live m e =
     let h = every-hold (powered m ∷ not (m .run .drive .error) ∷ []) e in
-    let one = eqb-true (m .samples .latched .power) 1 (h .0) in
+    let one = eqb-true (m .latched .power) 1 (h .0) in
     record { clear = not-true _ (h .1 .0); alive = λ z. omega arith }

@@ -70,13 +70,13 @@ module _ {m : Servo} (g : Good m) where
   rated : Rated (m .settings .rates)
   rated = Fit.rates-good (m .settings .rates) (g .settings .1 .0)
 
-  started-sane : Live (m .samples .latched .power) (m .run .drive .error) → (w : Way) → completeBy w m ≡ true
-      → Sane (m .samples .latched .power) (startedBy w (position m) (m .settings) (m .run))
+  started-sane : Live (m .latched .power) (m .run .drive .error) → (w : Way) → completeBy w m ≡ true
+      → Sane (m .latched .power) (startedBy w (position m) (m .settings) (m .run))
   unfolding idled movable
   started-sane l Pulse c =
       let x : Settings = m .settings in
       let h = g .settings .1 .1 .1 .1 .1 .1 .1 .0 in
-      idled-sane (m .samples .latched .power) (m .run) (g .sane .profile) Pwm _ (omega (arith, signed-size (x .load .reverse) (x .load .pulse))) (idle, l)
+      idled-sane (m .latched .power) (m .run) (g .sane .profile) Pwm _ (omega (arith, signed-size (x .load .reverse) (x .load .pulse))) (idle, l)
   started-sane l Speed c =
       let x : Settings = m .settings in
       let h = rated .velocity in

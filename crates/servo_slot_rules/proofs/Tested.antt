@@ -16,7 +16,7 @@ use Rattle.servo_rules.specs.declared.Rates.{Rates}
 use Rattle.servo_rules.specs.declared.Run.{Run}
 use Rattle.servo_rules.specs.Tick.{Steady}
 use Rattle.servo_slot_rules.specs.List.{soundAt, sound}
-use Rattle.servo_slot_rules.specs.Slot.{slot, rates, profile, run, latchedAt, ratesAt, profileAt, powerIn, decodeOf, okOf}
+use Rattle.servo_slot_rules.specs.Slot.{slot, rates, profile, run, ratesAt, profileAt, powerAt, decodeOf, okOf}
 use Rattle.servo_slot_rules.specs.Parts.{frontTests, loadTests, runTests}
 use Rattle.servo_slot_rules.specs.Promises.{Fits}
 use Rattle.servo_slot_rules.proofs.Good.{good}
@@ -25,7 +25,7 @@ use Rattle.servo_slot_rules.proofs.Within.{defined}
 module _ (s : List ℕ) {r : Rates} {u : Run} {front load runs : Bool} (er : r ≡ rates .codec .dec ratesAt s)
     (eu : u ≡ run .codec .dec profileAt s) (ef : front ≡ every (frontTests s)) (el : load ≡ everyFrom front (loadTests r s))
     (es : runs ≡ everyFrom load (runTests u s)) where
-  pub ok-is : okOf s ≡ (runs && soundAt (getD s (powerIn latchedAt) 0) u)
+  pub ok-is : okOf s ≡ (runs && soundAt (getD s powerAt 0) u)
   unfolding okOf sound
   ok-is = rw (es, el, ef, eu, er)
 

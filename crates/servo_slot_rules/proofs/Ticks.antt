@@ -13,6 +13,7 @@ use Rattle.servo_filter.specs.Filter.{Kept, held, filtered, Told, told}
 use Rattle.servo_filter.specs.Promises.{Ranged}
 use Rattle.servo_filter.proofs.Held.{held-most}
 use Rattle.servo_filter.proofs.Answers.{within, keeps}
+use Rattle.servo_rules.specs.declared.Sample.{Sample}
 use Rattle.servo_rules.specs.declared.Mode.{Mode}
 use Rattle.servo_rules.specs.declared.Mode.the-variants.{Off, Pwm, Hold, Velocity, Trapezoid}
 use Rattle.servo_rules.specs.declared.Run.{Run}
@@ -21,7 +22,7 @@ use Rattle.servo_rules.specs.State.{positionAt, good, running, putting, withPro
 use Rattle.servo_rules.specs.Tick.{advanced, putOut, tripped, workedTo, followedAt, servoed, pulsed, drivenBy, ran, ticked}
 use Rattle.servo_rules.proofs.Keeping.{by-test, either}
 use Rattle.servo_rules.proofs.Ranges.{advanced-ranged}
-use Rattle.servo_slot_rules.specs.Slot.{gains}
+use Rattle.servo_slot_rules.specs.Slot.{sample, gains}
 use Rattle.servo_slot_rules.proofs.Good.{InMode, Sane, Good}
 use Rattle.servo_slot_rules.proofs.Replaced.{off-sane}
 
@@ -97,13 +98,13 @@ module _ {before : ℕ} (power here : ℕ) (g : Gains) (h : gains .codec .fits g
       by-test (Sane power) (eqb power 0) (off r) (drivenBy (r .drive .mode) power here g r) (λ e. off-sane power r (s .profile))
       (λ e. driven-sane (r .drive .mode) refl (s .mode) (eqb-false _ _ e))
 
-pub tick-good : {m : Servo} → Good m → Good (ticked m)
+pub tick-good : {m : Servo} → Good m → (x : Sample) → sample .codec .fits x → Good (ticked x m)
 unfolding ticked
-tick-good {m} g = record {
+tick-good {m} g x h = record {
   station = g .station;
-  samples = (g .samples .0, g .samples .0);
+  latched = h;
   counts = (g .counts .0, omega arith);
   settings = g .settings;
   sane =
-      ran-sane (m .samples .waiting .power) (positionAt (m .samples .waiting) (m .counts)) (m .settings .tuning .gains) (g .settings .0 .0) (g .sane);
+      ran-sane (x .power) (positionAt x (m .counts)) (m .settings .tuning .gains) (g .settings .0 .0) (g .sane);
 }

@@ -10,7 +10,6 @@ pub kept : Kept
 kept = record {
   power = owes .power;
   frame = preserves servo slots (sample .codec .fits) owes .execute;
-  sampling = owes .sample;
   tick = owes .tick;
 }
 

@@ -59,4 +59,4 @@ unfoldable pub soundAt : ℕ → Run → Bool
 soundAt power r = (eqb power 1 || silent (r .drive)) && modeFits (r .drive .mode) power r
 
 unfoldable pub sound : Servo → Bool
-sound m = soundAt (m .samples .latched .power) (m .run)
+sound m = soundAt (m .latched .power) (m .run)

@@ -15,15 +15,14 @@ use Rattle.servo_rules.specs.declared.Run.{Run}
 use Rattle.servo_rules.specs.declared.Servo.{Servo}
 use Rattle.servo_rules.specs.Answers.{typeNumber}
 use Rattle.servo_slot_rules.specs.List.{ratesFit, memoryFits, driveFits}
-use Rattle.servo_slot_rules.specs.Slot.{sample, counts, tuning, rates, load, profile, memory, drive, waitingAt, latchedAt, profileAt, memoryAt, driveAt, powerIn, kpTopAt, kdTopAt, kiTopAt, ilTopAt, elTopAt, pacedAt, rampedAt, waitsAt, wayAt, placedAt, pulsedAt, reverseAt, modeAt, errorAt, amplifierAt, cutAt, lastAt, speedAt}
+use Rattle.servo_slot_rules.specs.Slot.{sample, counts, tuning, rates, load, profile, memory, drive, latchedAt, profileAt, memoryAt, driveAt, powerAt, kpTopAt, kdTopAt, kiTopAt, ilTopAt, elTopAt, pacedAt, rampedAt, waitsAt, wayAt, placedAt, pulsedAt, reverseAt, modeAt, errorAt, amplifierAt, cutAt, lastAt, speedAt}
 
 -- the bytes before and after the place of the rates, one part after another
 unfoldable pub frontOf : Servo → List ℕ
 frontOf m =
     typeNumber
     ∷ station .codec .enc (m .station)
-    ++ sample .codec .enc (m .samples .waiting)
-    ++ sample .codec .enc (m .samples .latched)
+    ++ sample .codec .enc (m .latched)
     ++ counts .codec .enc (m .counts)
     ++ tuning .codec .enc (m .settings .tuning)
 
@@ -52,8 +51,7 @@ frontTests s =
     ∷ leb (getD s leaderAt 0) 1
     ∷ leb (getD s lowAt 0) 1
     ∷ leb (getD s causeAt 0) causeMost
-    ∷ leb (getD s (powerIn waitingAt) 0) 2
-    ∷ leb (getD s (powerIn latchedAt) 0) 2
+    ∷ leb (getD s powerAt 0) 2
     ∷ leb (getD s kpTopAt 0) 127
     ∷ leb (getD s kdTopAt 0) 127
     ∷ leb (getD s kiTopAt 0) 127

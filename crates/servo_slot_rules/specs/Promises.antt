@@ -15,7 +15,7 @@ use Rattle.servo_filter.specs.Promises.{Ranged}
 use Rattle.servo_rules.specs.declared.Sample.{Sample}
 use Rattle.servo_rules.specs.declared.Mode.the-variants.{Off, Pwm, Hold, Trapezoid}
 use Rattle.servo_rules.specs.declared.Servo.{Servo}
-use Rattle.servo_rules.specs.State.{servoOff, started, sampled}
+use Rattle.servo_rules.specs.State.{servoOff, started}
 use Rattle.servo_rules.specs.Tick.{ticked, Steady}
 use Rattle.servo_rules.specs.Answers.{typeNumber, execute}
 use Rattle.servo_slot_rules.specs.Slot.{sample, slot, pacedAt, rampedAt, waitsAt, wayAt, placedAt, pulsedAt, reverseAt, modeAt, errorAt, amplifierAt, cutAt, decodeOf, okOf}
@@ -24,12 +24,11 @@ use Rattle.servo_slot_rules.specs.Slot.{sample, slot, pacedAt, rampedAt,
 abbrev pub Fits : Servo → Type 0
 Fits m = slot .codec .fits m
 
--- They are never left: by power-up, frames, samples or ticks.
+-- They are never left: by power-up, frames or ticks with a good sample.
 pub record Kept : Type 0 where
   pub power : Fits started
   pub frame : (f : Frame) (alone : Bool) (m : Servo) → Bytes (f .content) → Fits m → Fits (execute f alone m)
-  pub sampling : (x : Sample) (m : Servo) → sample .codec .fits x → Fits m → Fits (sampled x m)
-  pub tick : (m : Servo) → Fits m → Fits (ticked m)
+  pub tick : (x : Sample) (m : Servo) → sample .codec .fits x → Fits m → Fits (ticked x m)
 
 -- A valid slot has all that a tick's arithmetic needs, so that every answer about it is defined.
 abbrev pub Defined : Type 0
@@ -41,8 +40,7 @@ pub record Lines (s : List ℕ) (m : Servo) : Type 0 where
   pub leader : getD s leaderAt 0 ≤ 1
   pub low : getD s lowAt 0 ≤ 1
   pub cause : m .station .cause ≤ 5
-  pub waitingPower : m .samples .waiting .power ≤ 2
-  pub latchedPower : m .samples .latched .power ≤ 2
+  pub latchedPower : m .latched .power ≤ 2
   pub gains : Ranged (m .settings .tuning .gains)
   pub paced : getD s pacedAt 0 ≤ 1
   pub ramped : getD s rampedAt 0 ≤ 1
@@ -68,7 +66,7 @@ pub record Lines (s : List ℕ) (m : Servo) : Type 0 where
   pub amplifier : getD s amplifierAt 0 ≤ 1
   pub cut : getD s cutAt 0 ≤ 1
   -- without good power there is no output
-  pub powerless : (m .samples .latched .power ≡ 1 → ⊥) → m .run .drive .output ≡ pos 0
+  pub powerless : (m .latched .power ≡ 1 → ⊥) → m .run .drive .output ≡ pos 0
   -- off: speed, output, integral, previous error and PWM value are 0
   pub off : m .run .drive .mode ≡ Off → (m .run .profile .speed ≡ pos 0) × (m .run .drive .output ≡ pos 0)
   pub offEmpty : m .run .drive .mode ≡ Off → (m .run .memory .integral ≡ pos 0) × (m .run .memory .previous ≡ pos 0)
@@ -83,7 +81,7 @@ pub record Lines (s : List ℕ) (m : Servo) : Type 0 where
   -- the PWM value is 0 in every mode but PWM; every mode but off has a clear error bit and power that is not low
   pub unpulsed : (m .run .drive .mode ≡ Pwm → ⊥) → m .run .drive .pulse ≡ pos 0
   pub clear : (m .run .drive .mode ≡ Off → ⊥) → m .run .drive .error ≡ false
-  pub alive : (m .run .drive .mode ≡ Off → ⊥) → m .samples .latched .power ≡ 0 → ⊥
+  pub alive : (m .run .drive .mode ≡ Off → ⊥) → m .latched .power ≡ 0 → ⊥
 
 -- A slot of bytes is valid exactly when it satisfies the list.
 abbrev pub Listed : Type 0

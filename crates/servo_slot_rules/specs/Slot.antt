@@ -16,7 +16,6 @@ use Rattle.servo_filter.specs.declared.Gains.{Gains}
 use Rattle.servo_filter.specs.declared.Memory.{Memory}
 use Rattle.servo_rules.specs.declared.Tuning.{Tuning}
 use Rattle.servo_rules.specs.declared.Sample.{Sample}
-use Rattle.servo_rules.specs.declared.Samples.{Samples}
 use Rattle.servo_rules.specs.declared.Counts.{Counts}
 use Rattle.servo_rules.specs.declared.Way.{Way}
 use Rattle.servo_rules.specs.declared.Way.the-variants.{Pulse, Speed, Move}
@@ -100,18 +99,12 @@ way = oneOf 2 (omega arith) wayByte wayIn way-most way-back way-there
 abbrev pub mode : Shape Mode
 mode = oneOf 4 (omega arith) modeByte modeIn mode-most mode-back mode-there
 
--- the parts of each struct in the order of the slot, and the struct of its parts
+-- the parts of each struct in the order of the slot, and the struct of its parts; a sample stands so in a tick's list, too
 abbrev pub sampleParts : Sample → ℕ × (ℕ × ℕ)
-sampleParts x = (x .raw, (x .power, x .ad))
+sampleParts x = (x .power, (x .ad, x .raw))
 
 abbrev pub sampleOf : ℕ × (ℕ × ℕ) → Sample
-sampleOf t = record { raw = t .0; power = t .1 .0; ad = t .1 .1 }
-
-abbrev pub samplesParts : Samples → Sample × Sample
-samplesParts x = (x .waiting, x .latched)
-
-abbrev pub samplesOf : Sample × Sample → Samples
-samplesOf t = record { waiting = t .0; latched = t .1 }
+sampleOf t = record { raw = t .1 .1; power = t .0; ad = t .1 .0 }
 
 abbrev pub countsParts : Counts → ℕ × ℕ
 countsParts x = (x .offset, x .last)
@@ -189,20 +182,17 @@ abbrev pub runOf : Profile × (Memory × Drive) → Run
 runOf t = record { profile = t .0; memory = t .1 .0; drive = t .1 .1 }
 
 abbrev pub Parts : Type 0
-Parts = Unit {0} × (Station × (Samples × (Counts × (Settings × Run))))
+Parts = Unit {0} × (Station × (Sample × (Counts × (Settings × Run))))
 
 abbrev pub servoParts : Servo → Parts
-servoParts m = (tt, (m .station, (m .samples, (m .counts, (m .settings, m .run)))))
+servoParts m = (tt, (m .station, (m .latched, (m .counts, (m .settings, m .run)))))
 
 abbrev pub servoOf : Parts → Servo
-servoOf t = record { station = t .1 .0; samples = t .1 .1 .0; counts = t .1 .1 .1 .0; settings = t .1 .1 .1 .1 .0; run = t .1 .1 .1 .1 .1 }
+servoOf t = record { station = t .1 .0; latched = t .1 .1 .0; counts = t .1 .1 .1 .0; settings = t .1 .1 .1 .1 .0; run = t .1 .1 .1 .1 .1 }
 
 -- power is 0 to 2
 abbrev pub sample : Shape Sample
-sample = shaped sampleOf sampleParts (λ t. refl) (λ x. refl) (number 4 then capped 2 then byte)
-
-abbrev pub samples : Shape Samples
-samples = shaped samplesOf samplesParts (λ t. refl) (λ x. refl) (sample then sample)
+sample = shaped sampleOf sampleParts (λ t. refl) (λ x. refl) (capped 2 then byte then number 4)
 
 abbrev pub counts : Shape Counts
 counts = shaped countsOf countsParts (λ t. refl) (λ x. refl) (number 4 then number 4)
@@ -238,14 +228,11 @@ run = shaped runOf runParts (λ t. refl) (λ r. refl) (profile then memory then 
 abbrev pub slot : Shape Servo
 slot =
     such sound
-    (shaped servoOf servoParts (λ t. refl) (λ m. refl) (stamp typeNumber (omega arith) then station then samples then counts then settings then run))
+    (shaped servoOf servoParts (λ t. refl) (λ m. refl) (stamp typeNumber (omega arith) then station then sample then counts then settings then run))
 
 -- where each part begins: after the parts before it
-abbrev pub waitingAt : ℕ
-waitingAt = ownAt
-
 abbrev pub latchedAt : ℕ
-latchedAt = waitingAt + sample .codec .size
+latchedAt = ownAt
 
 abbrev pub countsAt : ℕ
 countsAt = latchedAt + sample .codec .size
@@ -268,9 +255,9 @@ memoryAt = profileAt + profile .codec .size
 abbrev pub driveAt : ℕ
 driveAt = memoryAt + memory .codec .size
 
--- the places of single fields: power in a sample; the upper bytes of gains and limits; flags, way and mode; what a tick changes of a profile
-abbrev pub powerIn : ℕ → ℕ
-powerIn at = at + 4
+-- the places of single fields: power; the upper bytes of gains and limits; flags, way and mode; what a tick changes of a profile
+abbrev pub powerAt : ℕ
+powerAt = latchedAt
 
 abbrev pub kpTopAt : ℕ
 kpTopAt = tuningAt + 1

@@ -1,11 +1,15 @@
 // How a servo stands in a slot of the record: where its parts and their fields are. Definitions and promises; no function.
 
-// The waiting and the latched sample: raw count, power, A/D byte.
+// The latched sample, in the order of a tick's list: power, A/D byte, raw count.
 pub const SAMPLE_LEN: usize = 6;
 
-pub const WAITING_AT: usize = module_rules::OWN_AT;
+pub const LATCHED_AT: usize = module_rules::OWN_AT;
 
-pub const LATCHED_AT: usize = WAITING_AT + SAMPLE_LEN;
+pub const POWER_AT: usize = LATCHED_AT;
+
+pub const AD_AT: usize = POWER_AT + 1;
+
+pub const RAW_AT: usize = AD_AT + 1;
 
 // The counts.
 pub const COUNTS_AT: usize = LATCHED_AT + SAMPLE_LEN;

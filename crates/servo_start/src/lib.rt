@@ -89,7 +89,7 @@ fn is_movable(m: Servo) -> bool
     ensures { λ r. ⌜ r ≡ movable m ⌝ }
 {
     let s = m.settings;
-    let here = servo_run::position(m.samples.latched, m.counts);
+    let here = servo_run::position(m.latched, m.counts);
     let whole = servo_motion::whole(beginning_at(here, m.run));
     let still = servo_run::is_at_rest(m.run);
     let away = base_integers::less(s.load.place, whole);
@@ -119,9 +119,7 @@ pub fn is_startable(m: Servo) -> bool
     requires { ⌜ Ranged (m .run .profile) ⌝ }
     ensures { λ r. ⌜ r ≡ startable m ⌝ }
 {
-    m.settings.load.waits
-        & is_complete(m)
-        & servo_run::is_ready(m.samples.latched.power, m.run.drive)
+    m.settings.load.waits & is_complete(m) & servo_run::is_ready(m.latched.power, m.run.drive)
 }
 
 // Whether a load can be taken now: where it starts now, whether it could start if it waited.
@@ -194,7 +192,7 @@ pub fn start(mut m: Servo) -> Servo
     let s = m.settings;
     let l = s.load;
     let way = l.way;
-    let here = servo_run::position(m.samples.latched, m.counts);
+    let here = servo_run::position(m.latched, m.counts);
     let r = m.run;
     m.run = started_by(way, here, s, r);
     m.settings = servo_run::dropped(s);

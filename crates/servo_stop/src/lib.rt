@@ -30,9 +30,9 @@ pub fn position_reset(mut m: Servo) -> Servo
     requires { ⌜ Ranged (m .run .profile) ⌝ }
     ensures { λ r. ⌜ r ≡ resetPosition m ⌝ }
 {
-    let here = servo_run::position(m.samples.latched, m.counts);
+    let here = servo_run::position(m.latched, m.counts);
     let counts = Counts {
-        offset: m.samples.latched.raw,
+        offset: m.latched.raw,
         last: base_integers::less(m.counts.last, here),
     };
     let s = m.settings;
@@ -108,7 +108,7 @@ fn dropped_by(halt: Halt, s: Settings) -> Settings
 pub fn stopped(mut m: Servo, amplifier: bool, halt: Halt, x: u32) -> Servo
     ensures { λ r. ⌜ r ≡ stopped amplifier halt x m ⌝ }
 {
-    let here = servo_run::position(m.samples.latched, m.counts);
+    let here = servo_run::position(m.latched, m.counts);
     let s = m.settings;
     let r = m.run;
     m.settings = dropped_by(halt, s);
@@ -123,8 +123,8 @@ pub fn can_halt(m: Servo, halt: Halt) -> bool
     match halt {
         Halt::Keep => true,
         Halt::Release => true,
-        Halt::Abrupt => servo_run::is_ready(m.samples.latched.power, m.run.drive),
+        Halt::Abrupt => servo_run::is_ready(m.latched.power, m.run.drive),
         Halt::Smooth => true,
-        Halt::Here => servo_run::is_ready(m.samples.latched.power, m.run.drive),
+        Halt::Here => servo_run::is_ready(m.latched.power, m.run.drive),
     }
 }

@@ -6,10 +6,10 @@ ghost use lib.ListN.{length};
 ghost use Rattle.base_layout.specs.Bytes.{pasted};
 ghost use Rattle.module_rules.specs.Touch.{frameOf};
 ghost use Rattle.module_rules.specs.Kind.{executed, replied};
-ghost use Rattle.module_rules.specs.Slots.{slotSize};
+ghost use Rattle.module_rules.specs.Slots.{slotSize, sampleSize};
 ghost use Rattle.module_rules.specs.Owes.{replySize};
-ghost use Rattle.types_rules.specs.Table.{ModuleType, servo, inout, measured};
-ghost use Rattle.types_rules.specs.Types.{kind, slots, powered, outputs};
+ghost use Rattle.types_rules.specs.Table.{servo, inout, measured};
+ghost use Rattle.types_rules.specs.Types.{kind, slots, powered, outputs, sampleIn, inRange};
 use module_rules::Head;
 use types_rules::Measured;
 
@@ -49,46 +49,58 @@ pub fn touch(s: &mut [u8], f: Head, ds: &[u8], room: &mut [u8], from: usize) -> 
     inout_calls::touch(s, f, ds, room, from)
 }
 
-// The module in a slot, after a tick.
-pub fn tick(s: &mut [u8])
-    requires { ⌜ (length (now s) ≡ slotSize) × (slots .ok (now s) ≡ true) ⌝ }
-    ensures { λ _. ⌜ now (s .exit) ≡ pasted 0 (slots .enc (kind .tick (slots .dec (now (s .entry))))) (now (s .entry)) ⌝ }
+// The sample in ten bytes of a tick's list.
+pub fn sample_in(s: &[u8]) -> Measured
+    requires { ⌜ length (now s) ≡ sampleSize ⌝ }
+    ensures { λ r. ⌜ measured r ≡ sampleIn (now (s .entry)) ⌝ }
 {
     if s[0] == servo_rules::TYPE {
-        servo_calls::tick(s);
-    } else {
-        inout_calls::tick(s);
+        let x = servo_slot_read::sample_in(s, module_rules::MEASURED_AT);
+        return Measured::Servo(x);
+    }
+    let x = inout_slot::sample_in(s, module_rules::MEASURED_AT);
+    Measured::Io(x)
+}
+
+// Whether its fields are in range.
+pub fn is_sample_ok(s: &[u8]) -> bool
+    requires { ⌜ length (now s) ≡ sampleSize ⌝ }
+    ensures { λ r. ⌜ r ≡ inRange (now (s .entry)) ⌝ }
+{
+    if s[0] == servo_rules::TYPE {
+        return servo_slot_list::is_sample_ok(s);
+    }
+    inout_slot::is_sample_ok(s)
+}
+
+// A tick with a servo's sample; a module of another type is left as it is.
+fn tick_servo(s: &mut [u8], x: servo_rules::Sample)
+    requires { ⌜ (length (now s) ≡ slotSize) × (slots .ok (now s) ≡ true) ⌝ }
+    ensures { λ _. ⌜ now (s .exit) ≡ pasted 0 (slots .enc (kind .tick (servo, x) (slots .dec (now (s .entry))))) (now (s .entry)) ⌝ }
+{
+    if s[0] == servo_rules::TYPE {
+        servo_calls::tick(s, x);
     }
 }
 
-// A sample for a servo; a module of another type is left as it is.
-fn put_servo_sample(s: &mut [u8], x: servo_rules::Sample)
+// A tick with an I/O module's sample.
+fn tick_io(s: &mut [u8], x: inout_rules::Sample)
     requires { ⌜ (length (now s) ≡ slotSize) × (slots .ok (now s) ≡ true) ⌝ }
-    ensures { λ _. ⌜ now (s .exit) ≡ pasted 0 (slots .enc (kind .sample (servo, x) (slots .dec (now (s .entry))))) (now (s .entry)) ⌝ }
-{
-    if s[0] == servo_rules::TYPE {
-        servo_calls::put_sample(s, x);
-    }
-}
-
-// A sample for an I/O module.
-fn put_io_sample(s: &mut [u8], x: inout_rules::Sample)
-    requires { ⌜ (length (now s) ≡ slotSize) × (slots .ok (now s) ≡ true) ⌝ }
-    ensures { λ _. ⌜ now (s .exit) ≡ pasted 0 (slots .enc (kind .sample (inout, x) (slots .dec (now (s .entry))))) (now (s .entry)) ⌝ }
+    ensures { λ _. ⌜ now (s .exit) ≡ pasted 0 (slots .enc (kind .tick (inout, x) (slots .dec (now (s .entry))))) (now (s .entry)) ⌝ }
 {
     if s[0] != servo_rules::TYPE {
-        inout_calls::put_sample(s, x);
+        inout_calls::tick(s, x);
     }
 }
 
-// The module in a slot, with a sample waiting; one for another type changes nothing.
-pub fn put_sample(s: &mut [u8], x: Measured)
+// The module in a slot, after a tick that hands it this sample; one of another type changes nothing.
+pub fn tick(s: &mut [u8], x: Measured)
     requires { ⌜ (length (now s) ≡ slotSize) × (slots .ok (now s) ≡ true) ⌝ }
-    ensures { λ _. ⌜ now (s .exit) ≡ pasted 0 (slots .enc (kind .sample (measured x) (slots .dec (now (s .entry))))) (now (s .entry)) ⌝ }
+    ensures { λ _. ⌜ now (s .exit) ≡ pasted 0 (slots .enc (kind .tick (measured x) (slots .dec (now (s .entry))))) (now (s .entry)) ⌝ }
 {
     match x {
-        Measured::Servo(y) => put_servo_sample(s, y),
-        Measured::Io(y) => put_io_sample(s, y),
+        Measured::Servo(y) => tick_servo(s, y),
+        Measured::Io(y) => tick_io(s, y),
     }
 }
 

@@ -37,17 +37,13 @@ module _ (s : List ℕ) (t : ModuleType) (e : typeOfSlot s ≡ t) where
       × (room′ ≡ pasted from (replied (kindOf (rulesOf u)) f (slotsOf u .dec s)) room)))
       e p
 
-  pub ticked : {s′ : List ℕ} → s′ ≡ pasted 0 (slotsOf t .enc (rulesOf t .tick (slotsOf t .dec s))) s
-      → s′ ≡ pasted 0 (slots .enc (kind .tick (slots .dec s))) s
-  ticked {s′} p = subst⁻¹ (λ (u : ModuleType). s′ ≡ pasted 0 (slotsOf u .enc (rulesOf u .tick (slotsOf u .dec s))) s) e p
+  pub ticked : (v : ModuleType) (x : SampleOf v) {s′ : List ℕ} → s′ ≡ pasted 0 (slotsOf t .enc (given v t x (slotsOf t .dec s))) s
+      → s′ ≡ pasted 0 (slots .enc (kind .tick (v, x) (slots .dec s))) s
+  ticked v x {s′} p = subst⁻¹ (λ (u : ModuleType). s′ ≡ pasted 0 (slotsOf u .enc (given v u x (slotsOf u .dec s))) s) e p
 
-  pub sampled : (v : ModuleType) (x : SampleOf v) {s′ : List ℕ} → s′ ≡ pasted 0 (slotsOf t .enc (given v t x (slotsOf t .dec s))) s
-      → s′ ≡ pasted 0 (slots .enc (kind .sample (v, x) (slots .dec s))) s
-  sampled v x {s′} p = subst⁻¹ (λ (u : ModuleType). s′ ≡ pasted 0 (slotsOf u .enc (given v u x (slotsOf u .dec s))) s) e p
-
-  -- a sample that changes nothing of the module leaves a valid slot as it is
-  pub unsampled : (v : ModuleType) (x : SampleOf v) → given v t x (slotsOf t .dec s) ≡ slotsOf t .dec s → length s ≡ slotSize → Bytes s → slots .ok s ≡ true
-      → s ≡ pasted 0 (slots .enc (kind .sample (v, x) (slots .dec s))) s
-  unsampled v x g l b o =
+  -- a tick that changes nothing of the module leaves a valid slot as it is
+  pub unticked : (v : ModuleType) (x : SampleOf v) → given v t x (slotsOf t .dec s) ≡ slotsOf t .dec s → length s ≡ slotSize → Bytes s → slots .ok s ≡ true
+      → s ≡ pasted 0 (slots .enc (kind .tick (v, x) (slots .dec s))) s
+  unticked v x g l b o =
       let k : slotsOf t .ok s ≡ true = subst (λ (u : ModuleType). slotsOf u .ok s ≡ true) e o in
-      sampled v x (sym (owes t .lawful .there s l b k) ∙ ap (λ (m : Of t). pasted 0 (slotsOf t .enc m) s) (sym g))
+      ticked v x (sym (owes t .lawful .there s l b k) ∙ ap (λ (m : Of t). pasted 0 (slotsOf t .enc m) s) (sym g))

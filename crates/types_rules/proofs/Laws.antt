@@ -13,8 +13,8 @@ use Rattle.module_rules.specs.Kind.{replied}
 use Rattle.module_rules.specs.Owes.{replySize}
 use Rattle.module_rules.proofs.Kept.{reply-most}
 use Rattle.chain_rules.proofs.Along.{replied-short}
-use Rattle.types_rules.specs.Table.{ModuleType, servo, inout, Of, rulesOf, slotsOf, GoodOf}
-use Rattle.types_rules.specs.Types.{Module, kind, typeIn, typeOfSlot, slots, typeOf, causeOf}
+use Rattle.types_rules.specs.Table.{ModuleType, servo, inout, Of, rulesOf, slotsOf}
+use Rattle.types_rules.specs.Types.{Module, kind, typeIn, typeOfSlot, slots, typeOf, causeOf, GoodOf}
 use Rattle.types_rules.proofs.Owed.{owes}
 
 -- a type's number leads back to it

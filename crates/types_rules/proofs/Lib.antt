@@ -4,3 +4,4 @@ pub mod Kept
 pub mod Promised
 pub mod Numbering
 pub mod Dispatch
+pub mod Sampled

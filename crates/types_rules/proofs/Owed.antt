@@ -10,7 +10,8 @@ use Rattle.inout_slot_rules.proofs.Owed as Inout
 use Rattle.inout_slot_rules.proofs.Listed as InoutListed
 use Rattle.servo_slot_rules.proofs.Owed as Servos
 use Rattle.servo_slot_rules.proofs.Listed as ServoListed
-use Rattle.types_rules.specs.Table.{ModuleType, servo, inout, rulesOf, slotsOf, GoodOf, LinesOf}
+use Rattle.types_rules.specs.Types.{GoodOf}
+use Rattle.types_rules.specs.Table.{ModuleType, servo, inout, rulesOf, slotsOf, LinesOf}
 
 pub owes : (t : ModuleType) → Owes (rulesOf t) (slotsOf t) (GoodOf t)
 owes servo = Servos.owes

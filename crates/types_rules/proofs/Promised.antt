@@ -9,8 +9,8 @@ use Rattle.module_rules.proofs.Replies as Replies
 use Rattle.module_rules.proofs.Frames as Frames
 use Rattle.module_rules.proofs.Kept.{reply-most}
 use Rattle.module_rules.specs.FramePromises.{AtPowerUp}
-use Rattle.types_rules.specs.Table.{ModuleType, servo, inout, rulesOf, slotsOf, GoodOf}
-use Rattle.types_rules.specs.Types.{known}
+use Rattle.types_rules.specs.Table.{ModuleType, servo, inout, rulesOf, slotsOf}
+use Rattle.types_rules.specs.Types.{known, GoodOf}
 use Rattle.types_rules.specs.Promises.{ThereIs, Numbers, EveryType, EveryFrame}
 use Rattle.types_rules.proofs.Owed.{owes}
 

@@ -13,7 +13,6 @@ olderKind = record {
   address = kind .address;
   execute = λ f alone m. (m .0, Any.olderExecute (rulesOf (m .0)) f alone (m .1));
   reply = kind .reply;
-  sample = kind .sample;
   tick = kind .tick;
 }
 

@@ -2,7 +2,8 @@
 use mathlib.Core.Path.{_≡_}
 use mathlib.Core.Bool.{true}
 use mathlib.Core.Logic.{_⊎_, _↔_}
-use Prim.Native.Nat.{ℕ, _≤_}
+use Prim.Native.Nat.{ℕ, _+_, _*_, _<_, _≤_}
+use mathlib.Core.List.{List, [], _∷_}
 use lib.ListN.{length}
 use Rattle.line_receiver.specs.Frames.{Frame}
 use Rattle.module_rules.specs.Report.{Fit}
@@ -10,8 +11,8 @@ use Rattle.module_rules.specs.Rules.{reply}
 use Rattle.module_rules.specs.Owes.{replySize}
 use Rattle.module_rules.specs.Promises.{Cause, CauseTested, CauseIs, AddressKept, Resets, StatusFirst, Replied, Short}
 use Rattle.module_rules.specs.FramePromises.{AtPowerUp, Stored, Counts}
-use Rattle.types_rules.specs.Table.{ModuleType, Of, rulesOf, slotsOf}
-use Rattle.types_rules.specs.Types.{known}
+use Rattle.types_rules.specs.Table.{ModuleType, servo, inout, Of, rulesOf, slotsOf}
+use Rattle.types_rules.specs.Types.{known, sampleIn, inRange}
 
 -- 01 Numbers given back, 12: the types are 0 and 2.
 abbrev pub ThereIs : ℕ → Type 0
@@ -47,3 +48,18 @@ pub record Obeys (t : ModuleType) : Type 0 where
 
 abbrev pub EveryFrame : Type 0
 EveryFrame = (t : ModuleType) → Obeys t
+
+-- 02 P11: the ten bytes of a sample, of each type: power, A/D byte and raw count, with three bytes that are not looked at; input bits, three A/D bytes
+-- and counter. Its fields are in range with a power of 0 to 2, and with twelve input bits.
+pub record SampleBytes : Type 0 where
+  pub servo : (power ad r0 r1 r2 r3 a b c : ℕ)
+      → sampleIn (0 ∷ power ∷ ad ∷ r0 ∷ r1 ∷ r2 ∷ r3 ∷ a ∷ b ∷ c ∷ [])
+      ≡ (servo, record { raw = r0 + 256 * r1 + 65536 * r2 + 16777216 * r3; power = power; ad = ad })
+  pub inout : (i0 i1 ad1 ad2 ad3 c0 c1 c2 c3 : ℕ)
+      → sampleIn (2 ∷ i0 ∷ i1 ∷ ad1 ∷ ad2 ∷ ad3 ∷ c0 ∷ c1 ∷ c2 ∷ c3 ∷ [])
+      ≡ (
+        inout,
+        record { inputs = i0 + 256 * i1; ad1 = ad1; ad2 = ad2; ad3 = ad3; counter = c0 + 256 * c1 + 65536 * c2 + 16777216 * c3 },
+      )
+  pub power : (power : ℕ) (rest : List ℕ) → (inRange (0 ∷ power ∷ rest) ≡ true) ↔ (power ≤ 2)
+  pub inputs : (i0 i1 : ℕ) (rest : List ℕ) → i0 < 256 → (inRange (2 ∷ i0 ∷ i1 ∷ rest) ≡ true) ↔ (i0 + 256 * i1 ≤ 4095)

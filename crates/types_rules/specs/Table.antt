@@ -3,6 +3,7 @@
 use Prim.Native.Nat.{ℕ}
 use mathlib.Core.List.{List, [], _∷_}
 use Rattle.module_rules.specs.Rules.{Rules}
+use Rattle.base_layout.proofs.Shape.{Shape}
 use Rattle.module_rules.specs.Slots.{Slots}
 use Rattle.inout_rules.specs.declared.Io.{Io}
 use Rattle.inout_rules.specs.declared.Sample as InoutSample
@@ -42,7 +43,7 @@ abbrev pub CommandOf : ModuleType → Type 0
 CommandOf servo = Order
 CommandOf inout = Command
 
--- what it says of itself, how it stands in a slot, and which samples can be given to it
+-- what it says of itself, how it stands in a slot, and how its samples stand in a tick's list
 abbrev pub rulesOf : (t : ModuleType) → Rules (Of t) (SampleOf t) (CommandOf t)
 rulesOf servo = Servos.servo
 rulesOf inout = Inout.inout
@@ -51,21 +52,21 @@ abbrev pub slotsOf : (t : ModuleType) → Slots (Of t)
 slotsOf servo = ServoSlot.slots
 slotsOf inout = InoutSlot.slots
 
-abbrev pub GoodOf : (t : ModuleType) → SampleOf t → Type 0
-GoodOf servo = ServoSlot.sample .codec .fits
-GoodOf inout = InoutSlot.sample .codec .fits
+abbrev pub sampleOf : (t : ModuleType) → Shape (SampleOf t)
+sampleOf servo = ServoSlot.sample
+sampleOf inout = InoutSlot.sample
 
 -- the written list that a valid slot of the type satisfies, line by line
 abbrev pub LinesOf : ModuleType → List ℕ → Type 0
 LinesOf servo s = ServoPromises.Lines s (ServoSlot.decodeOf s)
 LinesOf inout s = InoutPromises.Lines s
 
--- a sample of type t given to a module of type u: of another type, it changes nothing
+-- a tick that hands a sample of type t to a module of type u: of another type, it changes nothing (no call does so: it is refused with 13)
 abbrev pub given : (t u : ModuleType) → SampleOf t → Of u → Of u
-given servo servo x m = Servos.servo .sample x m
+given servo servo x m = Servos.servo .tick x m
 given servo inout x m = m
 given inout servo x m = m
-given inout inout x m = Inout.inout .sample x m
+given inout inout x m = Inout.inout .tick x m
 
 -- the case of the code's sample
 abbrev pub measured : Measured → (t : ModuleType) × SampleOf t

@@ -5,9 +5,10 @@ use mathlib.Core.Bool.{Bool, cond, _||_}
 use lib.ListN.{getD}
 use lib.Dec.{eqb}
 use Rattle.module_rules.specs.Kind.{Kind}
-use Rattle.module_rules.specs.Slots.{Slots}
+use Rattle.base_layout.specs.Every.{every}
+use Rattle.module_rules.specs.Slots.{Slots, measuredAt}
 use Rattle.module_rules.specs.Rules.{execute, reply}
-use Rattle.types_rules.specs.Table.{ModuleType, firstType, otherTypes, Of, SampleOf, rulesOf, slotsOf, GoodOf, given}
+use Rattle.types_rules.specs.Table.{ModuleType, firstType, otherTypes, Of, SampleOf, rulesOf, slotsOf, sampleOf, given}
 
 abbrev pub Module : Type 0
 Module = (t : ModuleType) × Of t
@@ -20,8 +21,7 @@ kind = record {
   address = λ m. rulesOf (m .0) .station (m .1) .address;
   execute = λ f alone m. (m .0, execute (rulesOf (m .0)) f alone (m .1));
   reply = λ f m. reply (rulesOf (m .0)) f (m .1);
-  sample = λ x m. (m .0, given (x .0) (m .0) (x .1) (m .1));
-  tick = λ m. (m .0, rulesOf (m .0) .tick (m .1));
+  tick = λ x m. (m .0, given (x .0) (m .0) (x .1) (m .1));
 }
 
 -- 01 Numbers given back, 12: the type numbers that there are
@@ -40,7 +40,7 @@ typeFrom t (u ∷ us) n = cond (eqb n (rulesOf t .number)) t (typeFrom u us n)
 abbrev pub typeIn : ℕ → ModuleType
 typeIn n = typeFrom firstType otherTypes n
 
--- the first byte of a slot is the type's number
+-- the first byte of a slot, and of a sample in a tick's list, is the type's number
 abbrev pub typeOfSlot : List ℕ → ModuleType
 typeOfSlot s = typeIn (getD s 0 0)
 
@@ -71,6 +71,20 @@ outputs m = rulesOf (m .0) .outputs (m .1)
 abbrev pub causeOf : Module → ℕ
 causeOf m = rulesOf (m .0) .station (m .1) .cause
 
--- the samples that can be given
+-- 02 P11: ten bytes of a tick's list, read as a sample of type t; and the sample in them, of the type whose number stands first
+abbrev pub sampleFor : (t : ModuleType) → List ℕ → SampleOf t
+sampleFor t s = sampleOf t .codec .dec measuredAt s
+
+abbrev pub sampleIn : List ℕ → AnySample
+sampleIn s = (typeOfSlot s, sampleFor (typeOfSlot s) s)
+
+-- 01 Numbers given back, 14: whether all its fields are in range
+abbrev pub inRange : List ℕ → Bool
+inRange s = every (sampleOf (typeOfSlot s) .codec .tests measuredAt s)
+
+-- the samples that are: every field in its range
+abbrev pub GoodOf : (t : ModuleType) → SampleOf t → Type 0
+GoodOf t = sampleOf t .codec .fits
+
 abbrev pub Good : AnySample → Type 0
 Good x = GoodOf (x .0) (x .1)

@@ -2,6 +2,7 @@
 
 use super::station::{unknown_code, Device, Station, WRONG_COUNT};
 use crate::branches::{reach, Branch};
+use crate::calls::Sample;
 use crate::slips::Slip;
 
 pub const BITS: u16 = 0x0FFF;
@@ -16,7 +17,6 @@ pub struct IoSample {
 #[derive(Clone, Debug, PartialEq, Eq)]
 pub struct Io {
     pub station: Station,
-    pub waiting: IoSample,
     pub latched: IoSample,
     /// 1 directs a bit as input.
     pub direction: u16,
@@ -135,11 +135,11 @@ impl Io {
 impl Device for Io {
     const TYPE: u8 = 2;
     const VERSION: u8 = 1;
+    type Measured = IoSample;
 
     fn power_up() -> Io {
         Io {
             station: Station::power_up(),
-            waiting: IoSample::default(),
             latched: IoSample::default(),
             direction: BITS,
             register: 0,
@@ -174,9 +174,6 @@ impl Device for Io {
         reach(Branch::IoReset);
         let before = self.clone();
         *self = Io::power_up();
-        if slip != Slip::ResetDropsWaitingSample {
-            self.waiting = before.waiting;
-        }
         if slip != Slip::ResetDropsLatchedSample {
             self.latched = before.latched;
         }
@@ -208,11 +205,22 @@ impl Device for Io {
         0
     }
 
-    fn tick(&mut self, slip: Slip) {
+    fn measured(sample: &Sample, slip: Slip) -> Option<IoSample> {
+        let [_, low, high, ad1, ad2, ad3, counter @ ..] = *sample;
+        let inputs = u16::from_le_bytes([low, high]);
+        let ad = if slip == Slip::ThirdAdFirst { [ad3, ad2, ad1] } else { [ad1, ad2, ad3] };
+        let good = inputs <= BITS || (inputs == BITS + 1 && slip == Slip::InputsOf4096Taken);
+        good.then(|| IoSample { inputs, ad, counter: u32::from_le_bytes(counter) })
+    }
+
+    fn latch(&mut self, measured: IoSample) {
+        self.latched = measured;
+    }
+
+    fn tick(&mut self, measured: IoSample, slip: Slip) {
         reach(Branch::IoTick);
-        self.latched = self.waiting.clone();
-        if slip == Slip::SampleOnce {
-            self.waiting = IoSample::default();
+        if slip != Slip::IoLatchesNothing {
+            self.latch(measured);
         }
     }
 

@@ -1,11 +1,12 @@
 //! The chain of modules behind one receiver.
 
-use super::io::{Io, IoSample, BITS};
+use super::io::Io;
 use super::line::{Frame, Receiver};
-use super::servo::{Servo, ServoSample, HIGH};
+use super::samples::{sample_at, Faults};
+use super::servo::Servo;
 use super::station::{Device, Station, Touch, EXECUTED};
 use crate::branches::{either, reach, Branch};
-use crate::calls::{BAD_FIELD, BAD_PLACE};
+use crate::calls::{Sample, BAD_FIELD, BAD_LIST, BAD_PLACE};
 use crate::slips::Slip;
 
 /// A module of whatever type. Boxed: with plain variants rustc 1.95.0 (LLVM 22.1) leaves, at some levels of
@@ -26,12 +27,24 @@ macro_rules! each {
     };
 }
 
+/// What a sample tells a module of this type.
+fn measured_by<D: Device>(_: &D, sample: &Sample, slip: Slip) -> Option<D::Measured> {
+    D::measured(sample, slip)
+}
+
 impl Module {
     pub fn power_up(module_type: u8) -> Option<Module> {
         match module_type {
             Servo::TYPE => Some(Module::Servo(Box::new(Servo::power_up()))),
             Io::TYPE => Some(Module::Io(Box::new(Io::power_up()))),
             _ => None,
+        }
+    }
+
+    pub fn module_type(&self) -> u8 {
+        match self {
+            Module::Servo(_) => Servo::TYPE,
+            Module::Io(_) => Io::TYPE,
         }
     }
 
@@ -55,8 +68,25 @@ impl Module {
         each!(self, device => device.reply(frame, slip))
     }
 
-    fn tick(&mut self, slip: Slip) {
-        each!(self, device => device.tick(slip))
+    /// Whether a sample's fields are in range, for a module of this type.
+    pub fn in_range(&self, sample: &Sample, slip: Slip) -> bool {
+        each!(self, device => measured_by(&**device, sample, slip).is_some())
+    }
+
+    /// A sample out of range is none.
+    pub fn latch(&mut self, sample: &Sample, slip: Slip) {
+        each!(self, device => {
+            if let Some(measured) = measured_by(&**device, sample, slip) {
+                device.latch(measured);
+            }
+        })
+    }
+
+    fn tick(&mut self, sample: &Sample, slip: Slip) {
+        each!(self, device => {
+            let measured = measured_by(&**device, sample, slip).expect("of a list that was taken");
+            device.tick(measured, slip);
+        })
     }
 
     pub fn outputs(&self, slip: Slip) -> [u8; 8] {
@@ -89,55 +119,54 @@ impl Network {
         Some(Ended { frame, replies })
     }
 
-    /// The module that a sample is for, unless the sample is refused; `wanted` tells its type.
-    fn sampled(&mut self, place: u32, bad_field: bool, wanted: fn(&Module) -> bool) -> Result<&mut Module, u32> {
-        if bad_field && self.slip == Slip::FieldBeforePlace {
-            return Err(BAD_FIELD);
+    /// One tick with its list of samples, or the number by which it is refused: then it is none.
+    pub fn tick(&mut self, list: &[u8]) -> Result<(), u32> {
+        let faults = Faults::found(&self.modules, list, self.slip);
+        faults.note(&self.modules, list);
+        let outcome = faults.refusal(list, self.slip);
+        match outcome {
+            Ok(()) => self.tick_with(list),
+            Err(number) => self.latch_though_refused(list, number),
         }
-        let module = self.modules.get_mut(place as usize).ok_or_else(|| {
-            reach(Branch::SampleBeyondChain);
-            BAD_PLACE
-        })?;
-        if !wanted(module) {
-            reach(Branch::SampleOtherType);
-            return Err(BAD_PLACE);
-        }
-        if bad_field {
-            return Err(BAD_FIELD);
-        }
-        Ok(module)
+        outcome
     }
 
-    pub fn io_sample(&mut self, place: u32, inputs: u32, ad: [u8; 3], counter: u32) -> Result<(), u32> {
-        let at_once = self.slip == Slip::SampleAtOnce;
-        let bad_field = inputs > u32::from(BITS);
-        if let Module::Io(io) = self.sampled(place, bad_field, |module| matches!(module, Module::Io(_)))? {
-            io.waiting = IoSample { inputs: inputs as u16, ad, counter };
-            if at_once {
-                io.latched = io.waiting.clone();
-            }
-        }
-        Ok(())
-    }
-
-    pub fn servo_sample(&mut self, place: u32, raw: u32, power: u32, ad: u8) -> Result<(), u32> {
-        let at_once = self.slip == Slip::SampleAtOnce;
-        let bad_field = power > u32::from(HIGH) + u32::from(self.slip == Slip::PowerOf3Taken);
-        if let Module::Servo(servo) = self.sampled(place, bad_field, |module| matches!(module, Module::Servo(_)))? {
-            servo.waiting = ServoSample { raw, power: power as u8, ad };
-            if at_once {
-                servo.latched = servo.waiting.clone();
-            }
-        }
-        Ok(())
-    }
-
-    pub fn tick(&mut self) {
+    fn tick_with(&mut self, list: &[u8]) {
+        let slip = self.slip;
         for place in 0..self.modules.len() {
-            if self.slip != Slip::TickNeedsEnabling || self.enabled(place) {
-                self.modules[place].tick(self.slip);
+            if slip == Slip::TickNeedsEnabling && !self.enabled(place) {
+                continue;
+            }
+            let from = if slip == Slip::SampleOfNeighbour { self.neighbour(place) } else { place };
+            if let Some(sample) = sample_at(list, from) {
+                self.modules[place].tick(&sample, slip);
             }
         }
+    }
+
+    /// Nothing, but for the slips by which a refused tick leaves something behind.
+    fn latch_though_refused(&mut self, list: &[u8], number: u32) {
+        let slip = self.slip;
+        let latches = match slip {
+            Slip::RefusedLengthLatches => number == BAD_LIST,
+            Slip::RefusedTypeLatches => number == BAD_PLACE,
+            Slip::RefusedFieldLatches => number == BAD_FIELD,
+            _ => false,
+        };
+        for (place, module) in self.modules.iter_mut().enumerate().filter(|_| latches) {
+            match sample_at(list, place) {
+                Some(sample) if sample[0] == module.module_type() => module.latch(&sample, slip),
+                _ => {}
+            }
+        }
+    }
+
+    /// The next place of the same type, round the chain.
+    fn neighbour(&self, place: usize) -> usize {
+        let chain = self.modules.len();
+        let places = (1..=chain).map(|step| (place + step) % chain);
+        let mut alike = places.filter(|other| self.modules[*other].module_type() == self.modules[place].module_type());
+        alike.next().expect("the place itself is the last")
     }
 
     pub fn enabled(&self, place: usize) -> bool {

@@ -1,8 +1,9 @@
 //! The replay program.
 
-use super::network::{Module, Network};
+use super::network::{Ended, Module, Network};
+use super::station::EXECUTED;
 use crate::branches::{reach, Branch};
-use crate::calls::MOST_MODULES;
+use crate::calls::{io_sample, no_sample, servo_sample, Sample, MOST_MODULES};
 use crate::slips::Slip;
 
 /// A record of a replay file by its kind: a module's type, or an event. Whether it can be played is another matter.
@@ -41,21 +42,24 @@ impl Record {
 
 /// What the replay program prints for a file.
 pub fn replay(file: &[u8]) -> String {
-    let mut printed = String::new();
-    let mut modules = Vec::new();
-    let mut network: Option<Network> = None;
+    replay_with(file, Slip::None)
+}
+
+/// The same by a rule that may be wrong.
+pub fn replay_with(file: &[u8], slip: Slip) -> String {
+    let mut replay = Replay { slip, ..Replay::default() };
     let mut at = 0;
     while at < file.len() {
-        match replay_record(&file[at..], &mut modules, &mut network, &mut printed) {
+        match replay.record(&file[at..]) {
             Some(length) => at += length,
             None => {
-                printed.push_str(&format!("bad {at}\n"));
-                return printed;
+                replay.printed.push_str(&format!("bad {at}\n"));
+                return replay.printed;
             }
         }
     }
     reach(Branch::ReplayEnds);
-    printed
+    replay.printed
 }
 
 /// A record that is bad in this way.
@@ -64,64 +68,173 @@ fn bad<T>(branch: Branch) -> Option<T> {
     None
 }
 
-/// One record at the head of the file: its length, or nothing where it is bad.
-fn replay_record(
-    file: &[u8],
-    modules: &mut Vec<Module>,
-    network: &mut Option<Network>,
-    printed: &mut String,
-) -> Option<usize> {
-    let (record, length) = Record::first(file)?;
-    match record {
-        Record::Module(_) if network.is_some() => return bad(Branch::ReplayModuleLate),
-        Record::Module(_) if modules.len() == MOST_MODULES => return bad(Branch::ReplayModuleBeyond),
-        Record::Module(module_type) => {
-            let module = Module::power_up(module_type).or_else(|| bad(Branch::ReplayModuleType))?;
-            reach(Branch::ReplayModule);
-            modules.push(module);
-        }
-        Record::Event(_) if modules.is_empty() => return bad(Branch::ReplayNoModule),
-        Record::Event(event) => {
-            let network = network.get_or_insert_with(|| Network::power_up(modules.clone(), Slip::None));
-            replay_event(event, network, printed)?;
-        }
-    }
-    Some(length)
+/// The latest sample of a place, all 0 until one comes.
+#[derive(Clone)]
+struct Gathered {
+    sample: Sample,
+    age: Age,
 }
 
-/// An event brought about in the network, or nothing where it is refused.
-fn replay_event(event: Event, network: &mut Network, printed: &mut String) -> Option<()> {
-    match event {
-        Event::LineByte { mark, byte } => {
-            if mark > 1 {
-                return bad(Branch::ReplayMark);
+#[derive(Clone, Copy, PartialEq)]
+enum Age {
+    /// No sample has come.
+    None,
+    /// It came after the last tick.
+    New,
+    /// A tick has used it.
+    Used,
+}
+
+#[derive(Default)]
+struct Replay {
+    modules: Vec<Module>,
+    network: Option<Network>,
+    gathered: Vec<Gathered>,
+    printed: String,
+    slip: Slip,
+    /// A bad sample that a slip tells at the tick only.
+    bad_waits: bool,
+}
+
+impl Replay {
+    /// One record at the head of the file: its length, or nothing where it is bad.
+    fn record(&mut self, file: &[u8]) -> Option<usize> {
+        let (record, length) = Record::first(file)?;
+        match record {
+            Record::Module(_) if self.network.is_some() => return bad(Branch::ReplayModuleLate),
+            Record::Module(_) if self.modules.len() == MOST_MODULES => return bad(Branch::ReplayModuleBeyond),
+            Record::Module(module_type) => {
+                let module = Module::power_up(module_type).or_else(|| bad(Branch::ReplayModuleType))?;
+                reach(Branch::ReplayModule);
+                self.modules.push(module);
+                self.gathered.push(Gathered { sample: no_sample(module_type), age: Age::None });
             }
-            let replies = network.byte(mark == 1, byte).map_or(Vec::new(), |ended| ended.replies);
-            reach(if replies.is_empty() { Branch::ReplayByte } else { Branch::ReplayReply });
-            for (place, reply) in replies {
-                printed.push_str(&place.to_string());
-                for byte in reply {
-                    printed.push_str(&format!(" {byte:02X}"));
-                }
-                printed.push('\n');
-            }
+            Record::Event(_) if self.modules.is_empty() => return bad(Branch::ReplayNoModule),
+            Record::Event(event) => self.event(event)?,
         }
-        Event::ServoSample { place, power, ad, raw } => {
-            if network.servo_sample(place.into(), raw, power.into(), ad).is_err() {
-                return bad(Branch::ReplayServoSampleRefused);
+        Some(length)
+    }
+
+    fn network(&mut self) -> &mut Network {
+        let modules = &self.modules;
+        self.network.get_or_insert_with(|| Network::power_up(modules.clone(), Slip::None))
+    }
+
+    /// An event brought about in the network, or nothing where it is bad.
+    fn event(&mut self, event: Event) -> Option<()> {
+        self.network();
+        match event {
+            Event::LineByte { mark, .. } if mark > 1 => bad(Branch::ReplayMark),
+            Event::LineByte { mark, byte } => {
+                self.line_byte(mark == 1, byte);
+                Some(())
             }
-            reach(Branch::ReplayServoSample);
-        }
-        Event::IoSample { place, inputs, ad, counter } => {
-            if network.io_sample(place.into(), inputs.into(), ad, counter).is_err() {
-                return bad(Branch::ReplayIoSampleRefused);
+            Event::ServoSample { place, power, ad, raw } => {
+                let branches = [
+                    Branch::ReplayServoSampleBeyond,
+                    Branch::ReplayServoSampleForIo,
+                    Branch::ReplayServoSamplePower,
+                    Branch::ReplayServoSample,
+                ];
+                self.sample(place.into(), servo_sample(raw, power, ad), branches)
             }
-            reach(Branch::ReplayIoSample);
-        }
-        Event::Tick => {
-            reach(Branch::ReplayTick);
-            network.tick();
+            Event::IoSample { place, inputs, ad, counter } => {
+                let branches = [
+                    Branch::ReplayIoSampleBeyond,
+                    Branch::ReplayIoSampleForServo,
+                    Branch::ReplayIoSampleInputs,
+                    Branch::ReplayIoSample,
+                ];
+                self.sample(place.into(), io_sample(inputs, ad, counter), branches)
+            }
+            Event::Tick => self.tick(),
         }
     }
-    Some(())
+
+    fn line_byte(&mut self, marked: bool, byte: u8) {
+        let ended = match self.network().byte(marked, byte) {
+            Some(ended) => ended,
+            None => return reach(Branch::ReplayByte),
+        };
+        reach(if ended.replies.is_empty() { Branch::ReplayByte } else { Branch::ReplayReply });
+        if self.slip == Slip::ResetDropsGathered {
+            self.drop_gathered(&ended);
+        }
+        for (place, reply) in ended.replies {
+            self.printed.push_str(&place.to_string());
+            for byte in reply {
+                self.printed.push_str(&format!(" {byte:02X}"));
+            }
+            self.printed.push('\n');
+        }
+    }
+
+    /// By a slip only: modules that a Hard Reset has brought back to power-up lose what was gathered for them.
+    fn drop_gathered(&mut self, ended: &Ended) {
+        let network = self.network.as_ref().expect("the one that has taken the frame");
+        for (module, gathered) in network.modules.iter().zip(&mut self.gathered) {
+            let station = module.station();
+            let fresh = station.individual == 0 && station.group == 255 && station.cause == EXECUTED;
+            if ended.frame.code == 15 && fresh {
+                gathered.sample = no_sample(module.module_type());
+            }
+        }
+    }
+
+    /// A sample is gathered for the next tick. A bad one is bad where it stands, be there a tick after it or not.
+    fn sample(&mut self, place: usize, sample: Sample, branches: [Branch; 4]) -> Option<()> {
+        let [beyond, other_type, out_of_range, good] = branches;
+        let fault = match self.modules.get(place) {
+            None => Some(beyond),
+            Some(module) if module.module_type() != sample[0] => Some(other_type),
+            Some(module) if !module.in_range(&sample, Slip::None) => Some(out_of_range),
+            Some(_) => None,
+        };
+        match fault {
+            Some(_) if self.slip == Slip::BadSamplePassedOver => return Some(()),
+            Some(_) if self.slip == Slip::BadSampleAtTick => {
+                self.bad_waits = true;
+                return Some(());
+            }
+            Some(branch) => return bad(branch),
+            None => reach(good),
+        }
+        self.gather(place, sample);
+        Some(())
+    }
+
+    fn gather(&mut self, place: usize, sample: Sample) {
+        let slip = self.slip;
+        if slip == Slip::SampleAtOnce {
+            self.network().modules[place].latch(&sample, Slip::None);
+        }
+        let gathered = &mut self.gathered[place];
+        if gathered.age == Age::New {
+            reach(Branch::ReplaySampleReplaced);
+            if slip == Slip::EarlierSampleUsed {
+                return;
+            }
+        }
+        *gathered = Gathered { sample, age: Age::New };
+    }
+
+    fn tick(&mut self) -> Option<()> {
+        if self.bad_waits {
+            return None;
+        }
+        reach(Branch::ReplayTick);
+        let list: Vec<u8> = self.gathered.iter().flat_map(|gathered| gathered.sample).collect();
+        self.network().tick(&list).expect("what was gathered is good");
+        for gathered in &mut self.gathered {
+            match gathered.age {
+                Age::None => reach(Branch::ReplayNoSampleYet),
+                Age::New => gathered.age = Age::Used,
+                Age::Used => reach(Branch::ReplaySampleAgain),
+            }
+            if self.slip == Slip::SamplesUsedUp {
+                gathered.sample = no_sample(gathered.sample[0]);
+            }
+        }
+        Some(())
+    }
 }

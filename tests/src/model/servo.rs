@@ -2,6 +2,7 @@
 
 use super::station::{unknown_code, Device, Station, NOT_NOW, OUT_OF_RANGE, WRONG_COUNT};
 use crate::branches::{all_hold, either, reach, uncounted, Branch};
+use crate::calls::Sample;
 use crate::slips::Slip;
 
 /// Most that a velocity or an acceleration may be.
@@ -104,7 +105,6 @@ pub enum Mode {
 #[derive(Clone, Debug, PartialEq, Eq)]
 pub struct Servo {
     pub station: Station,
-    pub waiting: ServoSample,
     pub latched: ServoSample,
     pub offset: u32,
     pub last_position: u32,
@@ -873,6 +873,38 @@ impl Servo {
         }
     }
 
+    /// A tick upon the sample that is latched.
+    fn run(&mut self, slip: Slip) {
+        if self.latched.power == LOW || (self.latched.power == HIGH && slip == Slip::HighPowerGoesOff) {
+            reach(Branch::TickPowerLow);
+            self.lose_power(slip);
+            return;
+        }
+        reach(match self.mode {
+            Mode::Off => Branch::TickOff,
+            Mode::Pwm => Branch::TickPwm,
+            Mode::Holding => Branch::TickHolding,
+            Mode::Velocity => Branch::TickVelocity,
+            Mode::Trapezoid => Branch::TickTrapezoid,
+        });
+        match self.mode {
+            Mode::Off => {}
+            Mode::Pwm => self.put_out_pwm(slip),
+            Mode::Holding | Mode::Velocity | Mode::Trapezoid => {
+                let before = self.setpoint;
+                self.profile(slip);
+                if self.latched.power == GOOD || slip != Slip::HighPowerSkipsFilter {
+                    self.filter(if slip == Slip::FilterBeforeProfile { before } else { self.setpoint }, slip);
+                }
+            }
+        }
+        if self.latched.power == HIGH && slip != Slip::HighPowerDrives {
+            reach(Branch::TickPowerHigh);
+            self.output = 0;
+            self.amplifier &= slip != Slip::HighPowerClearsAmplifier;
+        }
+    }
+
     fn move_done(&self, slip: Slip) -> bool {
         match self.mode {
             Mode::Off => {
@@ -902,11 +934,11 @@ impl Servo {
 impl Device for Servo {
     const TYPE: u8 = 0;
     const VERSION: u8 = 10;
+    type Measured = ServoSample;
 
     fn power_up() -> Servo {
         Servo {
             station: Station::power_up(),
-            waiting: ServoSample::default(),
             latched: ServoSample::default(),
             offset: 0,
             last_position: 0,
@@ -993,17 +1025,10 @@ impl Device for Servo {
         reach(Branch::ServoReset);
         let before = self.clone();
         *self = Servo::power_up();
-        if slip != Slip::ResetDropsWaitingSample {
-            self.waiting = before.waiting;
-        }
         if slip != Slip::ResetDropsLatchedSample {
             self.latched = before.latched;
         }
-        self.offset = match slip {
-            Slip::ResetKeepsPosition => before.offset,
-            Slip::ResetToWaitingRaw => self.waiting.raw,
-            _ => self.latched.raw,
-        };
+        self.offset = if slip == Slip::ResetKeepsPosition { before.offset } else { self.latched.raw };
         if slip == Slip::ResetKeepsAddrOut {
             self.station.low = before.station.low;
         }
@@ -1041,47 +1066,37 @@ impl Device for Servo {
         u8::from(self.move_done(slip)) | u8::from(cut) << 2 | u8::from(good) << 3 | u8::from(self.error) << 4
     }
 
-    fn tick(&mut self, slip: Slip) {
-        self.last_position = self.position();
-        let power_before = self.latched.power;
-        self.latched = self.waiting.clone();
-        if slip == Slip::SampleOnce {
-            self.waiting = ServoSample::default();
+    fn measured(sample: &Sample, slip: Slip) -> Option<ServoSample> {
+        let [_, first, second, raw0, raw1, raw2, raw3, rest @ ..] = *sample;
+        let (power, ad) = if slip == Slip::AdBeforePower { (second, first) } else { (first, second) };
+        let mut raw = [raw0, raw1, raw2, raw3];
+        if slip == Slip::RawMostSignificantFirst {
+            raw.reverse();
         }
-        match (self.amplifier, power_before, self.latched.power) {
+        let good = power <= HIGH || (power == HIGH + 1 && slip == Slip::PowerOf3Taken);
+        let taken = good && (rest == [0; 3] || slip != Slip::UnusedBytesTested);
+        taken.then(|| ServoSample { raw: u32::from_le_bytes(raw), power, ad })
+    }
+
+    fn latch(&mut self, measured: ServoSample) {
+        self.latched = measured;
+    }
+
+    fn tick(&mut self, measured: ServoSample, slip: Slip) {
+        self.last_position = self.position();
+        if slip == Slip::ServoRunsOnOldSample {
+            self.run(slip);
+            self.latch(measured);
+            return;
+        }
+        match (self.amplifier, self.latched.power, measured.power) {
             (true, _, LOW) => reach(Branch::TickPowerLowAmplifier),
             (true, LOW, GOOD) => reach(Branch::EnableBackFromLow),
             (true, HIGH, GOOD) => reach(Branch::EnableBackFromHigh),
             _ => {}
         }
-        if self.latched.power == LOW || (self.latched.power == HIGH && slip == Slip::HighPowerGoesOff) {
-            reach(Branch::TickPowerLow);
-            self.lose_power(slip);
-            return;
-        }
-        reach(match self.mode {
-            Mode::Off => Branch::TickOff,
-            Mode::Pwm => Branch::TickPwm,
-            Mode::Holding => Branch::TickHolding,
-            Mode::Velocity => Branch::TickVelocity,
-            Mode::Trapezoid => Branch::TickTrapezoid,
-        });
-        match self.mode {
-            Mode::Off => {}
-            Mode::Pwm => self.put_out_pwm(slip),
-            Mode::Holding | Mode::Velocity | Mode::Trapezoid => {
-                let before = self.setpoint;
-                self.profile(slip);
-                if self.latched.power == GOOD || slip != Slip::HighPowerSkipsFilter {
-                    self.filter(if slip == Slip::FilterBeforeProfile { before } else { self.setpoint }, slip);
-                }
-            }
-        }
-        if self.latched.power == HIGH && slip != Slip::HighPowerDrives {
-            reach(Branch::TickPowerHigh);
-            self.output = 0;
-            self.amplifier &= slip != Slip::HighPowerClearsAmplifier;
-        }
+        self.latch(measured);
+        self.run(slip);
     }
 
     fn outputs(&self, slip: Slip) -> [u8; 8] {

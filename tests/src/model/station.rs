@@ -2,6 +2,7 @@
 
 use super::line::{sum, Frame};
 use crate::branches::{either, reach, uncounted, Branch};
+use crate::calls::Sample;
 use crate::slips::Slip;
 
 // Causes. Those that refuse are tested in the order 1, 4, 2, 5, 3: the first that applies is told.
@@ -122,6 +123,8 @@ fn cause_as(damaged: bool, cause: u8) -> Branch {
 pub trait Device: Clone {
     const TYPE: u8;
     const VERSION: u8;
+    /// What the board measures for it.
+    type Measured;
 
     fn power_up() -> Self;
     fn station(&self) -> &Station;
@@ -136,7 +139,11 @@ pub trait Device: Clone {
     fn item(&self, bit: usize, slip: Slip) -> Vec<u8>;
     /// Status bits of this type's own.
     fn status_bits(&self, slip: Slip) -> u8;
-    fn tick(&mut self, slip: Slip);
+    /// What its ten bytes of a tick's list tell, or nothing where a field is out of range.
+    fn measured(sample: &Sample, slip: Slip) -> Option<Self::Measured>;
+    /// Shows it until the next tick.
+    fn latch(&mut self, measured: Self::Measured);
+    fn tick(&mut self, measured: Self::Measured, slip: Slip);
     /// What the board is to drive, in the eight bytes of the C call.
     fn outputs(&self, slip: Slip) -> [u8; 8];
 

@@ -1,36 +1,29 @@
 -- `doljurven::nmc_tick` meets its contract. Assumes nothing.
-use Rattle.api_rules.specs.Calls.{tickRecord}
-use borrow.Author.Tests.{not-true, not-false}
-use mathlib.Core.Path.{sym, refl, _∙_}
+use mathlib.Core.Path.{sym, _∙_}
 use borrow.Author.Needs.{needs}
+use Rattle.api_rules.proofs.Refused.{Ticks, tick-passes, tick-refused, tick-done}
 use Rattle.doljurven.proofs.nmc_tick.Statement.{statement}
 use Rattle.doljurven.proofs.nmc_tick.Tie as tie
-use Rattle.doljurven.proofs.nmc_tick.Reads as reads
-use Rattle.doljurven.proofs.nmc_tick.Lts as lts
-use Rattle.net_record.proofs.is_valid.Reads as is-valid-reads
-use Rattle.net_traffic.proofs.tick.Reads as tick-reads
 
-is-valid-requires : tie.Need-is-valid-requires
-is-valid-requires c κs = search needs
-
-same-length : tie.Need-same-length
-same-length c = search needs
+passed : (c : tie.Else1) → let a = c .before .before .before .before .before .args in Ticks (a .net .now) (a .samples .now)
+passed c =
+    let a = c .before .before .before .before .before .args in
+    tick-passes (a .net .now) (a .samples .now) (sym (c .before .tick-refusal .ensures) ∙ c .if1 .left)
 
 returns : tie.Need-returns
-unfolding tickRecord
-returns c = rw (← c .before .is-valid .ensures, not-true (c .before .is-valid .result) (c .if1 .taken)) (refl, refl)
+returns c =
+    let a = c .before .before .before .before .before .args in
+    tick-refused (a .net .now) (a .samples .now) (c .before .tick-refusal .ensures) (c .if1 .taken)
 
 tick-requires : tie.Need-tick-requires
-tick-requires c κs = sym (c .before .before .is-valid .ensures) ∙ not-false (c .before .before .is-valid .result) (c .before .if1 .left)
-
-same-length-2 : tie.Need-same-length-2
-same-length-2 c = search needs
+tick-requires c κs = let p = passed (c .before) in (p .valid, p .long)
 
 returns-2 : tie.Need-returns-2
-unfolding tickRecord
-returns-2 c = let v = c .before .before .before .before .before .is-valid in rw (← v .ensures, not-false (v .result) (c .before .before .before .before .if1 .left)) (refl, c .before .before .tick .ensures)
+returns-2 c =
+    let a = c .before .before .before .before .before .before .before .before .before .args in
+    tick-done (a .net .now) (a .samples .now) (c .before .before .before .before .before .tick-refusal .ensures) (c .before .before .before .before .if1 .left) (c .before .before .tick .ensures)
 
 pub nmc-tick-spec : {M : Type 1} → statement M
 nmc-tick-spec =
     tie.close
-    (tie.spec is-valid-requires same-length returns tick-requires same-length-2 returns-2)
+    (tie.spec (λ c κs. search needs) (λ c. search needs) returns tick-requires (λ c. search needs) returns-2)

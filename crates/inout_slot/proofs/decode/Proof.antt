@@ -6,7 +6,7 @@ use Rattle.inout_slot.proofs.decode.Tie as tie
 
 returns : tie.Need-returns
 unfolding decodeOf
-returns c = rw (c .capture-in .ensures, c .before .before .synch-in .ensures, c .before .before .before .pins-in .ensures, c .before .before .before .before .samples-in .ensures, c .before .before .before .before .before .station-in .ensures)
+returns c = rw (c .capture-in .ensures, c .before .before .synch-in .ensures, c .before .before .before .pins-in .ensures, c .before .before .before .before .latched-in .ensures, c .before .before .before .before .before .station-in .ensures)
 
 pub decode-spec : {M : Type 1} → statement M
 decode-spec =

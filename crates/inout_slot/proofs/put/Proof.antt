@@ -6,11 +6,11 @@ use Rattle.inout_slot.proofs.put.Tie as tie
 
 returns : tie.Need-returns
 returns c = let l = c .before .before .before .before .before .before .before in
-    let w = l .before .before .before .before .before .before .before .before .before in
+    let w = l .before .before .before .before .before in
     let p = w .before .before .before .before in
     let h = p .before .before .before .before .before in
     let a = h .before .before in
-    put-is (a .args .m) (a .args .s .now) (a .pre) (h .head-bytes .ensures) (p .before .before .before .before .outputs-bytes .ensures) (p .before .before .before .tail-bytes .ensures) (p .put-all .ensures) (w .put-sample .ensures) (l .before .before .before .before .before .put-latched .ensures) (l .put-all2 .ensures) (c .before .before .put-all3 .ensures)
+    put-is (a .args .m) (a .args .s .now) (a .pre) (h .head-bytes .ensures) (p .before .before .before .before .outputs-bytes .ensures) (p .before .before .before .tail-bytes .ensures) (p .put-all .ensures) (w .put-latched .ensures) (l .put-all2 .ensures) (c .before .before .put-all3 .ensures)
 
 pub put-spec : {M : Type 1} → statement M
 put-spec =
@@ -20,7 +20,6 @@ put-spec =
     (λ c κs. search needs)
     (λ c κs. search needs)
     (λ c. search needs)
-    (λ c κs. search needs)
     (λ c κs. search needs)
     (λ c κs. search needs)
     (λ c. search needs)

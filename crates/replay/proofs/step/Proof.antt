@@ -10,33 +10,33 @@ use Rattle.replay.proofs.step.Tie as tie
 
 slice-aggregate-put : tie.Need-slice-aggregate-put
 slice-aggregate-put c =
-    let t = c .before .before .before .before .before .before .before .turn in
-    sym (length-take-le (t .result .wrote) (t .last .1 .1 .1 .1 .1 .0) (omega (arith, t .ensures .1 .1 .1 .1 .1 .wrote, t .kept, c .before .before .before .before .before .before .before .before .before .before .before .before .before .before .before .before .before .before .pre .1)))
+    let t = c .before .before .before .before .before .before .before .before .before .turn in
+    sym (length-take-le (t .result .wrote) (t .last .1 .1 .1 .1 .1 .1 .0) (omega (arith, t .ensures .1 .1 .1 .1 .1 .1 .wrote, t .kept, c .before .before .before .before .before .before .before .before .before .before .before .before .before .before .before .before .before .before .before .before .before .before .pre .1)))
 
 returns : tie.Need-returns
 returns c =
-    let t = c .before .before .before .before .before .before .before .before .before .before .before .before .before .before .turn .ensures in
+    let t = c .before .before .before .before .before .before .before .before .before .before .before .before .before .before .before .before .turn .ensures in
     let f = c .before .before .refill .ensures in
-    (rw (f .0) (t .1 .1 .1 .1 .0), (rw (f .0) (t .1 .1 .1 .1 .1 .offset), f .1, f .2))
+    (rw (f .0) (t .1 .1 .1 .1 .1 .0), (rw (f .0) (t .1 .1 .1 .1 .1 .1 .offset), f .1, f .2))
 
-add-t19 : tie.Need-add-t19
-add-t19 c =
-    let t = c .before .before .before .before .before .before .before .before .before .before .before .turn .ensures in
-    let s = c .before .before .before .before .before .before .before .before .before .before .before .before .before .before .before .before .before .before .before .before .before .before in
+add-t22 : tie.Need-add-t22
+add-t22 c =
+    let t = c .before .before .before .before .before .before .before .before .before .before .before .before .before .turn .ensures in
+    let s = c .before .before .before .before .before .before .before .before .before .before .before .before .before .before .before .before .before .before .before .before .before .before .before .before .before .before in
     let n = s .args .s .end - s .args .s .start in
     let x = drop (s .args .s .start) (s .args .buf .now) in
-    omega (arith, t .1 .1 .1 .1 .1 .took, length-take n x, length-drop (s .args .s .start) (s .args .buf .now), s .pre .1, s .good)
+    omega (arith, t .1 .1 .1 .1 .1 .1 .took, length-take n x, length-drop (s .args .s .start) (s .args .buf .now), s .pre .1, s .good)
 
 returns-2 : tie.Need-returns-2
 returns-2 c =
-    let t = c .before .before .before .before .before .before .before .before .before .before .before .before .turn .ensures in
-    let s = c .before .before .before .before .before .before .before .before .before .before .before .before .before .before .before .before .before .before .before .before .before .before .before in
+    let t = c .before .before .before .before .before .before .before .before .before .before .before .before .before .before .turn .ensures in
+    let s = c .before .before .before .before .before .before .before .before .before .before .before .before .before .before .before .before .before .before .before .before .before .before .before .before .before .before .before in
     let n = s .args .s .end - s .args .s .start in
     let x = drop (s .args .s .start) (s .args .buf .now) in (
-      t .1 .1 .1 .1 .0,
+      t .1 .1 .1 .1 .1 .0,
       (
-        t .1 .1 .1 .1 .1 .offset,
-        omega (arith, t .1 .1 .1 .1 .1 .took, length-take n x, length-drop (s .args .s .start) (s .args .buf .now), s .pre .1),
+        t .1 .1 .1 .1 .1 .1 .offset,
+        omega (arith, t .1 .1 .1 .1 .1 .1 .took, length-take n x, length-drop (s .args .s .start) (s .args .buf .now), s .pre .1),
         s .pre .1 .2,
       ),
     )
@@ -57,8 +57,10 @@ step-spec =
     (λ c. search needs)
     (λ c. search needs)
     (λ c. search needs)
+    (λ c. search needs)
     returns
-    add-t19
+    add-t22
+    (λ c. search needs)
     (λ c. search needs)
     (λ c. search needs)
     (λ c. search needs)

@@ -42,7 +42,7 @@ returns-4 c = let p = c .before .before .before .before .before .before .before 
     let a = p .before in
     asked-put servo slots (sample .codec .fits) owes (a .args .s .now) (a .pre .0) (λ i. omega (arith, p .slice-known .given i)) (a .pre .1)
     (frameOf (a .args .f) (a .args .ds .now)) (a .args .alone)
-    (c .before .before .before .before .before .before .before .before .before .before .if1 .left) (sym (c .before .before .before .before .before .before .before .before .before .request-of .ensures) ∙ ap asksOf (c .before .before .before .before .before .before .before .enum-told .given .1)) (c .before .before .before .fresh .ensures ∙ ap fresh (c .before .before .before .before .before .samples-in .ensures)) (c .before .before .put .ensures)
+    (c .before .before .before .before .before .before .before .before .before .before .if1 .left) (sym (c .before .before .before .before .before .before .before .before .before .request-of .ensures) ∙ ap asksOf (c .before .before .before .before .before .before .before .enum-told .given .1)) (c .before .before .before .fresh .ensures ∙ ap fresh (c .before .before .before .before .before .latched-in .ensures)) (c .before .before .put .ensures)
 
 returns-5 : tie.Need-returns-5
 returns-5 c = let p = c .before .before .before .before .before .before .before .before .before .before .before .before in

@@ -1,7 +1,7 @@
 -- `servo_slot_list::is_ok` meets its contract. Assumes nothing.
 use Rattle.servo_slot_rules.proofs.Tested.{ok-is, ranged-in}
 use Rattle.servo_slot_rules.specs.List.{soundAt}
-use Rattle.servo_slot_rules.specs.Slot.{latchedAt, powerIn, okOf}
+use Rattle.servo_slot_rules.specs.Slot.{powerAt, okOf}
 use Rattle.servo_motion.specs.Profile.{Ranged}
 use Prim.Native.Nat.{ℕ}
 use native.Mathlib.Omega.{arith}
@@ -25,7 +25,7 @@ module _ (c : tie.After-is-run-ok) where
   slot = start .before .args .s .now
 
   abbrev soundHere : Bool
-  soundHere = soundAt (getD slot (powerIn latchedAt) 0) (runs .run-in .result)
+  soundHere = soundAt (getD slot powerAt 0) (runs .run-in .result)
 
   tests : okOf slot ≡ (c .is-run-ok .result && soundHere)
   tests = ok-is slot (runs .before .rates-in .ensures) (runs .run-in .ensures)

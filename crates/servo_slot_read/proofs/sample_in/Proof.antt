@@ -9,4 +9,4 @@ returns c = rw (c .before .before .get4 .ensures)
 pub sample-in-spec : {M : Type 1} → statement M
 sample-in-spec =
     tie.close
-    (tie.spec (λ c. search needs) (λ c κs. search needs) (λ c. search needs) (λ c. search needs) (λ c. search needs) returns)
+    (tie.spec (λ c. search needs) (λ c. search needs) (λ c κs. search needs) (λ c. search needs) (λ c. search needs) returns)
