@@ -19,6 +19,7 @@ static const struct move steepest = {2559, FASTEST, FASTEST}; /* 27 halvings the
 
 static uint8_t room[NMC_ROOM_LEN];
 static uint8_t last_byte;
+static size_t replied; /* how many bytes the frame draws that it ends */
 
 /* The list that each tick of a case takes. */
 static uint8_t samples[NMC_MOST_MODULES * NMC_SAMPLE_LEN];
@@ -58,14 +59,28 @@ static size_t send(const struct implementation *at, uint8_t address, uint8_t cod
     return feed(at, frame, write_frame(address, code, data, len, frame), NMC_FRAME);
 }
 
-/* A frame without its last byte, which is the one to be measured. */
-static void send_up_to_last(const struct implementation *at, uint8_t address, uint8_t code,
-                            const uint8_t *data, size_t len)
+/* A Read Status without its last byte, which is the one to be measured; it draws so many bytes. */
+static void read_up_to_last(const struct implementation *at, uint8_t address, uint8_t items, size_t draws)
 {
     uint8_t frame[NMC_FRAME_LEN];
-    size_t written = write_frame(address, code, data, len, frame);
+    size_t written = write_frame(address, 3, &items, 1, frame);
     feed(at, frame, written - 1, NMC_DONE);
     last_byte = frame[written - 1];
+    replied = draws;
+}
+
+static void put_nothing_measured(uint8_t type, size_t place)
+{
+    switch (type) {
+    case NMC_TYPE_SERVO:
+        nmc_put_servo_sample(samples, place, 0, 0, 0);
+        break;
+    case NMC_TYPE_IO:
+        nmc_put_io_sample(samples, place, 0, 0, 0, 0, 0);
+        break;
+    default:
+        nmc_put_stepper_sample(samples, place, 0);
+    }
 }
 
 /* Modules addressed 1, 2, ..., all leaders of one group; nothing is measured anywhere. */
@@ -76,10 +91,7 @@ static void address_all(const struct implementation *at, uint8_t type, size_t ch
     need(at->setup(types, chain) == NMC_DONE);
     samples_len = chain * NMC_SAMPLE_LEN;
     for (size_t place = 0; place < chain; place++) {
-        if (type == NMC_TYPE_SERVO)
-            nmc_put_servo_sample(samples, place, 0, 0, 0);
-        else
-            nmc_put_io_sample(samples, place, 0, 0, 0, 0, 0);
+        put_nothing_measured(type, place);
         const uint8_t data[2] = {(uint8_t)(place + 1), GROUP & 0x7F};
         need(send(at, 0, 1, data, sizeof data) == 2);
     }
@@ -123,6 +135,15 @@ static void start_all(const struct implementation *at, uint8_t control, const st
     need(send(at, GROUP, 4, data, len + 8) == 2 * NMC_MOST_MODULES);
 }
 
+/* Steppers that all start at 10 forward, to a speed, with a T. */
+static void start_steppers(const struct implementation *at, uint8_t speed, uint8_t time)
+{
+    const uint8_t parameters[5] = {0, 10, 0, 0, 0}, load[3] = {0x86, speed, time};
+    address_all(at, NMC_TYPE_STEPPER, NMC_MOST_MODULES);
+    need(send(at, GROUP, 6, parameters, sizeof parameters) == 2 * NMC_MOST_MODULES);
+    need(send(at, GROUP, 4, load, sizeof load) == 2 * NMC_MOST_MODULES);
+}
+
 static void tick_times(const struct implementation *at, unsigned times)
 {
     while (times-- > 0)
@@ -149,6 +170,35 @@ static void prepare_one_servo(const struct implementation *at)
 static void prepare_one_io(const struct implementation *at)
 {
     address_all(at, NMC_TYPE_IO, 1);
+}
+
+static void prepare_one_stepper(const struct implementation *at)
+{
+    address_all(at, NMC_TYPE_STEPPER, 1);
+}
+
+static void prepare_steppers_at_rest(const struct implementation *at)
+{
+    address_all(at, NMC_TYPE_STEPPER, NMC_MOST_MODULES);
+}
+
+static void prepare_steppers_at_speed(const struct implementation *at)
+{
+    start_steppers(at, 20, 1);
+    tick_times(at, 30); /* 10 ticks of ramp */
+}
+
+/* In the ticks that are measured no T-th comes. */
+static void prepare_steppers_between(const struct implementation *at)
+{
+    start_steppers(at, 20, 255);
+}
+
+/* The speed changes in each tick. */
+static void prepare_steppers_climbing(const struct implementation *at)
+{
+    start_steppers(at, 250, 1);
+    tick_times(at, 30);
 }
 
 static void prepare_moving(const struct implementation *at)
@@ -200,30 +250,43 @@ static void prepare_holding(const struct implementation *at)
     send(at, GROUP, 7, &abrupt, 1);
 }
 
-static const uint8_t all_items = 0xFF;
+/* All items of a servo and of an I/O module, and of a stepper with the length of its reply. */
+enum { ALL_ITEMS = 0xFF, STEPPER_ITEMS = 0x21, STEPPER_REPLY_LEN = 8 };
 
 static void prepare_for_one_servo(const struct implementation *at)
 {
     prepare_moving(at);
-    send_up_to_last(at, 7, 3, &all_items, 1);
+    read_up_to_last(at, 7, ALL_ITEMS, NMC_REPLY_LEN);
 }
 
 static void prepare_for_one_io(const struct implementation *at)
 {
     prepare_io(at);
-    send_up_to_last(at, 7, 3, &all_items, 1);
+    read_up_to_last(at, 7, ALL_ITEMS, NMC_REPLY_LEN);
+}
+
+static void prepare_for_one_stepper(const struct implementation *at)
+{
+    prepare_steppers_at_speed(at);
+    read_up_to_last(at, 7, STEPPER_ITEMS, STEPPER_REPLY_LEN);
 }
 
 static void prepare_for_all_servos(const struct implementation *at)
 {
     prepare_moving(at);
-    send_up_to_last(at, GROUP, 3, &all_items, 1);
+    read_up_to_last(at, GROUP, ALL_ITEMS, NMC_ROOM_LEN);
 }
 
 static void prepare_for_all_io(const struct implementation *at)
 {
     prepare_io(at);
-    send_up_to_last(at, GROUP, 3, &all_items, 1);
+    read_up_to_last(at, GROUP, ALL_ITEMS, NMC_ROOM_LEN);
+}
+
+static void prepare_for_all_steppers(const struct implementation *at)
+{
+    prepare_steppers_at_speed(at);
+    read_up_to_last(at, GROUP, STEPPER_ITEMS, NMC_MOST_MODULES * STEPPER_REPLY_LEN);
 }
 
 /* A null opens nothing. */
@@ -236,7 +299,7 @@ static void take_null(const struct implementation *at)
 static void take_last(const struct implementation *at)
 {
     size_t written;
-    need(at->byte(0, last_byte, room, sizeof room, &written) == NMC_FRAME && written >= NMC_REPLY_LEN);
+    need(at->byte(0, last_byte, room, sizeof room, &written) == NMC_FRAME && written == replied);
 }
 
 static void take_outputs(const struct implementation *at)
@@ -263,26 +326,31 @@ static uint8_t reply[NMC_REPLY_LEN];
 
 static void prepare_reply(const struct implementation *at)
 {
+    const uint8_t items = ALL_ITEMS;
     prepare_one_servo(at);
-    need(send(at, 1, 3, &all_items, 1) == NMC_REPLY_LEN);
+    need(send(at, 1, 3, &items, 1) == NMC_REPLY_LEN);
     memcpy(reply, room, NMC_REPLY_LEN);
 }
 
 static void read_once(const struct implementation *at)
 {
     uint8_t reading[NMC_READING_LEN];
-    need(at->read_status(NMC_TYPE_SERVO, all_items, reply, sizeof reply, reading) == NMC_DONE);
+    need(at->read_status(NMC_TYPE_SERVO, ALL_ITEMS, reply, sizeof reply, reading) == NMC_DONE);
 }
 
 const struct bench_case cases[] = {
     {"byte, no frame ends, 32 servos moving", "byte", prepare_moving, take_null, NOTHING_BACK, 1000},
     {"byte, no frame ends, 32 I/O", "byte", prepare_io, take_null, NOTHING_BACK, 1000},
+    {"byte, no frame ends, 32 steppers moving", "byte", prepare_steppers_at_speed, take_null, NOTHING_BACK, 1000},
     {"byte, no frame ends, 1 servo", "byte", prepare_one_servo, take_null, NOTHING_BACK, 1000},
     {"byte, no frame ends, 1 I/O", "byte", prepare_one_io, take_null, NOTHING_BACK, 1000},
+    {"byte, no frame ends, 1 stepper", "byte", prepare_one_stepper, take_null, NOTHING_BACK, 1000},
     {"byte, frame for one of 32 servos", "byte", prepare_for_one_servo, take_last, RECEIVER_BACK, 1000},
     {"byte, frame for one of 32 I/O", "byte", prepare_for_one_io, take_last, RECEIVER_BACK, 1000},
+    {"byte, frame for one of 32 steppers", "byte", prepare_for_one_stepper, take_last, RECEIVER_BACK, 1000},
     {"byte, frame for a group of 32 servos", "byte", prepare_for_all_servos, take_last, RECEIVER_BACK, 1000},
     {"byte, frame for a group of 32 I/O", "byte", prepare_for_all_io, take_last, RECEIVER_BACK, 1000},
+    {"byte, frame for a group of 32 steppers", "byte", prepare_for_all_steppers, take_last, RECEIVER_BACK, 1000},
     {"tick, 32 servos, trapezoid at top speed", "tick", prepare_moving, tick_once, NOTHING_BACK, 400},
     {"tick, 32 servos, trapezoid begins to brake", "tick", prepare_braking, tick_once, NETWORK_BACK, 400},
     {"tick, 32 servos brake, A 1, V 83,886,080", "tick", prepare_braking_slowest, tick_once, NETWORK_BACK, 400},
@@ -290,15 +358,23 @@ const struct bench_case cases[] = {
     {"tick, 32 servos, velocity mode", "tick", prepare_velocity, tick_once, NOTHING_BACK, 400},
     {"tick, 32 servos holding", "tick", prepare_holding, tick_once, NOTHING_BACK, 1000},
     {"tick, 32 I/O", "tick", prepare_io, tick_once, NOTHING_BACK, 1000},
+    {"tick, 32 steppers, each changes its speed", "tick", prepare_steppers_climbing, tick_once, NETWORK_BACK, 400},
+    {"tick, 32 steppers at their goal, T 1", "tick", prepare_steppers_at_speed, tick_once, NOTHING_BACK, 1000},
+    {"tick, 32 steppers between changes", "tick", prepare_steppers_between, tick_once, NOTHING_BACK, 250},
+    {"tick, 32 steppers at rest", "tick", prepare_steppers_at_rest, tick_once, NOTHING_BACK, 1000},
     {"tick, 1 servo", "tick", prepare_one_servo, tick_once, NOTHING_BACK, 1000},
     {"tick, 1 I/O", "tick", prepare_one_io, tick_once, NOTHING_BACK, 1000},
+    {"tick, 1 stepper", "tick", prepare_one_stepper, tick_once, NOTHING_BACK, 1000},
     {"outputs, one of 32 servos moving", "outputs", prepare_moving, take_outputs, NOTHING_BACK, 1000},
     {"outputs, one of 32 I/O", "outputs", prepare_io, take_outputs, NOTHING_BACK, 1000},
+    {"outputs, one of 32 steppers moving", "outputs", prepare_steppers_at_speed, take_outputs, NOTHING_BACK, 1000},
     {"write_frame, 13 data bytes", "write_frame", prepare_one_servo, write_once, NOTHING_BACK, 1000},
     {"read_status, all items", "read_status", prepare_reply, read_once, NOTHING_BACK, 1000},
     {"list alone, 32 servos moving", "outputs", prepare_moving, only_list, NOTHING_BACK, 1000},
     {"list alone, 32 servos off", "outputs", prepare_servos_off, only_list, NOTHING_BACK, 1000},
     {"list alone, 32 I/O", "outputs", prepare_io, only_list, NOTHING_BACK, 1000},
+    {"list alone, 32 steppers moving", "outputs", prepare_steppers_at_speed, only_list, NOTHING_BACK, 1000},
+    {"list alone, 32 steppers at rest", "outputs", prepare_steppers_at_rest, only_list, NOTHING_BACK, 1000},
 };
 
 const unsigned case_count = sizeof cases / sizeof *cases;

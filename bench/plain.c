@@ -1,5 +1,5 @@
 /*
- * Document 01 with P1, P4, P5 and P11 of 02 in plain C11. It shares nothing
+ * Document 01 with P1, P3, P4, P5 and P11 of 02 in plain C11. It shares nothing
  * with the library, so that the two can be held against each other.
  */
 #include "plain.h"
@@ -19,10 +19,10 @@ enum {
     BAD_SUM = 19,
     BAD_LIST = 20
 };
-enum { SERVO = 0, IO = 2 };
+enum { SERVO = 0, IO = 2, STEPPER = 3 };
 enum { HEADER = 0xAA, ITEMS = 8, READING_LEN = 33, OUTPUTS_LEN = 8, TWELVE_BITS = 0xFFF };
 enum { POWER_LOW, POWER_GOOD, POWER_HIGH };
-enum { FASTEST = 83886080, MOST_GAIN = 32767, MOST_ERROR = 16383, MOST_OUTPUT = 255 };
+enum { FASTEST = 83886080, MOST_GAIN = 32767, MOST_ERROR = 16383, MOST_OUTPUT = 255, MOST_STEPS = 250 };
 
 /* Those that refuse are tested in the order DAMAGED, UNKNOWN, WRONG_COUNT, OUT_OF_RANGE, NOT_NOW. */
 enum cause { EXECUTED, DAMAGED, WRONG_COUNT, NOT_NOW, UNKNOWN, OUT_OF_RANGE };
@@ -48,7 +48,9 @@ enum code {
     SET_OUTPUT = 6,
     SET_SYNCH_OUTPUT = 7,
     SET_TIMER_MODE = 8,
-    SYNCH_INPUT = 12
+    SYNCH_INPUT = 12,
+    /* step-motor module: Load Trajectory, Start and Stop have the servo's codes */
+    SET_PARAMETERS = 6
 };
 
 enum load_bit {
@@ -62,6 +64,17 @@ enum load_bit {
     LOAD_START_NOW = 0x80
 };
 
+/* A step-motor module's; start now is the servo's bit. */
+enum step_load_bit {
+    STEP_POSITION = 0x01,
+    STEP_SPEED = 0x02,
+    STEP_TIME = 0x04,
+    STEP_TIMER = 0x08,
+    STEP_REVERSE = 0x10,
+    STEP_NO_BITS = 0x60
+};
+
+/* A step-motor module has the first, the third and the fourth. */
 enum stop_bit {
     STOP_AMPLIFIER = 0x01,
     STOP_OFF = 0x02,
@@ -73,6 +86,8 @@ enum stop_bit {
 
 static const uint8_t servo_sizes[ITEMS] = {4, 1, 2, 1, 4, 2, 2, 1};
 static const uint8_t io_sizes[ITEMS] = {2, 1, 1, 1, 4, 2, 2, 4};
+static const uint8_t stepper_sizes[ITEMS] = {[0] = 4, [5] = 2};
+enum { STEPPER_ITEMS = 0x21 };
 
 struct frame {
     uint8_t address, code, count;
@@ -581,15 +596,216 @@ static void io_items(const struct plain_io *io, uint32_t items[ITEMS])
     items[7] = io->captured_counter;
 }
 
+/* ---- the step-motor module */
+
+static void power_up_stepper(struct plain_stepper *s)
+{
+    memset(s, 0, sizeof *s);
+}
+
+static void end_motion(struct plain_stepper *s)
+{
+    s->steps = (struct plain_steps){0};
+}
+
+static void drop_load(struct plain_stepper *s)
+{
+    s->load = (struct plain_step_load){0};
+}
+
+/* One unit nearer the goal; a smooth stop ends from the minimum. */
+static void change_speed(struct plain_stepper *s)
+{
+    struct plain_steps *m = &s->steps;
+    if (m->stopping && m->speed == s->minimum)
+        end_motion(s);
+    else if (m->speed < m->goal)
+        m->speed++;
+    else if (m->speed > m->goal)
+        m->speed--;
+}
+
+static void tick_stepper(struct plain_stepper *s, const uint8_t *sample)
+{
+    struct plain_steps *m = &s->steps;
+    if (sample[1])
+        end_motion(s);
+    if (m->speed == 0)
+        return;
+    m->counter++;
+    if (m->counter == m->time) {
+        m->counter = 0;
+        change_speed(s);
+    }
+    s->position += m->backward ? 0u - m->speed : m->speed;
+}
+
+static bool can_step(const struct plain_stepper *s, const struct plain_step_load *load)
+{
+    return s->minimum && load->waits && load->speed && load->time &&
+           (s->steps.speed == 0 || s->steps.backward == load->backward);
+}
+
+/* Starts a load; from rest at the minimum at once, else from the speed that it has. */
+static void start_steps(struct plain_stepper *s, const struct plain_step_load *load)
+{
+    s->steps = (struct plain_steps){
+        .speed = s->steps.speed ? s->steps.speed : s->minimum,
+        .backward = load->backward,
+        .goal = load->speed < s->minimum ? s->minimum : load->speed,
+        .time = load->time,
+    };
+    drop_load(s);
+}
+
+static enum cause start_stepper(struct plain_stepper *s)
+{
+    if (!can_step(s, &s->load))
+        return NOT_NOW;
+    struct plain_step_load load = s->load;
+    start_steps(s, &load);
+    return EXECUTED;
+}
+
+static bool has_step_load_count(const struct frame *f)
+{
+    if (f->count == 0)
+        return false;
+    uint8_t control = f->data[0], count = 1;
+    count += control & STEP_POSITION ? 4 : 0;
+    count += ones(control & (STEP_SPEED | STEP_TIME));
+    count += control & STEP_TIMER ? 3 : 0;
+    return f->count == count;
+}
+
+static bool is_speed(uint8_t steps)
+{
+    return 1 <= steps && steps <= MOST_STEPS;
+}
+
+/* Takes a load's data apart, position and timer in place; false if a number is out of range. */
+static bool parse_step_load(const uint8_t *data, struct plain_step_load *load, uint32_t *position, uint32_t *timer)
+{
+    uint8_t control = *data++;
+    *load = (struct plain_step_load){.waits = 1, .backward = (control & STEP_REVERSE) != 0};
+    if (control & STEP_NO_BITS)
+        return false;
+    if (control & STEP_POSITION) {
+        *position = get32(data);
+        data += 4;
+    }
+    if (control & STEP_SPEED) {
+        load->speed = *data++;
+        if (!is_speed(load->speed))
+            return false;
+    }
+    if (control & STEP_TIME) {
+        load->time = *data++;
+        if (load->time == 0)
+            return false;
+    }
+    if (control & STEP_TIMER)
+        *timer = get16(data) | (uint32_t)data[2] << 16;
+    return true;
+}
+
+static enum cause load_steps(struct plain_stepper *s, const struct frame *f)
+{
+    struct plain_step_load load;
+    uint32_t position = s->stored_position, timer = s->stored_timer;
+    if (!has_step_load_count(f))
+        return WRONG_COUNT;
+    if (!parse_step_load(f->data, &load, &position, &timer))
+        return OUT_OF_RANGE;
+    bool now = (f->data[0] & LOAD_START_NOW) != 0;
+    if (now && !can_step(s, &load))
+        return NOT_NOW;
+    s->stored_position = position;
+    s->stored_timer = timer;
+    if (now)
+        start_steps(s, &load);
+    else
+        s->load = load;
+    return EXECUTED;
+}
+
+/* Of the five bytes only the minimum acts, and at rest alone. */
+static enum cause set_parameters(struct plain_stepper *s, const uint8_t *data)
+{
+    if (!is_speed(data[1]))
+        return OUT_OF_RANGE;
+    if (s->steps.speed == 0)
+        s->minimum = data[1];
+    return EXECUTED;
+}
+
+static enum cause stop_stepper(struct plain_stepper *s, uint8_t control)
+{
+    uint8_t kind = control & (STOP_ABRUPT | STOP_SMOOTH);
+    if (control & ~(STOP_AMPLIFIER | STOP_ABRUPT | STOP_SMOOTH) || kind == (STOP_ABRUPT | STOP_SMOOTH))
+        return OUT_OF_RANGE;
+    s->amplifier = control & STOP_AMPLIFIER;
+    if (kind)
+        drop_load(s);
+    if (kind == STOP_ABRUPT) {
+        end_motion(s);
+    } else if (kind == STOP_SMOOTH && s->steps.speed) {
+        s->steps.goal = s->minimum;
+        s->steps.counter = 0;
+        s->steps.stopping = 1;
+    }
+    return EXECUTED;
+}
+
+static enum cause stepper_command(struct plain_stepper *s, const struct frame *f)
+{
+    switch (f->code) {
+    case LOAD_TRAJECTORY:
+        return load_steps(s, f);
+    case START:
+        return f->count == 0 ? start_stepper(s) : WRONG_COUNT;
+    case SET_PARAMETERS:
+        return f->count == 5 ? set_parameters(s, f->data) : WRONG_COUNT;
+    case STOP:
+        return f->count == 1 ? stop_stepper(s, f->data[0]) : WRONG_COUNT;
+    default:
+        return UNKNOWN;
+    }
+}
+
+static void stepper_items(const struct plain_stepper *s, uint32_t items[ITEMS])
+{
+    items[0] = s->position;
+    items[5] = 1 << 8 | STEPPER;
+}
+
 /* ---- what every module does */
+
+static const uint8_t *sizes_of(uint32_t type)
+{
+    return type == SERVO ? servo_sizes : type == IO ? io_sizes : stepper_sizes;
+}
+
+static bool is_type(uint32_t type)
+{
+    return type == SERVO || type == IO || type == STEPPER;
+}
+
+/* Whether a type has all of these items. */
+static bool has_items(uint32_t type, uint8_t items)
+{
+    return type != STEPPER || (items & ~STEPPER_ITEMS) == 0;
+}
 
 static void power_up(struct plain_module *m)
 {
     m->station = (struct plain_station){.group = 255};
     if (m->type == SERVO)
         power_up_servo(&m->as.servo);
-    else
+    else if (m->type == IO)
         power_up_io(&m->as.io);
+    else
+        power_up_stepper(&m->as.stepper);
 }
 
 static void set_address(struct plain_station *s, const uint8_t *data)
@@ -600,8 +816,23 @@ static void set_address(struct plain_station *s, const uint8_t *data)
     s->low = 1;
 }
 
+static enum cause own_command(struct plain_module *m, const struct frame *f)
+{
+    if (m->type == SERVO)
+        return servo_command(&m->as.servo, f);
+    return m->type == IO ? io_command(&m->as.io, f) : stepper_command(&m->as.stepper, f);
+}
+
+static enum cause choose_items(const struct plain_module *m, const struct frame *f)
+{
+    if (f->count != 1)
+        return WRONG_COUNT;
+    return has_items(m->type, f->data[0]) ? EXECUTED : OUT_OF_RANGE;
+}
+
 static enum cause execute(struct plain_module *m, const struct frame *f, bool individually)
 {
+    enum cause cause;
     if (f->damaged)
         return DAMAGED;
     switch (f->code) {
@@ -611,12 +842,12 @@ static enum cause execute(struct plain_module *m, const struct frame *f, bool in
         set_address(&m->station, f->data);
         return EXECUTED;
     case DEFINE_STATUS:
-        if (f->count != 1)
-            return WRONG_COUNT;
-        m->station.items = f->data[0];
-        return EXECUTED;
+        cause = choose_items(m, f);
+        if (cause == EXECUTED)
+            m->station.items = f->data[0];
+        return cause;
     case READ_STATUS:
-        return f->count == 1 ? EXECUTED : WRONG_COUNT;
+        return choose_items(m, f);
     case SET_BAUD:
         if (individually)
             return UNKNOWN;
@@ -632,22 +863,23 @@ static enum cause execute(struct plain_module *m, const struct frame *f, bool in
         power_up(m);
         return EXECUTED;
     default:
-        return m->type == SERVO ? servo_command(&m->as.servo, f) : io_command(&m->as.io, f);
+        return own_command(m, f);
     }
 }
 
 static size_t write_reply(const struct plain_module *m, uint8_t chosen, uint8_t *room)
 {
     uint32_t items[ITEMS];
-    const uint8_t *sizes;
+    const uint8_t *sizes = sizes_of(m->type);
     uint8_t status = m->station.cause ? 2 : 0;
     if (m->type == SERVO) {
-        sizes = servo_sizes;
         status |= servo_status(&m->as.servo);
         servo_items(&m->as.servo, items);
-    } else {
-        sizes = io_sizes;
+    } else if (m->type == IO) {
         io_items(&m->as.io, items);
+    } else {
+        status |= m->as.stepper.steps.speed != 0;
+        stepper_items(&m->as.stepper, items);
     }
     size_t len = 0;
     room[len++] = status;
@@ -803,15 +1035,32 @@ static bool mode_holds(const struct plain_servo *s)
     }
 }
 
+/* All 0 at rest; in motion at the minimum at least, both the speed and where it goes. */
+static bool steps_hold(const struct plain_steps *m, uint8_t minimum)
+{
+    if (m->speed == 0)
+        return !m->backward && m->goal == 0 && m->time == 0 && m->counter == 0 && !m->stopping;
+    return minimum >= 1 && minimum <= m->speed && m->speed <= MOST_STEPS && minimum <= m->goal &&
+           m->goal <= MOST_STEPS && m->counter < m->time && m->backward <= 1 && m->stopping <= 1 &&
+           (!m->stopping || m->goal == minimum);
+}
+
+static bool stepper_holds(const struct plain_stepper *s)
+{
+    const struct plain_step_load *l = &s->load;
+    return s->amplifier <= 1 && s->minimum <= MOST_STEPS && l->waits <= 1 && l->backward <= 1 &&
+           l->speed <= MOST_STEPS && steps_hold(&s->steps, s->minimum);
+}
+
 static bool module_holds(const struct plain_module *m)
 {
-    if (!station_holds(&m->station))
+    if (!is_type(m->type) || !station_holds(&m->station) || !has_items(m->type, m->station.items))
         return false;
     if (m->type == SERVO) {
         const struct plain_servo *s = &m->as.servo;
         return gains_hold(&s->gains) && load_holds(&s->load, &s->rates) && ranges_hold(s) && mode_holds(s);
     }
-    return m->type == IO && io_holds(&m->as.io);
+    return m->type == IO ? io_holds(&m->as.io) : stepper_holds(&m->as.stepper);
 }
 
 static bool record_holds(const struct plain_network *net)
@@ -843,7 +1092,7 @@ uint32_t PLAIN(setup)(struct plain_network *net, const uint8_t *types, size_t ch
     if (chain < 1 || chain > PLAIN_MOST_MODULES)
         return BAD_CHAIN;
     for (size_t i = 0; i < chain; i++)
-        if (types[i] != SERVO && types[i] != IO)
+        if (!is_type(types[i]))
             return BAD_TYPE;
     memset(net, 0, sizeof *net);
     net->chain = (uint8_t)chain;
@@ -892,7 +1141,9 @@ uint32_t PLAIN(byte)(struct plain_network *net, uint32_t mark, uint8_t byte, uin
 
 static bool in_range(uint8_t type, const uint8_t *sample)
 {
-    return type == SERVO ? sample[1] <= POWER_HIGH : get16(sample + 1) <= TWELVE_BITS;
+    if (type == IO)
+        return get16(sample + 1) <= TWELVE_BITS;
+    return sample[1] <= (type == SERVO ? POWER_HIGH : 1);
 }
 
 /* Every type is tested before any field. */
@@ -919,8 +1170,10 @@ uint32_t PLAIN(tick)(struct plain_network *net, const uint8_t *samples, size_t s
         struct plain_module *m = &net->modules[place];
         if (m->type == SERVO)
             tick_servo(&m->as.servo, samples);
-        else
+        else if (m->type == IO)
             tick_io(&m->as.io, samples);
+        else
+            tick_stepper(&m->as.stepper, samples);
     }
     return DONE;
 }
@@ -937,6 +1190,11 @@ uint32_t PLAIN(outputs)(const struct plain_network *net, uint32_t place, uint8_t
         outputs[0] = (uint8_t)(s->output < 0 ? -s->output : s->output);
         outputs[1] = s->output < 0;
         outputs[2] = s->amplifier && s->latched.power == POWER_GOOD;
+    } else if (m->type == STEPPER) {
+        const struct plain_stepper *s = &m->as.stepper;
+        outputs[0] = s->steps.speed;
+        outputs[1] = s->steps.backward;
+        outputs[2] = s->amplifier;
     } else {
         const struct plain_io *io = &m->as.io;
         outputs[0] = (uint8_t)io->direction;
@@ -969,9 +1227,11 @@ uint32_t PLAIN(read_status)(uint32_t type, uint8_t items, const uint8_t *reply, 
                             uint8_t *reading)
 {
     memset(reading, 0, READING_LEN);
-    if (type != SERVO && type != IO)
+    if (!is_type(type))
         return BAD_TYPE;
-    const uint8_t *sizes = type == SERVO ? servo_sizes : io_sizes;
+    if (!has_items(type, items))
+        return BAD_LENGTH;
+    const uint8_t *sizes = sizes_of(type);
     size_t needed = 2;
     for (int i = 0; i < ITEMS; i++)
         if (items >> i & 1)

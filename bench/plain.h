@@ -1,6 +1,7 @@
 /*
- * Document 01 with P1, P4, P5 and P11 of 02 in plain C, to measure the library
- * against: the same calls and the same answers on a network of typed structs.
+ * Document 01 with P1, P3, P4, P5 and P11 of 02 in plain C, to measure the
+ * library against: the same calls and the same answers on a network of typed
+ * structs.
  * plain.c is compiled twice: as it stands (plain_...) it believes the network
  * that it is lent, with PLAIN_CHECKS (checked_...) it tests the list for
  * refusal 16 at each call.
@@ -88,12 +89,36 @@ struct plain_servo {
     int32_t pwm, output;
 };
 
+/* A load of a step-motor module; speed and T are 0 where it carried none. */
+struct plain_step_load {
+    plain_flag waits, backward;
+    uint8_t speed, time;
+};
+
+/* What its motor does, in steps a tick: all 0 at rest. */
+struct plain_steps {
+    uint8_t speed;
+    plain_flag backward;
+    uint8_t goal, time, counter; /* counter: ticks since the start, the smooth stop or the last change of speed */
+    plain_flag stopping;
+};
+
+struct plain_stepper {
+    plain_flag amplifier;
+    uint8_t minimum; /* 0 until Set Parameters */
+    uint32_t stored_position, stored_timer;
+    struct plain_step_load load;
+    struct plain_steps steps;
+    uint32_t position;
+};
+
 struct plain_module {
     uint8_t type;
     struct plain_station station;
     union {
         struct plain_io io;
         struct plain_servo servo;
+        struct plain_stepper stepper;
     } as;
 };
 

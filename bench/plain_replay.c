@@ -5,9 +5,12 @@
 #include <stdio.h>
 #include <string.h>
 
-enum { MODULE, LINE_BYTE, SERVO_SAMPLE, IO_SAMPLE, TICK, KINDS };
+enum { MODULE, LINE_BYTE, SERVO_SAMPLE, IO_SAMPLE, TICK, STEPPER_SAMPLE, KINDS };
 
-static const uint8_t body_len[KINDS] = {1, 2, 7, 10, 0};
+static const uint8_t body_len[KINDS] = {1, 2, 7, 10, 0, 2};
+
+/* Of the module for which a kind has a sample. */
+static const uint8_t type_of[KINDS] = {[SERVO_SAMPLE] = 0, [IO_SAMPLE] = 2, [STEPPER_SAMPLE] = 3};
 
 static struct plain_network net;
 static uint8_t types[PLAIN_MOST_MODULES];
@@ -47,19 +50,24 @@ static bool take_line_byte(const uint8_t *body)
 
 static bool take_module(uint8_t type)
 {
-    if (running || chain == PLAIN_MOST_MODULES || (type != 0 && type != 2))
+    if (running || chain == PLAIN_MOST_MODULES || (type != 0 && type != 2 && type != 3))
         return false;
     samples[PLAIN_SAMPLE_LEN * chain] = type;
     types[chain++] = type;
     return true;
 }
 
+static bool in_range(uint8_t kind, const uint8_t *b)
+{
+    if (kind == IO_SAMPLE)
+        return b[2] < 16;
+    return b[1] <= (kind == SERVO_SAMPLE ? 2 : 1);
+}
+
 /* A sample's record has its place, and then what stands behind the type in a tick's list. */
 static bool take_sample(uint8_t kind, const uint8_t *b)
 {
-    uint8_t type = kind == SERVO_SAMPLE ? 0 : 2;
-    bool in_range = kind == SERVO_SAMPLE ? b[1] <= 2 : b[2] < 16;
-    if (b[0] >= chain || types[b[0]] != type || !in_range)
+    if (b[0] >= chain || types[b[0]] != type_of[kind] || !in_range(kind, b))
         return false;
     memcpy(samples + PLAIN_SAMPLE_LEN * b[0] + 1, b + 1, body_len[kind] - 1u);
     return true;
@@ -77,6 +85,7 @@ static bool take_record(uint8_t kind, const uint8_t *b)
         return take_line_byte(b);
     case SERVO_SAMPLE:
     case IO_SAMPLE:
+    case STEPPER_SAMPLE:
         return take_sample(kind, b);
     default:
         return PLAIN(tick)(&net, samples, PLAIN_SAMPLE_LEN * chain) == 0;

@@ -2,9 +2,10 @@
  * Holds plain C to the library, so that what is measured against it is the
  * same document: over long histories, led to where modules hear and execute,
  * both builds and the library must give the same numbers, replies, causes and
- * outputs, latch the same samples, and servos must remember the same; a tick
- * whose list is spoiled must change nothing; and over spoiled records the
- * library and the build that checks must refuse the same ones.
+ * outputs, latch the same samples, servos must remember the same and steppers
+ * keep the same; a tick whose list is spoiled must change nothing; and over
+ * spoiled records the library and the build that checks must refuse the same
+ * ones.
  */
 #include "plain.h"
 #include "three.h"
@@ -14,9 +15,10 @@
 #include <stdlib.h>
 #include <string.h>
 
-enum { HISTORIES = 1500, STEPS = 500, FASTEST = 83886080, SLOTS_AT = 20, SLOT_LEN = (NMC_NET_LEN - SLOTS_AT) / NMC_MOST_MODULES };
-enum { CAUSE_AT = 5, LATCHED_AT = 8, INTEGRAL_AT = 81, PREVIOUS_AT = 85, CUT_AT = 100, SERVO_LEN = 101 };
-enum { CAUSES = 6, NUMBERS = 21, LEAST_TIMES = 1000 };
+enum { HISTORIES = 1750, STEPS = 500, FASTEST = 83886080, SLOTS_AT = 20, SLOT_LEN = (NMC_NET_LEN - SLOTS_AT) / NMC_MOST_MODULES };
+enum { CAUSE_AT = 5, ITEMS_AT = 6, LATCHED_AT = 8, INTEGRAL_AT = 81, PREVIOUS_AT = 85, CUT_AT = 100, SERVO_LEN = 101 };
+enum { MINIMUM_AT = 9, LOAD_AT = 18, SPEED_AT = 22, GOAL_AT = 24, TIME_AT = 25, COUNTER_AT = 26, STOPPING_AT = 27, STEPPER_LEN = 32 };
+enum { CAUSES = 6, NUMBERS = 21, LEAST_TIMES = 1000, MOST_STEPS = 250 };
 
 static uint64_t dice;
 static uint32_t history, step;
@@ -49,6 +51,38 @@ static const char *const ways_at_limit[WAYS_AT_LIMIT] = {
     [FRAME_CLEARS_CUT] = "cut bit cleared by a frame",
 };
 static unsigned long times_at_limit[WAYS_AT_LIMIT];
+
+/* What histories must come to with steppers. */
+enum stepping {
+    FASTER,
+    SLOWER,
+    SLOWER_TO_STOP,
+    STOP_ENDS,
+    INPUT_ENDS,
+    BACK_OVER_0,
+    START_FROM_REST,
+    START_WHILE_MOVING,
+    START_WHILE_STOPPING,
+    STOP_BEGINS,
+    STOP_REPEATED,
+    MINIMUM_STAYS,
+    WAYS_OF_STEPPING
+};
+static const char *const ways_of_stepping[WAYS_OF_STEPPING] = {
+    [FASTER] = "a stepper one faster",
+    [SLOWER] = "a stepper one slower",
+    [SLOWER_TO_STOP] = "a stepper one slower in a smooth stop",
+    [STOP_ENDS] = "a smooth stop at its end",
+    [INPUT_ENDS] = "a motion ended by the stop input",
+    [BACK_OVER_0] = "a position back over 0",
+    [START_FROM_REST] = "a stepper started from rest",
+    [START_WHILE_MOVING] = "a stepper started while moving",
+    [START_WHILE_STOPPING] = "a stepper started in a smooth stop",
+    [STOP_BEGINS] = "a smooth stop",
+    [STOP_REPEATED] = "a smooth stop in a smooth stop",
+    [MINIMUM_STAYS] = "Set Parameters while moving",
+};
+static unsigned long times_of_stepping[WAYS_OF_STEPPING];
 
 /* The library's record and the structs, as three.c keeps them. */
 static uint8_t *record;
@@ -135,9 +169,37 @@ static bool io_remembers(const struct plain_io *io, const uint8_t *slot)
            io->latched.counter == number_at(slot, LATCHED_AT + 5, 4);
 }
 
+static struct plain_stepper stepper_in(const uint8_t *s)
+{
+    return (struct plain_stepper){.amplifier = s[8],
+                                  .minimum = s[MINIMUM_AT],
+                                  .stored_position = number_at(s, 10, 4),
+                                  .stored_timer = number_at(s, 14, 4),
+                                  .load = {s[18], s[19], s[20], s[21]},
+                                  .steps = {s[SPEED_AT], s[23], s[GOAL_AT], s[TIME_AT], s[COUNTER_AT], s[STOPPING_AT]},
+                                  .position = number_at(s, 28, 4)};
+}
+
+/* Of a stepper all is compared: loads and motions are bytes without gaps between. */
+static bool stepper_remembers(const struct plain_stepper *s, const uint8_t *slot)
+{
+    const struct plain_stepper kept = stepper_in(slot);
+    return s->amplifier == kept.amplifier && s->minimum == kept.minimum &&
+           s->stored_position == kept.stored_position && s->stored_timer == kept.stored_timer &&
+           memcmp(&s->load, &kept.load, sizeof kept.load) == 0 &&
+           memcmp(&s->steps, &kept.steps, sizeof kept.steps) == 0 && s->position == kept.position;
+}
+
 static bool remembers(const struct plain_module *m, const uint8_t *slot)
 {
-    return m->type == NMC_TYPE_SERVO ? servo_remembers(&m->as.servo, slot) : io_remembers(&m->as.io, slot);
+    switch (m->type) {
+    case NMC_TYPE_SERVO:
+        return servo_remembers(&m->as.servo, slot);
+    case NMC_TYPE_IO:
+        return io_remembers(&m->as.io, slot);
+    default:
+        return stepper_remembers(&m->as.stepper, slot);
+    }
 }
 
 /* Samples and what a filter remembers show later or never, and the cut bit in a reply that may not be asked for. */
@@ -198,20 +260,35 @@ static uint32_t tick_with(const uint8_t *list, size_t len)
     return number;
 }
 
+/* A tick of a stepper that moved. */
+static void count_stepping(const struct plain_stepper *before, const struct plain_stepper *after, bool stop)
+{
+    uint8_t v = before->steps.speed, w = after->steps.speed;
+    if (v == 0)
+        return;
+    times_of_stepping[FASTER] += w > v;
+    times_of_stepping[SLOWER] += 0 < w && w < v && !before->steps.stopping;
+    times_of_stepping[SLOWER_TO_STOP] += 0 < w && w < v && before->steps.stopping;
+    times_of_stepping[STOP_ENDS] += w == 0 && !stop;
+    times_of_stepping[INPUT_ENDS] += stop;
+    times_of_stepping[BACK_OVER_0] += before->steps.backward && after->position > before->position;
+}
+
 static void tick_all(void)
 {
-    bool were_cut[NMC_MOST_MODULES];
-    for (int place = 0; place < plain->chain; place++)
-        were_cut[place] = plain->modules[place].type == NMC_TYPE_SERVO && plain->modules[place].as.servo.cut;
+    static struct plain_module before[NMC_MOST_MODULES];
+    memcpy(before, plain->modules, sizeof before);
     uint32_t number = tick_with(samples, (size_t)plain->chain * NMC_SAMPLE_LEN);
     need_alone(number == NMC_DONE, "a good list is refused", LIBRARY);
     memories_of_all();
     for (int place = 0; place < plain->chain; place++) {
-        const struct plain_servo *s = &plain->modules[place].as.servo;
-        if (plain->modules[place].type != NMC_TYPE_SERVO)
-            continue;
-        moving_ticks += s->speed != 0;
-        count_at_limit(were_cut[place], s);
+        const struct plain_module *m = &plain->modules[place];
+        if (m->type == NMC_TYPE_SERVO) {
+            moving_ticks += m->as.servo.speed != 0;
+            count_at_limit(before[place].as.servo.cut, &m->as.servo);
+        } else if (m->type == NMC_TYPE_STEPPER) {
+            count_stepping(&before[place].as.stepper, &m->as.stepper, samples[NMC_SAMPLE_LEN * place + 1]);
+        }
     }
 }
 
@@ -359,6 +436,76 @@ static size_t some_stop(const struct plain_servo *s, uint8_t *data)
     return data[0] & 0x10 ? 5 : 1;
 }
 
+/* A speed of a stepper, mostly a low one, and what is next to its range. */
+static uint8_t some_steps(void)
+{
+    static const uint8_t edges[] = {0, 1, MOST_STEPS, MOST_STEPS + 1};
+    return percent(15) ? edges[below(sizeof edges)] : (uint8_t)(1 + below(percent(90) ? 12 : MOST_STEPS));
+}
+
+static uint8_t some_time(void)
+{
+    return percent(4) ? (uint8_t)(below(2) * 255) : (uint8_t)(1 + below(percent(60) ? 3 : 10));
+}
+
+/* A stepper's load, mostly with speed and T and in the direction in which it moves. */
+static size_t some_step_load(const struct plain_stepper *s, uint8_t *data)
+{
+    static const uint8_t controls[] = {0x06, 0x06, 0x06, 0x06, 0x07, 0x0F, 0x02, 0x04, 0x08, 0x00};
+    uint8_t control = percent(92) ? controls[below(sizeof controls)] : (uint8_t)throw_dice();
+    bool backward = s->steps.speed ? s->steps.backward != percent(15) : percent(50);
+    size_t len = 1;
+    data[0] = (uint8_t)((control & 0x6F) | backward << 4 | percent(50) << 7);
+    len += control & 1 ? 4 : 0;
+    if (control & 2)
+        data[len++] = some_steps();
+    if (control & 4)
+        data[len++] = some_time();
+    return len + (control & 8 ? 3 : 0);
+}
+
+/* A code that makes something of a stepper as it stands: Set Parameters, a load, Start, Stop. */
+static uint8_t next_step_code(const struct plain_stepper *s)
+{
+    static const uint8_t moving[] = {4, 4, 6, 7, 7};
+    if (s->minimum == 0)
+        return 6;
+    if (s->load.speed && percent(50)) /* also where a spoiled record has a load that does not wait */
+        return 5;
+    if (s->steps.stopping)
+        return percent(60) ? 4 : 7;
+    return s->steps.speed ? moving[below(sizeof moving)] : 4;
+}
+
+static size_t some_step_data(const struct plain_stepper *s, uint8_t code, uint8_t *data)
+{
+    static const uint8_t stops[] = {0, 1, 4, 5, 8, 8, 8, 9, 9, 9, 0x0C};
+    switch (code) {
+    case 4:
+        return some_step_load(s, data);
+    case 6:
+        data[1] = some_steps();
+        return 5;
+    case 7:
+        data[0] = percent(95) ? stops[below(sizeof stops)] : (uint8_t)throw_dice();
+        return 1;
+    default:
+        return 0;
+    }
+}
+
+static size_t some_servo_data(const struct plain_servo *s, uint8_t code, uint8_t *data)
+{
+    switch (code) {
+    case 4:
+        return some_load(s, data);
+    case 6:
+        return some_gains(s, data);
+    default:
+        return code == 7 ? some_stop(s, data) : 0;
+    }
+}
+
 static size_t some_data(const struct plain_module *m, uint8_t code, uint8_t *data)
 {
     static const uint8_t common[16] = {[1] = 2, [2] = 1, [3] = 1, [10] = 1};
@@ -367,15 +514,14 @@ static size_t some_data(const struct plain_module *m, uint8_t code, uint8_t *dat
         data[i] = some_byte();
     if (percent(8))
         return below(16);
+    if (m->type == NMC_TYPE_STEPPER && (code == 2 || code == 3) && percent(70))
+        data[0] &= 0x21;
     if (common[code] || code >= 14)
         return common[code];
     if (m->type == NMC_TYPE_IO)
         return io[code];
-    if (code == 4)
-        return some_load(&m->as.servo, data);
-    if (code == 6)
-        return some_gains(&m->as.servo, data);
-    return code == 7 ? some_stop(&m->as.servo, data) : 0;
+    return m->type == NMC_TYPE_SERVO ? some_servo_data(&m->as.servo, code, data)
+                                     : some_step_data(&m->as.stepper, code, data);
 }
 
 static void send(const uint8_t *frame, size_t len)
@@ -395,11 +541,28 @@ static void send_command(uint8_t address, uint8_t code, const uint8_t *data, siz
     send(frame, write_at_all(address, code, data, len, frame, sizeof frame));
 }
 
+/* A command that a stepper has executed, though perhaps not it alone. */
+static void count_command(const struct plain_stepper *before, const struct plain_stepper *after, uint8_t code,
+                          uint8_t control)
+{
+    const struct plain_steps *was = &before->steps;
+    bool started = (code == 5 || (code == 4 && control & 0x80)) && after->steps.speed;
+    bool smooth = code == 7 && control & 8 && was->speed;
+    times_of_stepping[START_FROM_REST] += started && !was->speed;
+    times_of_stepping[START_WHILE_MOVING] += started && was->speed && !was->stopping;
+    times_of_stepping[START_WHILE_STOPPING] += started && was->stopping;
+    times_of_stepping[STOP_BEGINS] += smooth && !was->stopping;
+    times_of_stepping[STOP_REPEATED] += smooth && was->stopping;
+    times_of_stepping[MINIMUM_STAYS] += code == 6 && was->speed;
+}
+
 static void send_some_frame(void)
 {
     static const uint8_t codes[] = {0, 0, 1, 2, 2, 3, 3, 4, 4, 4, 4, 5, 5, 6, 7, 7, 8, 9, 10, 11, 11, 12, 13, 14, 14};
     const struct plain_module *m = &plain->modules[below(plain->chain)];
     uint8_t code = percent(1) ? 15 : codes[below(sizeof codes)];
+    if (m->type == NMC_TYPE_STEPPER && percent(50))
+        code = next_step_code(&m->as.stepper);
     uint8_t data[15];
     size_t len = some_data(m, code, data);
     uint32_t kind = below(20);
@@ -408,11 +571,13 @@ static void send_some_frame(void)
         data[0] = (uint8_t)below(6);
         data[1] = percent(50) ? 0x7F : 0xFF;
     }
-    bool was_cut = m->type == NMC_TYPE_SERVO && m->as.servo.cut;
+    const struct plain_module before = *m;
     send_command(address, code, data, len);
     frames_with[m->station.cause]++;
-    if (was_cut)
+    if (m->type == NMC_TYPE_SERVO && before.as.servo.cut)
         times_at_limit[m->as.servo.cut ? FRAME_LEAVES_CUT : FRAME_CLEARS_CUT]++;
+    if (m->type == NMC_TYPE_STEPPER && m->station.cause == 0)
+        count_command(&before.as.stepper, &m->as.stepper, code, data[0]);
 }
 
 /* ---- a history */
@@ -449,6 +614,12 @@ static void measure(void)
         put_some_io_sample(place);
         return;
     }
+    if (plain->modules[place].type == NMC_TYPE_STEPPER) {
+        nmc_put_stepper_sample(samples, place, percent(8));
+        if (percent(20)) /* bytes that are not looked at */
+            memset(samples + place * NMC_SAMPLE_LEN + 2, some_byte(), 8);
+        return;
+    }
     const struct plain_servo *s = &plain->modules[place].as.servo;
     uint32_t error = percent(30) ? error_to_limit(s) : some_error(s);
     uint32_t ahead = s->setpoint + (uint32_t)(s->speed / 65536);
@@ -460,18 +631,18 @@ static void measure(void)
         memset(samples + place * NMC_SAMPLE_LEN + 7, some_byte(), 3);
 }
 
-/* A byte of a list by which its tick is refused, or nearly: a type, a power, the upper byte of inputs. */
+/* A byte of a list by which its tick is refused, or nearly: a type, a power or a stop input, the upper byte of inputs. */
 static void spoil_sample(uint8_t *list)
 {
-    static const uint8_t types[] = {0, 1, 2, 3, 7, 0xFF};
-    static const uint8_t powers[] = {2, 3, 4, 0x80, 0xFF}, inputs[] = {15, 16, 17, 0x80, 0xFF};
+    static const uint8_t types[] = {0, 1, 2, 3, 4, 7, 0xFF};
+    static const uint8_t powers[] = {1, 2, 3, 4, 0x80, 0xFF}, inputs[] = {15, 16, 17, 0x80, 0xFF};
     uint8_t *sample = list + NMC_SAMPLE_LEN * below(plain->chain);
     if (percent(50))
         sample[0] = types[below(sizeof types)];
-    else if (sample[0] == NMC_TYPE_SERVO)
-        sample[1] = powers[below(sizeof powers)];
-    else
+    else if (sample[0] == NMC_TYPE_IO)
         sample[2] = inputs[below(sizeof inputs)];
+    else
+        sample[1] = powers[below(sizeof powers)];
 }
 
 /* A tick whose list is mostly refused, and then changes nothing. */
@@ -500,6 +671,7 @@ static void try_spoiled_list(void)
 static void bring_up(void)
 {
     const uint8_t gains[15] = {0x40, 1, 0x20, 0, 3, 0, 0xFF, 0x0F, 0xFF, 0, 0xFF, 0x3F, 1, 0, 1};
+    const uint8_t parameters[5] = {0, (uint8_t)(1 + below(12)), 0, 0, 0};
     for (uint32_t place = 0; place < plain->chain; place++) {
         uint8_t addresses[2] = {(uint8_t)(place + 1), percent(50) ? 0x7F : 0xFF};
         if (plain->modules[place].type == NMC_TYPE_SERVO)
@@ -509,6 +681,7 @@ static void bring_up(void)
     tick_all();
     send_command(0xFF, 6, gains, sizeof gains);
     send_command(0xFF, 11, NULL, 0);
+    send_command(0xFF, 6, parameters, sizeof parameters);
 }
 
 static void follow(uint32_t ticks)
@@ -533,10 +706,14 @@ static void some_host_call(void)
     write_at_all(address, code, bytes, data_len, frame, room_len);
     uint8_t items = (uint8_t)throw_dice();
     size_t len = 2;
-    uint32_t type = below(4);
-    static const uint8_t sizes[2][8] = {{4, 1, 2, 1, 4, 2, 2, 1}, {2, 1, 1, 1, 4, 2, 2, 4}};
+    uint32_t type = below(5);
+    static const uint8_t sizes[5][8] = {[NMC_TYPE_SERVO] = {4, 1, 2, 1, 4, 2, 2, 1},
+                                        [NMC_TYPE_IO] = {2, 1, 1, 1, 4, 2, 2, 4},
+                                        [NMC_TYPE_STEPPER] = {[0] = 4, [5] = 2}};
+    if (type == NMC_TYPE_STEPPER && percent(70))
+        items &= 0x21;
     for (int i = 0; i < 8; i++)
-        len += items >> i & 1 ? sizes[type == NMC_TYPE_IO][i] : 0;
+        len += items >> i & 1 ? sizes[type][i] : 0;
     if (percent(10))
         len = below(20);
     uint8_t sum = 0;
@@ -652,6 +829,8 @@ static void network_in(const uint8_t *r, struct plain_network *net)
         m->station = (struct plain_station){s[1], s[2], s[3], s[4], s[5], s[6], s[7]};
         if (s[0] == NMC_TYPE_SERVO)
             m->as.servo = servo_in(s);
+        else if (s[0] == NMC_TYPE_STEPPER)
+            m->as.stepper = stepper_in(s);
         else
             m->as.io = io_in(s);
     }
@@ -675,6 +854,29 @@ static void swing(uint32_t place, uint8_t *slot)
     slot[98] = 0;
 }
 
+/* A byte of a stepper put to an edge of what the list asks, or next to what another asks of it. */
+static void spoil_stepper(uint8_t *slot)
+{
+    static const uint8_t flags[] = {3, 4, 8, 18, 19, 23, STOPPING_AT}, speeds[] = {MINIMUM_AT, 20, SPEED_AT, GOAL_AT};
+    static const uint8_t edges[] = {0, 1, MOST_STEPS, MOST_STEPS + 1, 0xFF};
+    uint32_t kind = below(7), which = below(4);
+    uint8_t flag = flags[below(sizeof flags)], edge = edges[below(sizeof edges)], beside = (uint8_t)(below(3) - 1);
+    if (kind == 0)
+        slot[flag] = (uint8_t)(beside + 1);
+    else if (kind == 1)
+        slot[speeds[which]] = edge;
+    else if (kind == 2)
+        slot[which < 2 ? SPEED_AT : GOAL_AT] = (uint8_t)(slot[MINIMUM_AT] + beside);
+    else if (kind == 3)
+        slot[which < 2 ? COUNTER_AT : TIME_AT] = (uint8_t)(slot[TIME_AT] + beside);
+    else if (kind == 4)
+        slot[ITEMS_AT] ^= (uint8_t)(1u << (2 * which + (beside == 0)));
+    else if (kind == 5)
+        slot[STOPPING_AT] = 1;
+    else
+        memcpy(slot + LOAD_AT, "\0\0\x09\x01", 4); /* a load that does not wait */
+}
+
 /* A byte or a number of the record put to an edge of what the list asks, or next to what it was. */
 static void spoil_record(void)
 {
@@ -683,7 +885,9 @@ static void spoil_record(void)
     uint32_t place = below(plain->chain);
     uint8_t *slot = record + SLOTS_AT + SLOT_LEN * place;
     uint32_t kind = below(13);
-    if (kind == 12) {
+    if (slot[0] == NMC_TYPE_STEPPER && kind >= 4) {
+        spoil_stepper(slot);
+    } else if (kind == 12) {
         slot[CUT_AT] = (uint8_t)(1 + percent(10));
     } else if (kind == 11) {
         put32(slot + 65, number_at(slot, 57, 4) + UINT32_C(0x7FFFFFFF) + below(3));
@@ -694,7 +898,7 @@ static void spoil_record(void)
         record[below(SLOTS_AT)] = byte;
     } else if (kind < 6) {
         uint8_t byte = percent(50) ? (uint8_t)below(7) : some_byte();
-        slot[below(SERVO_LEN)] = byte;
+        slot[below(slot[0] == NMC_TYPE_STEPPER ? STEPPER_LEN : SERVO_LEN)] = byte;
     } else {
         int at = words[below(sizeof words)];
         uint32_t edge = edges[below(10)];
@@ -752,12 +956,13 @@ static void try_spoiled(void)
 static void run_history(void)
 {
     uint8_t types[NMC_MOST_MODULES];
-    static const uint8_t servos[] = {0, 50, 70, 100};
+    static const uint8_t mixtures[][6] = {{0, 2, 3, 0, 2, 3}, {0, 0, 0, 2, 3, 3}, {0, 0, 0, 0, 2, 3},
+                                          {0, 0, 0, 0, 0, 0}, {2, 2, 2, 2, 2, 2}, {3, 3, 3, 3, 3, 3}};
     uint32_t chain = percent(10) ? NMC_MOST_MODULES : 1 + below(6);
-    uint32_t share = servos[below(4)];
+    const uint8_t *mixture = mixtures[percent(80) ? below(3) : 3 + below(3)];
     memset(samples, 0, sizeof samples);
     for (uint32_t i = 0; i < chain; i++)
-        samples[i * NMC_SAMPLE_LEN] = types[i] = percent(share) ? NMC_TYPE_SERVO : NMC_TYPE_IO;
+        samples[i * NMC_SAMPLE_LEN] = types[i] = mixture[below(6)];
     for (unsigned i = 0; i < IMPLEMENTATIONS; i++)
         need(implementations[i].setup(types, chain) == NMC_DONE, "setup's number", i);
     if (percent(90))
@@ -773,11 +978,36 @@ static void run_history(void)
 
 static void refuse_setups(void)
 {
-    uint8_t types[NMC_MOST_MODULES + 1] = {0, 2, 1};
+    uint8_t types[NMC_MOST_MODULES + 1] = {0, 2, 3, 1};
     for (unsigned i = 1; i < IMPLEMENTATIONS; i++)
         for (size_t chain = 0; chain <= sizeof types; chain++)
             need(implementations[i].setup(types, chain) == implementations[LIBRARY].setup(types, chain),
                  "setup's number", i);
+}
+
+/* Whether something came up that seldom that it was hardly tried. */
+static bool too_seldom(const char *what, unsigned long times)
+{
+    if (times < LEAST_TIMES)
+        printf("%s: %lu times only\n", what, times);
+    return times < LEAST_TIMES;
+}
+
+static bool all_came_up(void)
+{
+    static const char *const causes[CAUSES] = {"cause 0", "cause 1", "cause 2", "cause 3", "cause 4", "cause 5"};
+    bool seldom = false;
+    for (unsigned cause = 0; cause < CAUSES; cause++)
+        seldom |= too_seldom(causes[cause], frames_with[cause]);
+    seldom |= too_seldom("ticks done", ticks_with[NMC_DONE]);
+    seldom |= too_seldom("ticks with number 20", ticks_with[NMC_BAD_LIST]);
+    seldom |= too_seldom("ticks with number 13", ticks_with[NMC_BAD_PLACE]);
+    seldom |= too_seldom("ticks with number 14", ticks_with[NMC_BAD_FIELD]);
+    for (unsigned way = 0; way < WAYS_AT_LIMIT; way++)
+        seldom |= too_seldom(ways_at_limit[way], times_at_limit[way]);
+    for (unsigned way = 0; way < WAYS_OF_STEPPING; way++)
+        seldom |= too_seldom(ways_of_stepping[way], times_of_stepping[way]);
+    return !seldom;
 }
 
 int main(void)
@@ -790,27 +1020,15 @@ int main(void)
         dice = history;
         run_history();
     }
-    for (unsigned cause = 0; cause < CAUSES; cause++)
-        if (frames_with[cause] < LEAST_TIMES) {
-            printf("cause %u came up %lu times only\n", cause, frames_with[cause]);
-            return 1;
-        }
-    static const uint32_t numbers[] = {NMC_DONE, NMC_BAD_LIST, NMC_BAD_PLACE, NMC_BAD_FIELD};
-    for (unsigned i = 0; i < sizeof numbers / sizeof *numbers; i++)
-        if (ticks_with[numbers[i]] < LEAST_TIMES) {
-            printf("ticks with number %u: %lu times only\n", (unsigned)numbers[i], ticks_with[numbers[i]]);
-            return 1;
-        }
-    for (unsigned way = 0; way < WAYS_AT_LIMIT; way++)
-        if (times_at_limit[way] < LEAST_TIMES) {
-            printf("%s: %lu times only\n", ways_at_limit[way], times_at_limit[way]);
-            return 1;
-        }
+    if (!all_came_up())
+        return 1;
     printf("%lu calls, %lu frames ended, by cause %lu %lu %lu %lu %lu %lu, %lu ticks of a moving servo, %lu cut; "
+           "%lu changes of a stepper's speed; "
            "%lu lists refused for their length, %lu for a type, %lu for a field; "
            "%lu spoiled records, %lu refused: all the same\n",
            calls, frames, frames_with[0], frames_with[1], frames_with[2], frames_with[3], frames_with[4],
-           frames_with[5], moving_ticks, times_at_limit[CUT], ticks_with[NMC_BAD_LIST], ticks_with[NMC_BAD_PLACE],
-           ticks_with[NMC_BAD_FIELD], spoiled, refused);
+           frames_with[5], moving_ticks, times_at_limit[CUT],
+           times_of_stepping[FASTER] + times_of_stepping[SLOWER] + times_of_stepping[SLOWER_TO_STOP],
+           ticks_with[NMC_BAD_LIST], ticks_with[NMC_BAD_PLACE], ticks_with[NMC_BAD_FIELD], spoiled, refused);
     return 0;
 }

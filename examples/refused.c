@@ -9,8 +9,8 @@
 
 enum { TOO_MANY = NMC_MOST_MODULES + 1 };
 
-/* A tick's list for three modules. */
-enum { CHAIN = 3, LIST_LEN = CHAIN * NMC_SAMPLE_LEN };
+/* A tick's list for four modules. */
+enum { CHAIN = 4, LIST_LEN = CHAIN * NMC_SAMPLE_LEN };
 
 /* Places in the record (docs/RECORD.md); a board needs none of them, here they are spoiled. */
 enum { COUNT_AT = 19, SLOTS_AT = 20, SLOT_LEN = (NMC_NET_LEN - SLOTS_AT) / NMC_MOST_MODULES };
@@ -24,17 +24,22 @@ static uint8_t types[TOO_MANY];
 static size_t written;
 static int surprises;
 
-/* A sound network of I/O modules with a servo at place 1, a sound list, and something in all else that is lent. */
+/*
+ * A sound network of I/O modules with a servo at place 1 and a step-motor
+ * module at place 3, a sound list, and something in all else that is lent.
+ */
 static void prepare(void)
 {
     memset(net, 0x5A, sizeof net);
     memset(types, NMC_TYPE_IO, sizeof types);
     types[1] = NMC_TYPE_SERVO;
+    types[3] = NMC_TYPE_STEPPER;
     if (nmc_setup(net, sizeof net, types, CHAIN) != NMC_DONE)
         surprises++;
     for (size_t place = 0; place <= CHAIN; place++)
         nmc_put_io_sample(samples, place, 4095, 1, 2, 3, 4);
     nmc_put_servo_sample(samples, 1, 5, 2, 6);
+    nmc_put_stepper_sample(samples, 3, 1);
     memset(room, 0xC3, sizeof room);
     memset(outputs, 0x3C, sizeof outputs);
 }
@@ -98,7 +103,7 @@ static void record(void)
     REFUSED("record one byte short", NMC_BAD_RECORD,
             nmc_tick(net, NMC_NET_LEN - 1, samples, LIST_LEN));
     REFUSED("setup of a record one byte short", NMC_BAD_RECORD,
-            nmc_setup(net, NMC_NET_LEN - 1, types, 3));
+            nmc_setup(net, NMC_NET_LEN - 1, types, CHAIN));
     prepare();
     net[COUNT_AT] = 33; /* number of modules */
     remember();
@@ -114,6 +119,11 @@ static void record(void)
     remember();
     refused("record that drives a motor in off", NMC_BAD_RECORD,
             nmc_tick(net, sizeof net, samples, LIST_LEN));
+    prepare();
+    net[SLOTS_AT + 3 * SLOT_LEN + 22] = 5; /* speed of the step-motor module, which has no minimum */
+    remember();
+    refused("record that moves before Set Parameters", NMC_BAD_RECORD,
+            nmc_tick(net, sizeof net, samples, LIST_LEN));
 }
 
 static void setup(void)
@@ -123,7 +133,7 @@ static void setup(void)
     prepare();
     types[2] = 1;
     remember();
-    refused("third module of type 1", NMC_BAD_TYPE, nmc_setup(net, sizeof net, types, 3));
+    refused("third module of type 1", NMC_BAD_TYPE, nmc_setup(net, sizeof net, types, CHAIN));
 }
 
 /* A tick with the list as it has been changed. */
@@ -136,11 +146,11 @@ static void tick_refused(const char *words, uint32_t number)
 static void lists(void)
 {
     REFUSED("empty list", NMC_BAD_LIST, nmc_tick(net, sizeof net, samples, 0));
-    REFUSED("list of two samples for three modules", NMC_BAD_LIST,
+    REFUSED("list of three samples for four modules", NMC_BAD_LIST,
             nmc_tick(net, sizeof net, samples, LIST_LEN - NMC_SAMPLE_LEN));
     REFUSED("list one byte short", NMC_BAD_LIST, nmc_tick(net, sizeof net, samples, LIST_LEN - 1));
     REFUSED("list one byte long", NMC_BAD_LIST, nmc_tick(net, sizeof net, samples, LIST_LEN + 1));
-    REFUSED("list of four samples for three modules", NMC_BAD_LIST,
+    REFUSED("list of five samples for four modules", NMC_BAD_LIST,
             nmc_tick(net, sizeof net, samples, LIST_LEN + NMC_SAMPLE_LEN));
     prepare();
     nmc_put_servo_sample(samples, 0, 0, 1, 0);
@@ -148,6 +158,9 @@ static void lists(void)
     prepare();
     nmc_put_io_sample(samples, 1, 0, 0, 0, 0, 0);
     tick_refused("I/O sample for a servo", NMC_BAD_PLACE);
+    prepare();
+    nmc_put_stepper_sample(samples, 1, 0);
+    tick_refused("step-motor sample for a servo", NMC_BAD_PLACE);
     prepare();
     samples[2 * NMC_SAMPLE_LEN] = 7;
     tick_refused("sample of type 7", NMC_BAD_PLACE);
@@ -160,14 +173,17 @@ static void lists(void)
     prepare();
     nmc_put_servo_sample(samples, 1, 0, 256 + 1, 0);
     tick_refused("power 257, which is put as 255", NMC_BAD_FIELD);
+    prepare();
+    nmc_put_stepper_sample(samples, 3, 2);
+    tick_refused("stop input 2", NMC_BAD_FIELD);
 }
 
 static void line_and_pins(void)
 {
-    REFUSED("outputs of place 3 of three modules", NMC_BAD_PLACE,
-            nmc_outputs(net, sizeof net, 3, outputs));
-    REFUSED("cause of place 3 of three modules", NMC_BAD_PLACE,
-            nmc_cause(net, sizeof net, 3, &cause));
+    REFUSED("outputs of place 4 of four modules", NMC_BAD_PLACE,
+            nmc_outputs(net, sizeof net, CHAIN, outputs));
+    REFUSED("cause of place 4 of four modules", NMC_BAD_PLACE,
+            nmc_cause(net, sizeof net, CHAIN, &cause));
     REFUSED("mark 2", NMC_BAD_FIELD,
             nmc_byte(net, sizeof net, 2, 0xAA, room, sizeof room, &written));
     cleared(written == 0);
@@ -198,6 +214,9 @@ static void host(void)
     cleared(reading_cleared());
     REFUSED("reply one byte short", NMC_BAD_LENGTH,
             nmc_read_status(NMC_TYPE_IO, 0x02, reply, 2, reading));
+    cleared(reading_cleared());
+    REFUSED("reply with an item that a step-motor module has not", NMC_BAD_LENGTH,
+            nmc_read_status(NMC_TYPE_STEPPER, 0x02, reply, 3, reading));
     cleared(reading_cleared());
     REFUSED("reply with a wrong sum", NMC_BAD_SUM,
             nmc_read_status(NMC_TYPE_IO, 0x02, wrong_sum, 3, reading));

@@ -24,9 +24,9 @@ extern "C" {
 #endif
 
 /* Each landing raises it and says in CHANGELOG.md what is new. */
-#define NMC_VERSION "1.8.0"
+#define NMC_VERSION "1.9.0"
 #define NMC_VERSION_MAJOR 1
-#define NMC_VERSION_MINOR 8
+#define NMC_VERSION_MINOR 9
 #define NMC_VERSION_PATCH 0
 
 #define NMC_MOST_MODULES 32u  /* in one chain */
@@ -41,6 +41,7 @@ extern "C" {
 /* Module types. */
 #define NMC_TYPE_SERVO 0u
 #define NMC_TYPE_IO 2u
+#define NMC_TYPE_STEPPER 3u   /* step-motor module */
 
 enum nmc_number {
     NMC_DONE = 0,        /* done; of a byte: taken, no frame ended */
@@ -53,7 +54,7 @@ enum nmc_number {
     NMC_SHORT_ROOM = 15, /* room too short */
     NMC_BAD_RECORD = 16, /* record of another length, or spoiled */
     NMC_BAD_FRAME = 17,  /* writer: address, code or data too large */
-    NMC_BAD_LENGTH = 18, /* status reader: not as long as type and items ask */
+    NMC_BAD_LENGTH = 18, /* status reader: not as type and items ask */
     NMC_BAD_SUM = 19,    /* status reader: wrong checksum */
     NMC_BAD_LIST = 20    /* tick: not one sample for each module */
 };
@@ -132,19 +133,36 @@ static inline void nmc_put_io_sample(uint8_t *samples, size_t place, uint32_t in
 }
 
 /*
- * One tick for all modules: each latches its sample, which it shows until the
- * next tick, and servos move their setpoints and work out their motor outputs.
+ * The same for a step-motor module: its stop input, 0 or 1. One above 255 is
+ * put as 255, so that the tick refuses it as it does any above 1.
+ */
+static inline void nmc_put_stepper_sample(uint8_t *samples, size_t place, uint32_t stop)
+{
+    uint8_t *at = samples + place * NMC_SAMPLE_LEN;
+    at[0] = NMC_TYPE_STEPPER;
+    at[1] = (uint8_t)(stop > 255 ? 255 : stop);
+    at[2] = at[3] = at[4] = at[5] = at[6] = at[7] = at[8] = at[9] = 0;
+}
+
+/*
+ * One tick for all modules. Servos and I/O modules latch their sample, which
+ * they show until the next tick, and servos move their setpoints and work out
+ * their motor outputs. Step-motor modules change their speed where T ticks have
+ * passed, and their position by the speed. At a stop input of 1 the motion ends
+ * instead, and only a new start begins one; the input itself is not kept.
  *
  * samples has NMC_SAMPLE_LEN bytes for each place, place 0 first, and nothing
- * besides. The two functions above fill a place's ten: the module's type, then
- * of a servo power, A/D and the raw count (4 bytes), of an I/O module inputs
- * (2), A/D 1, 2, 3 and the counter (4), numbers least significant byte first.
- * Bytes 7 to 9 of a servo's ten are not looked at; let them be 0, since a later
- * version will give byte 7 a meaning.
+ * besides. The three functions above fill a place's ten: the module's type,
+ * then of a servo power, A/D and the raw count (4 bytes), of an I/O module
+ * inputs (2), A/D 1, 2, 3 and the counter (4), of a step-motor module the stop
+ * input, numbers least significant byte first. Bytes 7 to 9 of a servo's ten
+ * and 2 to 9 of a step-motor module's are not looked at; let them be 0, since a
+ * later version will give byte 7 of a servo's a meaning.
  *
  * Refused is first a list of another length (20), then one with any type that
- * is not its module's (13), then one with any power above 2 or inputs above
- * 4095 (14). A refused tick is none: all keep what they have latched.
+ * is not its module's (13), then one with any power above 2, inputs above 4095
+ * or stop input above 1 (14). A refused tick is none: all keep what they have
+ * latched, and no motion ends.
  */
 uint32_t nmc_tick(uint8_t *net, size_t net_len, const uint8_t *samples, size_t samples_len);
 
@@ -155,7 +173,11 @@ uint32_t nmc_tick(uint8_t *net, size_t net_len, const uint8_t *samples, size_t s
  * and Hard Reset clears, while power is good: it drops in a power dip and comes
  * back with power. Low power turns the servo off until it is started anew.
  * I/O: directions of bits 1 to 8 and 9 to 12 (1 is input), output register of
- * the same, PWM 1, PWM 2, 0, 0.
+ * the same, PWM 1, PWM 2, 0, 0. Step-motor module: size of the speed in steps a
+ * tick (0 at rest, else 1 to 250), 1 if it goes backward, amplifier bit, then
+ * five of 0. A start from rest shows the minimum speed at once; its position
+ * moves from the next tick on, by the speed that it has after each tick. The
+ * motion does not look at the amplifier bit.
  */
 uint32_t nmc_outputs(const uint8_t *net, size_t net_len, uint32_t place, uint8_t *outputs);
 
@@ -169,6 +191,10 @@ uint32_t nmc_cause(const uint8_t *net, size_t net_len, uint32_t place, uint8_t *
 /*
  * Writes a frame for the line: address 0 to 255, code 0 to 15, at most 15 data
  * bytes. It takes data_len + 4 bytes of room; *written is that length.
+ *
+ * Beware with step-motor modules: every smooth stop counts its T ticks from the
+ * beginning. A host that sends it again before T ticks have passed, and again,
+ * puts the stop off for ever. Send it once and wait for status bit 0 to clear.
  */
 uint32_t nmc_write_frame(uint32_t address, uint32_t code, const uint8_t *data, size_t data_len,
                          uint8_t *room, size_t room_len, size_t *written);
@@ -179,7 +205,9 @@ uint32_t nmc_write_frame(uint32_t address, uint32_t code, const uint8_t *data, s
  * each item bit 0 to 7 its number in four bytes, least significant first; 0
  * where the item was not asked for. A servo's status bits: 0 move done, 1 last
  * cause not 0, 2 the last filter tick was cut to OL, 3 power good, 4 position
- * error; the others are 0.
+ * error; the others are 0. A step-motor module's: 0 moving, 1 last cause not 0.
+ * It has items 0, the position, and 5, type and version; any other is refused
+ * with 18, however long the reply is.
  */
 uint32_t nmc_read_status(uint32_t type, uint8_t items, const uint8_t *reply, size_t reply_len,
                          uint8_t *reading);

@@ -173,6 +173,9 @@ static void put_sample(uint8_t *samples, size_t place, uint8_t type)
     if (type == NMC_TYPE_SERVO) {
         nmc_put_servo_sample(samples, place, count, PICK(0, 1, 1, 1, 2), 0x5A);
         any_bytes(samples + place * NMC_SAMPLE_LEN + 7, 3); /* not looked at */
+    } else if (type == NMC_TYPE_STEPPER) {
+        nmc_put_stepper_sample(samples, place, PICK(0, 0, 0, 1));
+        any_bytes(samples + place * NMC_SAMPLE_LEN + 2, 8); /* not looked at */
     } else {
         nmc_put_io_sample(samples, place, PICK(0, below(4096), 4095), 1, 2, 3, count);
     }
@@ -238,11 +241,16 @@ static void call_cause(struct lent *net)
     call_telling("cause", nmc_cause, 1, net);
 }
 
+static uint8_t some_type(void)
+{
+    return (uint8_t)PICK(NMC_TYPE_SERVO, NMC_TYPE_IO, NMC_TYPE_STEPPER);
+}
+
 static void call_setup(struct lent *net)
 {
     struct lent types = lend(PICK(0, 1, 2, 5, 32, 33, 200));
     for (size_t i = 0; i < types.len; i++)
-        types.bytes[i] = below(40) ? (uint8_t)(2 * below(2)) : (uint8_t)throw_dice();
+        types.bytes[i] = below(40) ? some_type() : (uint8_t)throw_dice();
     remember(net);
     remember(&types);
     uint32_t number = nmc_setup(net->bytes, net->len, types.bytes, types.len);
@@ -314,8 +322,8 @@ static void call_reader(void)
     if (reply.len > 0 && below(2))
         reply.bytes[reply.len - 1] = sum;
     remember(&reply);
-    uint32_t type = PICK(0, 2, 2, 1, 0xFFFFFFFFu);
-    uint8_t items = (uint8_t)PICK(0, 1, 2, 0xFF, below(256));
+    uint32_t type = PICK(0, 2, 2, 3, 3, 1, 0xFFFFFFFFu);
+    uint8_t items = (uint8_t)PICK(0, 1, 2, 0x21, 0xFF, below(256));
     uint32_t number = nmc_read_status(type, items, reply.bytes, reply.len, reading.bytes);
     documented("status reader", number,
                BIT(NMC_DONE) | BIT(NMC_BAD_TYPE) | BIT(NMC_BAD_LENGTH) | BIT(NMC_BAD_SUM));
@@ -384,6 +392,24 @@ static void range_io(uint8_t *slot)
         slot[high_bytes[i]] &= 0x0F;
 }
 
+static void range_stepper(uint8_t *slot)
+{
+    static const uint8_t flags[] = {3, 4, 8, 18, 19, 23, 27};
+    for (size_t i = 0; i < sizeof flags; i++)
+        slot[flags[i]] &= 1;
+    slot[0] = NMC_TYPE_STEPPER;
+    slot[5] %= 6;
+    slot[6] &= 0x21;
+    slot[9] = (uint8_t)PICK(0, 1, 5, 250, below(251));
+    slot[20] %= 251;
+    slot[22] = (uint8_t)PICK(slot[9], 250, below(251)); /* speed */
+    slot[24] = (uint8_t)PICK(slot[9], 250, below(251)); /* goal */
+    slot[25] |= 1;                                      /* T is not 0 */
+    slot[26] %= slot[25];
+    if (below(3) == 0)
+        memset(slot + 22, 0, 6); /* at rest */
+}
+
 /* Random bytes with every field in its range; what fields ask of each other is left to the dice. */
 static void range_record(struct lent *net)
 {
@@ -397,10 +423,16 @@ static void range_record(struct lent *net)
         memset(bytes, 0, COUNT);
     for (int place = 0; place < bytes[COUNT]; place++) {
         uint8_t *slot = bytes + FIRST_SLOT + SLOT * place;
-        if (below(2))
+        switch (some_type()) {
+        case NMC_TYPE_SERVO:
             range_servo(slot);
-        else
+            break;
+        case NMC_TYPE_IO:
             range_io(slot);
+            break;
+        default:
+            range_stepper(slot);
+        }
     }
 }
 
@@ -411,13 +443,13 @@ static void reach_record(struct lent *net)
     uint8_t samples[NMC_MOST_MODULES * NMC_SAMPLE_LEN] = {0};
     size_t chain = PICK(1, 2, 3, 32), frame_len, written;
     for (size_t i = 0; i < chain; i++)
-        samples[i * NMC_SAMPLE_LEN] = types[i] = (uint8_t)(2 * below(2));
+        samples[i * NMC_SAMPLE_LEN] = types[i] = some_type();
     if (nmc_setup(net->bytes, net->len, types, chain) != NMC_DONE)
         surprise("setup", "of a good chain", NMC_DONE);
     for (int frames = 0; frames < 12; frames++) {
         size_t place = below((uint32_t)chain);
         any_bytes(data, sizeof data);
-        data[0] = (uint8_t)PICK(data[0], place + 1, 0x97, 0x36, 0xC8, 0x11, 0x05);
+        data[0] = (uint8_t)PICK(data[0], place + 1, 0x97, 0x36, 0xC8, 0x11, 0x05, 0x86);
         uint32_t address = PICK(0, 0, 0xFF, below(6));
         uint32_t code = PICK(1, 1, 4, 5, 6, 7, 11, below(16));
         nmc_write_frame(address, code, data, below(16), frame, sizeof frame, &frame_len);

@@ -182,9 +182,9 @@ static void outputs_and_causes(void)
 
 /* ---------------------------------------------------------------- captures */
 
-enum { MODULE, LINE_BYTE, OF_SERVO, OF_IO, ONE_TICK, KINDS };
+enum { MODULE, LINE_BYTE, OF_SERVO, OF_IO, ONE_TICK, OF_STEPPER, KINDS };
 
-static const uint8_t body_len[KINDS] = {1, 2, 7, 10, 0};
+static const uint8_t body_len[KINDS] = {1, 2, 7, 10, 0, 2};
 
 static uint32_t number_at(const uint8_t *at, int bytes)
 {
@@ -209,6 +209,10 @@ static void take_record(int kind, const uint8_t *b)
         if (b[0] < chain)
             nmc_put_io_sample(samples, b[0], number_at(b + 1, 2), b[3], b[4], b[5],
                               number_at(b + 6, 4));
+        break;
+    case OF_STEPPER:
+        if (b[0] < chain)
+            nmc_put_stepper_sample(samples, b[0], b[1]);
         break;
     default:
         run(TICK);
@@ -245,7 +249,7 @@ static void replay(const char *path)
 
 /* ---------------------------------------------------------------- long chains */
 
-/* A full chain of servos, of I/O modules, or of both, addressed 1 to 32, all of one group. */
+/* A full chain of one type, or of two, addressed 1 to 32, all of one group. */
 static void address_all(uint8_t even, uint8_t odd)
 {
     chain = NMC_MOST_MODULES;
@@ -254,7 +258,8 @@ static void address_all(uint8_t even, uint8_t odd)
     set_up();
     for (size_t i = 0; i < chain; i++)
         SEND(0, 1, (uint8_t)(i + 1), GROUP);
-    SEND(GROUP, 2, 0xFF); /* every item in every reply */
+    SEND(GROUP, 2, 0x21); /* every item in every reply: those of a stepper, and of the others all */
+    SEND(GROUP, 2, 0xFF);
 }
 
 static void tick_at(uint32_t power)
@@ -266,8 +271,10 @@ static void tick_at(uint32_t power)
         uint8_t ad = (uint8_t)below(256);
         if (types[i] == NMC_TYPE_SERVO)
             nmc_put_servo_sample(samples, i, count, power, ad);
-        else
+        else if (types[i] == NMC_TYPE_IO)
             nmc_put_io_sample(samples, i, below(4096), ad, ad, ad, count);
+        else
+            nmc_put_stepper_sample(samples, i, power == 0);
     }
     run(TICK);
 }
@@ -291,6 +298,16 @@ static void start_all(void)
         uint8_t whole = i % 7;
         SEND(i + 1u, 4, 0x97, i, 8 * i % 256, back, back, 0, i, whole, 0, i, 1, 0, 0);
         SEND(i + 1u, 3, 0xFF);
+    }
+}
+
+/* Steppers with a minimum, some forward, some back, each with a T of its own. */
+static void start_steppers(void)
+{
+    SEND(GROUP, 6, 0, 5, 0, 0, 0);
+    for (uint8_t i = 0; i < chain; i++) {
+        SEND(i + 1u, 4, i % 2 ? 0x9F : 0x8F, 1, 2, 3, 4, (uint8_t)(1 + 7 * i), (uint8_t)(1 + i), 5, 6, 7);
+        SEND(i + 1u, 3, 0x21);
     }
 }
 
@@ -321,6 +338,16 @@ static void long_chains(void)
     address_all(NMC_TYPE_SERVO, NMC_TYPE_IO);
     start_all();
     every_frame();
+    address_all(NMC_TYPE_STEPPER, NMC_TYPE_IO);
+    start_steppers();
+    ticks(20);
+    every_frame();
+    address_all(NMC_TYPE_STEPPER, NMC_TYPE_STEPPER);
+    start_steppers();
+    ticks(20);
+    SEND(GROUP, 7, 0x09);
+    ticks(50);
+    tick_at(0); /* the stop inputs too */
     address_all(NMC_TYPE_SERVO, NMC_TYPE_SERVO);
     every_frame();
     start_all();
@@ -387,7 +414,7 @@ static void writer(void)
 
 static void reader(void)
 {
-    for (type = 0; type < 4; type++)
+    for (type = 0; type < 5; type++)
         for (uint32_t which = 0; which < 256; which++)
             for (reply_len = 0; reply_len <= sizeof reply; reply_len++) {
                 items = (uint8_t)which;

@@ -39,6 +39,11 @@ pub fn io_sample(inputs: u16, ad: [u8; 3], counter: u32) -> Sample {
     [2, low, high, ad[0], ad[1], ad[2], counter0, counter1, counter2, counter3]
 }
 
+/// A step-motor module's, whose stop input is 0 or 1; what it does not use is 0.
+pub fn stepper_sample(stop: u8) -> Sample {
+    [3, stop, 0, 0, 0, 0, 0, 0, 0, 0]
+}
+
 /// The sample of a module that has measured nothing yet.
 pub fn no_sample(module_type: u8) -> Sample {
     [module_type, 0, 0, 0, 0, 0, 0, 0, 0, 0]

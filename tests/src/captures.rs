@@ -7,6 +7,7 @@
 //! servo 0 1 80 00001234            place, then power, A/D and raw count in hex (kind 2)
 //! sample 0 FFF 10 20 30 DEADBEEF   place, then inputs, A/D 1 to 3 and counter in hex (kind 3)
 //! tick                             (kind 4)
+//! stepper 0 1                      place, then stop input in hex (kind 5)
 //! raw 01 00                        bytes as they stand, for what is cut or impossible
 //! > 0 00 00                        a line that is printed here
 //! drives 0 32 00 01 00 00 00 00 00 place, then the eight bytes of what it drives here in hex
@@ -73,6 +74,7 @@ fn records(line: &str) -> Result<Vec<u8>, String> {
             bytes.extend(hex(counter)?.to_le_bytes());
         }
         ["tick"] => bytes.push(4),
+        ["stepper", place, stop] => bytes.extend([5, decimal_byte(place)?, hex_byte(stop)?]),
         ["raw", ref raw @ ..] if !raw.is_empty() => {
             for word in raw {
                 bytes.push(hex_byte(word)?);
@@ -186,6 +188,7 @@ impl Board<'_> {
             }
             Event::ServoSample { place, power, ad, raw } => self.gather(place.into(), servo_sample(raw, power, ad)),
             Event::IoSample { place, inputs, ad, counter } => self.gather(place.into(), io_sample(inputs, ad, counter)),
+            Event::StepperSample { place, stop } => self.gather(place.into(), stepper_sample(stop)),
             Event::Tick => self.calls.tick(&mut self.net, &self.samples),
         }
     }

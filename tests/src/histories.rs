@@ -8,7 +8,7 @@ use std::fmt;
 use crate::branches::{self, uncounted};
 use crate::calls::*;
 use crate::dice::Dice;
-use crate::model::{frame_bytes, item_sizes, sum, Mode, Module, Network, Servo};
+use crate::model::{frame_bytes, item_sizes, items_of, sum, Device, Mode, Module, Network, Servo, Station, Stepper};
 use crate::record::{self, decode, latched, slot, Model, COUNT};
 use crate::seen::Seen;
 use crate::slips::Slip;
@@ -166,7 +166,7 @@ impl Pair<'_> {
         self.same_bytes("list", &lent, list)?;
         let after = self.after(number != BAD_RECORD, true)?;
         if let (DONE, Some(before), Some(after)) = (number, decode(&before, self.model.slip), after) {
-            self.seen.tick(&before, &after);
+            self.seen.tick(&before, &after, list);
         }
         Ok(number)
     }
@@ -302,28 +302,73 @@ impl Session<'_> {
     fn servo(&self, place: usize) -> Servo {
         match self.module(place) {
             Module::Servo(servo) => *servo,
-            Module::Io(_) => unreachable!("types stay"),
+            Module::Io(_) | Module::Stepper(_) => unreachable!("types stay"),
         }
     }
 
-    /// Puts a servo to work: loads, starts and stops, each with ticks in which the motor follows.
-    fn drive(&mut self) -> Result<(), String> {
+    fn stepper(&self, place: usize) -> Stepper {
+        match self.module(place) {
+            Module::Stepper(stepper) => *stepper,
+            Module::Servo(_) | Module::Io(_) => unreachable!("types stay"),
+        }
+    }
+
+    /// A place with a module of this type that hears what it is sent, if there is one.
+    fn place_of(&mut self, module_type: u8) -> Result<Option<usize>, String> {
         let network = self.network();
-        let servos: Vec<usize> =
-            (0..network.modules.len()).filter(|place| matches!(network.modules[*place], Module::Servo(_))).collect();
-        if servos.is_empty() {
-            return self.send_frame();
+        let places: Vec<usize> =
+            (0..network.modules.len()).filter(|place| network.modules[*place].module_type() == module_type).collect();
+        if places.is_empty() {
+            return Ok(None);
         }
         if network.receiver.fill != 0 {
             self.send(&[0; 16], None)?;
         }
-        let place = self.dice.pick(&servos);
+        Ok(Some(self.dice.pick(&places)))
+    }
+
+    /// Where a command goes: to the module alone, but a Start often to its group.
+    fn alone_or_group(&mut self, station: &Station, code: u8) -> u8 {
+        if code == 5 && self.dice.percent(30) {
+            station.group
+        } else {
+            station.individual
+        }
+    }
+
+    /// Puts a step-motor module to work: commands at every point of a motion, each with some ticks.
+    fn drive_stepper(&mut self) -> Result<(), String> {
+        let place = match self.place_of(Stepper::TYPE)? {
+            Some(place) => place,
+            None => return self.send_frame(),
+        };
+        for _ in 0..3 + self.dice.below(6) {
+            let stepper = self.stepper(place);
+            let (code, data) = steering::stepper::command(&mut self.dice, &stepper);
+            let address = self.alone_or_group(&stepper.station, code);
+            self.send(&frame_bytes(address, code, &data), None)?;
+            let ticks = self.dice.pick(&[0, 1, 1, 1, 2, 3, 8]);
+            for _ in 0..ticks {
+                self.measure(place);
+                self.tick()?;
+            }
+        }
+        Ok(())
+    }
+
+    /// Puts a servo to work: loads, starts and stops, each with ticks in which the motor follows.
+    fn drive(&mut self) -> Result<(), String> {
+        let place = match self.place_of(Servo::TYPE)? {
+            Some(place) => place,
+            None => return self.send_frame(),
+        };
         for step in 0..2 + self.dice.below(4) {
             self.make_fit(place, step == 0)?;
             let (code, data) = self.next_command(place)?;
             let address = self.servo(place).station.individual;
             self.send(&frame_bytes(address, code, &data), None)?;
             if code == 4 && self.dice.percent(70) {
+                let address = self.alone_or_group(&self.servo(place).station, 5);
                 self.send(&frame_bytes(address, 5, &[]), None)?;
             }
             let ticks = self.dice.pick(&[0, 1, 1, 2, 3, 8, 30]);
@@ -492,8 +537,8 @@ impl Session<'_> {
         self.pair.write_frame(address, code, &data, room_len)?;
 
         let dice = &mut self.dice;
-        let module_type = dice.pick(&[0, 0, 0, 2, 2, 2, 1, 3, 255, 256, 258, u32::MAX]);
-        let items = dice.byte();
+        let module_type = dice.pick(&[0, 0, 0, 2, 2, 2, 3, 3, 3, 1, 4, 255, 256, 258, 259, u32::MAX]);
+        let items = dice.byte() & if dice.percent(70) { items_of(module_type) } else { 0xFF };
         let sizes = item_sizes(module_type).unwrap_or([1; 8]);
         let mut length = 2 + (0..8).filter(|bit| items >> bit & 1 == 1).map(|bit| sizes[bit]).sum::<usize>();
         if dice.percent(15) {
@@ -532,8 +577,9 @@ impl Session<'_> {
 
     fn turn(&mut self) -> Result<(), String> {
         match self.dice.below(100) {
-            0..=9 => self.drive(),
-            10..=69 => self.send_frame(),
+            0..=10 => self.drive(),
+            11..=15 => self.drive_stepper(),
+            16..=69 => self.send_frame(),
             70..=77 => {
                 self.measure_some();
                 Ok(())
@@ -608,7 +654,7 @@ impl Session<'_> {
         if self.dice.percent(10) {
             let at = self.dice.below(types.len());
             let known = types[at];
-            types[at] = self.dice.pick(&[1, 3, 255]);
+            types[at] = self.dice.pick(&[1, 4, 255]);
             self.pair.setup(&types)?;
             types[at] = known;
         }

@@ -12,8 +12,9 @@ mod replay;
 mod samples;
 mod servo;
 mod station;
+mod stepper;
 
-pub use host::{frame_bytes, item_sizes, read_status, Reading};
+pub use host::{frame_bytes, item_sizes, items_of, read_status, Reading};
 pub use io::{Io, IoSample, BITS};
 pub use line::{sum, Frame, Receiver, HEADER};
 pub use network::{Ended, Module, Network};
@@ -22,3 +23,4 @@ pub use servo::{
     distance, greatest_speed, is_half_turn, stopping_sum, Gains, Load, Mode, Servo, ServoSample, Way, SPEED_MOST,
 };
 pub use station::{Device, Station, Touch, CAUSES, DAMAGED, EXECUTED, NOT_NOW, OUT_OF_RANGE, UNKNOWN, WRONG_COUNT};
+pub use stepper::{Motion, StepLoad, Stepper, STEPS_MOST};

@@ -5,9 +5,13 @@ use crate::branches::{all_hold, either, reach, Branch};
 use crate::calls::*;
 use crate::model::{
     self, is_half_turn, stopping_sum, Device, Gains, Io, IoSample, Load, Mode, Module, Network, Receiver, Servo,
-    ServoSample, Station, Way, SPEED_MOST,
+    ServoSample, Station, Stepper, Way, SPEED_MOST,
 };
 use crate::slips::Slip;
+
+mod stepper;
+
+pub use stepper::{stepper_at, MOTION, STEPPER_LEN};
 
 pub const FILL: usize = 17;
 pub const MARK: usize = 18;
@@ -20,7 +24,7 @@ pub const ITEMS: usize = 6;
 /// Bytes of its slot that an I/O module uses, and a servo.
 pub const IO_LEN: usize = 34;
 pub const SERVO_LEN: usize = 101;
-/// Where in a slot of any type the latched sample begins.
+/// Where in a slot of a type that latches its sample this begins.
 pub const LATCHED: usize = 8;
 
 /// Where in a slot the 12-bit numbers of an I/O module begin.
@@ -382,6 +386,10 @@ pub fn put_module(slot: &mut [u8], module: &Module) {
             slot[0] = Io::TYPE;
             put_io(slot, io);
         }
+        Module::Stepper(stepper) => {
+            slot[0] = Stepper::TYPE;
+            stepper::put_stepper(slot, stepper);
+        }
     }
 }
 
@@ -390,6 +398,7 @@ pub fn module(slot: &[u8], slip: Slip) -> Option<Module> {
     match slot[0] {
         Servo::TYPE => servo(slot, slip).map(Module::Servo),
         Io::TYPE => io(slot, slip).map(Module::Io),
+        Stepper::TYPE => stepper::stepper(slot, slip).map(Module::Stepper),
         _ => {
             reach(Branch::ListType);
             None
@@ -431,10 +440,15 @@ pub fn encode(network: &Network, net: &mut [u8]) {
     }
 }
 
-/// What the module of a slot has latched, as a tick's list brings it again: its bytes stand there as they stand here.
+/// What the module of a slot has latched, as a tick's list brings it again: its bytes stand there as they stand here. A
+/// step-motor module keeps nothing of its sample.
 pub fn latched(slot: &[u8]) -> Sample {
     let mut sample = no_sample(slot[0]);
-    let measured = if slot[0] == Servo::TYPE { &mut sample[1..7] } else { &mut sample[1..] };
+    let measured = match slot[0] {
+        Servo::TYPE => &mut sample[1..7],
+        Io::TYPE => &mut sample[1..],
+        _ => &mut [],
+    };
     measured.copy_from_slice(&slot[LATCHED..LATCHED + measured.len()]);
     sample
 }
@@ -590,7 +604,7 @@ impl Calls for Model {
 
     fn read_status(&self, module_type: u32, items: u8, reply: &[u8], reading: &mut [u8; 33]) -> u32 {
         reading.fill(0);
-        match model::read_status(module_type, items, reply) {
+        match model::read_status(module_type, items, reply, self.slip) {
             Err(refusal) => refusal,
             Ok(read) => {
                 reading[0] = read.status;

@@ -1,10 +1,15 @@
 //! What histories have come to, told from the networks before and after each call, so that a test can tell that its
 //! dice still fall everywhere.
 
-use crate::calls::{BAD_FIELD, BAD_LIST, BAD_PLACE, BAD_RECORD, MOST_MODULES, ROOM_LEN};
+use crate::calls::{BAD_FIELD, BAD_LIST, BAD_PLACE, BAD_RECORD, MOST_MODULES, ROOM_LEN, SAMPLE_LEN};
 use crate::model::{
-    Mode, Module, Network, Servo, Touch, CAUSES, EXECUTED, NOT_NOW, OUT_OF_RANGE, SPEED_MOST, UNKNOWN, WRONG_COUNT,
+    Mode, Module, Network, Receiver, Servo, Touch, CAUSES, EXECUTED, NOT_NOW, OUT_OF_RANGE, SPEED_MOST, UNKNOWN,
+    WRONG_COUNT,
 };
+
+pub mod stepper;
+
+use stepper::Steppers;
 
 /// What may change a servo's mode.
 #[derive(Clone, Copy, Debug, PartialEq, Eq)]
@@ -38,6 +43,9 @@ pub const CHANGES: [Change; 10] = [
 /// Half of what a velocity or an acceleration can be at most.
 const STEEP: i64 = SPEED_MOST as i64 / 2;
 
+/// How many module types there are.
+const TYPES: usize = 3;
+
 /// Counts by name.
 pub type Tally = Vec<(&'static str, usize)>;
 
@@ -60,10 +68,12 @@ pub struct Seen {
     pub chains: [usize; MOST_MODULES],
     /// Modules touched, by place.
     pub places: [usize; MOST_MODULES],
-    /// Modules touched, by code and cause: servos, then I/O modules.
-    pub met: [[[usize; CAUSES]; 16]; 2],
-    /// Frames that mean one thing to a servo and another to an I/O module.
+    /// Modules touched, by code and cause: servos, then I/O modules, then steppers.
+    pub met: [[[usize; CAUSES]; 16]; TYPES],
+    /// Frames that mean one thing to a module and another to one of another type.
     pub two_causes: Tally,
+    pub three_causes: Tally,
+    pub steppers: Steppers,
     /// Servos touched or ticked, by what came upon them, mode before and mode after.
     pub modes: [[[usize; 5]; 5]; CHANGES.len()],
     /// What ticks have done to servos that ran.
@@ -125,13 +135,25 @@ fn over_half(before: u32, after: u32) -> (bool, bool) {
     over_end(before ^ 1 << 31, after ^ 1 << 31)
 }
 
+/// The causes that a frame has left, by type.
+type Told = [[bool; CAUSES]; TYPES];
+
+/// Where a module's type stands in a table of them.
+fn index(module: &Module) -> usize {
+    match module {
+        Module::Servo(_) => 0,
+        Module::Io(_) => 1,
+        Module::Stepper(_) => 2,
+    }
+}
+
 impl Seen {
     /// A frame that has ended; the networks tell of it before and after.
     pub fn frame(&mut self, before: &Network, after: &Network, written: usize) {
         let receiver = &before.receiver;
-        let (code, count) = (receiver.command & 15, usize::from(receiver.command >> 4));
+        let code = receiver.command & 15;
         let mut repliers = 0;
-        let mut told = [[false; CAUSES]; 2];
+        let mut told = [[false; CAUSES]; TYPES];
         for (place, module) in before.modules.iter().enumerate() {
             let touch = match before.touch(place, receiver.address) {
                 Some(touch) => touch,
@@ -139,20 +161,39 @@ impl Seen {
             };
             self.places[place] += 1;
             let cause = after.modules[place].station().cause;
-            let module_type = usize::from(matches!(module, Module::Io(_)));
-            self.met[module_type][usize::from(code)][usize::from(cause)] += 1;
-            told[module_type][usize::from(cause)] = true;
-            if let (Module::Servo(before), Module::Servo(after)) = (module, &after.modules[place]) {
-                let change = change_by_frame(code, &receiver.data[..count], cause);
+            self.met[index(module)][usize::from(code)][usize::from(cause)] += 1;
+            told[index(module)][usize::from(cause)] = true;
+            self.touched(&before.receiver, module, &after.modules[place]);
+            let speaks = touch == Touch::Individually || module.station().leader;
+            repliers += usize::from(speaks && !(code == 15 && cause == 0));
+        }
+        self.several_causes(&told);
+        self.chains[before.modules.len() - 1] += 1;
+        self.repliers[repliers.min(2)] += 1;
+        self.full_rooms += usize::from(written == ROOM_LEN);
+    }
+
+    /// What the frame in the receiver has made of a module that it touched.
+    fn touched(&mut self, receiver: &Receiver, before: &Module, after: &Module) {
+        let (code, count) = (receiver.command & 15, usize::from(receiver.command >> 4));
+        let data = &receiver.data[..count];
+        match (before, after) {
+            (Module::Servo(before), Module::Servo(after)) => {
+                let cause = after.station.cause;
+                let change = change_by_frame(code, data, cause);
                 self.mode(change, before, after);
                 if before.cut && cause == EXECUTED {
                     self.frame_while_cut(code, change, after);
                 }
             }
-            let speaks = touch == Touch::Individually || module.station().leader;
-            repliers += usize::from(speaks && !(code == 15 && cause == 0));
+            (Module::Stepper(before), Module::Stepper(after)) => self.steppers.frame(code, data, before, after),
+            _ => {}
         }
-        let both = |servo: u8, io: u8| told[0][usize::from(servo)] && told[1][usize::from(io)];
+    }
+
+    fn several_causes(&mut self, told: &Told) {
+        let [servo, io, stepper] = told;
+        let both = |one: u8, io_has: u8| servo[usize::from(one)] && io[usize::from(io_has)];
         add(
             &mut self.two_causes,
             &[
@@ -165,32 +206,54 @@ impl Seen {
                 ("not now for a servo, executed by an I/O module", both(NOT_NOW, EXECUTED)),
             ],
         );
-        self.chains[before.modules.len() - 1] += 1;
-        self.repliers[repliers.min(2)] += 1;
-        self.full_rooms += usize::from(written == ROOM_LEN);
+        let all = |causes: [u8; TYPES]| {
+            let [one, two, three] = causes.map(usize::from);
+            servo[one] && io[two] && stepper[three]
+        };
+        add(
+            &mut self.three_causes,
+            &[
+                ("executed by all three types", all([EXECUTED, EXECUTED, EXECUTED])),
+                ("out of range for a stepper alone", all([EXECUTED, EXECUTED, OUT_OF_RANGE])),
+                ("of a wrong count for a servo alone", all([WRONG_COUNT, EXECUTED, EXECUTED])),
+                ("executed by a servo alone", all([EXECUTED, WRONG_COUNT, OUT_OF_RANGE])),
+                ("executed by a stepper alone", all([WRONG_COUNT, WRONG_COUNT, EXECUTED])),
+                ("executed by an I/O module alone", all([UNKNOWN, EXECUTED, UNKNOWN])),
+                ("known to a servo alone", all([EXECUTED, UNKNOWN, UNKNOWN])),
+                ("not now for a servo, executed by both others", all([NOT_NOW, EXECUTED, EXECUTED])),
+                ("not now for a stepper, executed by both others", all([EXECUTED, EXECUTED, NOT_NOW])),
+            ],
+        );
     }
 
-    pub fn tick(&mut self, before: &Network, after: &Network) {
+    /// A tick with its list; the networks tell of it before and after.
+    pub fn tick(&mut self, before: &Network, after: &Network, list: &[u8]) {
         for (place, pair) in before.modules.iter().zip(&after.modules).enumerate() {
-            let (before, after) = match pair {
-                (Module::Servo(before), Module::Servo(after)) => (before, after),
-                _ => continue,
-            };
-            let change = match (after.latched.power, after.error && !before.error) {
-                (0, _) => Change::PowerLow,
-                (_, true) => Change::Trip,
-                _ => Change::Nothing,
-            };
-            self.mode(change, before, after);
-            if before.mode != Mode::Off {
-                self.run(before, after);
+            match pair {
+                (Module::Servo(before), Module::Servo(after)) => self.tick_of_servo(place, before, after),
+                (Module::Stepper(before), Module::Stepper(after)) => {
+                    self.steppers.tick(list[SAMPLE_LEN * place + 1] == 1, before, after);
+                }
+                _ => {}
             }
-            if before.cut {
-                self.tick_while_cut(self.cuts[place], change, before, after);
-            }
-            let in_a_row = if before.cut { self.cuts[place].in_a_row + 1 } else { 1 };
-            self.cuts[place] = if after.cut { Cuts { in_a_row, past_il: is_past_il(after) } } else { Cuts::default() };
         }
+    }
+
+    fn tick_of_servo(&mut self, place: usize, before: &Servo, after: &Servo) {
+        let change = match (after.latched.power, after.error && !before.error) {
+            (0, _) => Change::PowerLow,
+            (_, true) => Change::Trip,
+            _ => Change::Nothing,
+        };
+        self.mode(change, before, after);
+        if before.mode != Mode::Off {
+            self.run(before, after);
+        }
+        if before.cut {
+            self.tick_while_cut(self.cuts[place], change, before, after);
+        }
+        let in_a_row = if before.cut { self.cuts[place].in_a_row + 1 } else { 1 };
+        self.cuts[place] = if after.cut { Cuts { in_a_row, past_il: is_past_il(after) } } else { Cuts::default() };
     }
 
     /// A tick upon a damaged record, by its number, and the number that its list has with the record undamaged.

@@ -4,10 +4,15 @@
 use crate::calls::*;
 use crate::dice::Dice;
 use crate::model::{
-    distance, stopping_sum, Device, Gains, Load, Mode, Module, Network, Servo, Station, Way, CAUSES, HEADER, SPEED_MOST,
+    distance, items_of, stopping_sum, Device, Gains, Io, Load, Mode, Module, Network, Servo, Station, Stepper, Way,
+    CAUSES, HEADER, SPEED_MOST,
 };
-use crate::record::{at, put_module, slot, CAUSE, COUNT, FILL, IO_LEN, MARK, SERVO_LEN, SLOTS, TWELVE_BITS};
+use crate::record::{
+    at, put_module, slot, CAUSE, COUNT, FILL, IO_LEN, MARK, SERVO_LEN, SLOTS, STEPPER_LEN, TWELVE_BITS,
+};
 use crate::slips::Slip;
+
+pub mod stepper;
 
 /// Individual and group bytes that meet each other often, and the header among them.
 const INDIVIDUALS: &[u8] = &[0, 1, 2, 3, 4, 0x81, 0x82, HEADER, 0xFF];
@@ -53,11 +58,34 @@ fn chain_length(dice: &mut Dice) -> usize {
     }
 }
 
-/// A chain of one type, or of both.
+/// Types that a chain is made of, mostly all of them.
+const MIXTURES: &[&[u8]] = &[
+    &[0, 2, 3],
+    &[0, 0, 2, 3],
+    &[0, 0, 0, 2, 3],
+    &[0, 0, 0, 2, 3, 3],
+    &[0, 0, 2],
+    &[0, 0, 3],
+    &[2, 3],
+    &[0],
+    &[2],
+    &[3],
+];
+
 pub fn types(dice: &mut Dice) -> Vec<u8> {
     let length = chain_length(dice);
-    let servos = dice.pick(&[0, 50, 50, 70, 100]);
-    (0..length).map(|_| if dice.percent(servos) { 0 } else { 2 }).collect()
+    let mixture = dice.pick(MIXTURES);
+    (0..length).map(|_| dice.pick(mixture)).collect()
+}
+
+/// Items to define or to read, mostly those that a type has.
+pub fn any_items(dice: &mut Dice, module_type: u8) -> u8 {
+    let items = data_byte(dice);
+    if dice.percent(80) {
+        items & items_of(module_type.into())
+    } else {
+        items
+    }
 }
 
 /// Mostly another count of data than a command has, often by one: then the rest of it is still what it was.
@@ -70,10 +98,32 @@ fn miscount(dice: &mut Dice, data: &mut Vec<u8>) {
     data.resize_with(count, || data_byte(dice));
 }
 
+/// Frames that mean different things to the types of a group: code and data.
+const DIVIDED: &[(u8, &[u8])] = &[
+    (2, &[0xFF]),
+    (3, &[0x1F]),
+    (4, &[0x02, 0x64]),
+    (4, &[0x12, 0x05]),
+    (4, &[0x04, 0x03]),
+    (5, &[]),
+    (5, &[]),
+    (6, &[0x00, 0x05]),
+    (6, &[0x00, 0x05, 0x00, 0x00, 0x00]),
+    (7, &[0x02]),
+    (7, &[0x03]),
+    (9, &[]),
+    (11, &[]),
+    (12, &[]),
+];
+
 /// A frame that somebody in the network is likely to hear.
 pub fn frame(dice: &mut Dice, network: &Network) -> (u8, u8, Vec<u8>) {
     let module = &network.modules[dice.below(network.modules.len())];
     let station = module.station();
+    if dice.percent(5) {
+        let (code, data) = dice.pick(DIVIDED);
+        return (station.group, code, data.to_vec());
+    }
     let address = match dice.below(20) {
         0..=8 => station.individual,
         9..=15 => station.group,
@@ -88,6 +138,7 @@ pub fn frame(dice: &mut Dice, network: &Network) -> (u8, u8, Vec<u8>) {
             let data = (0..module.count(code, &[])).map(|_| data_byte(dice)).collect();
             (code, data)
         }
+        Module::Stepper(stepper) => stepper::command(dice, stepper),
     };
     if dice.percent(15) {
         miscount(dice, &mut data);
@@ -392,15 +443,27 @@ pub fn following(dice: &mut Dice, servo: &Servo) -> u32 {
 
 /// What a module may measure.
 pub fn sample(dice: &mut Dice, module: &Module) -> Sample {
-    if let Module::Servo(servo) = module {
-        let power = match dice.below(40) {
-            0 | 1 => 0,
-            2..=4 => 2,
-            _ => 1,
-        };
-        return servo_sample(following(dice, servo), power, dice.byte());
+    match module {
+        Module::Servo(servo) => {
+            let power = match dice.below(40) {
+                0 | 1 => 0,
+                2..=4 => 2,
+                _ => 1,
+            };
+            servo_sample(following(dice, servo), power, dice.byte())
+        }
+        Module::Io(_) => any_io_sample(dice),
+        Module::Stepper(_) => stepper::sample(dice),
     }
-    any_io_sample(dice)
+}
+
+/// A good sample of a type, whatever the module does.
+fn any_sample(dice: &mut Dice, module_type: u8) -> Sample {
+    match module_type {
+        Servo::TYPE => servo_sample(dice.throw() as u32, dice.below(3) as u8, dice.byte()),
+        Io::TYPE => any_io_sample(dice),
+        _ => stepper::any_sample(dice),
+    }
 }
 
 fn any_io_sample(dice: &mut Dice) -> Sample {
@@ -411,30 +474,42 @@ fn any_io_sample(dice: &mut Dice) -> Sample {
 
 /// Anything in the bytes of a list that are not looked at.
 pub fn fill_rests(dice: &mut Dice, list: &mut [u8]) {
-    for sample in list.chunks_exact_mut(SAMPLE_LEN).filter(|sample| sample[0] == Servo::TYPE) {
+    for sample in list.chunks_exact_mut(SAMPLE_LEN) {
+        let used = match sample[0] {
+            Servo::TYPE => 7,
+            Io::TYPE => SAMPLE_LEN,
+            _ => 2,
+        };
         if dice.percent(70) {
-            sample[7..].copy_from_slice(&dice.bytes(3));
+            let rest = dice.bytes(SAMPLE_LEN - used);
+            sample[used..].copy_from_slice(&rest);
         }
     }
 }
 
-/// Another type: one that no module has, or the other one, then often with all that belongs to it.
+/// Another type: one that no module has, or one of the others, then often with all that belongs to it.
 fn spoil_type(dice: &mut Dice, sample: &mut [u8]) {
-    let of_servo = sample[0] == Servo::TYPE;
+    let others = match sample[0] {
+        Servo::TYPE => [2, 3],
+        Io::TYPE => [0, 3],
+        _ => [0, 2],
+    };
+    let other = dice.pick(&others);
     match dice.below(4) {
-        0 => sample[0] = dice.pick(&[1, 3, 4, 7, 128, 130, 255]),
-        1 => sample[0] = if of_servo { 2 } else { 0 },
-        _ if of_servo => sample.copy_from_slice(&any_io_sample(dice)),
-        _ => sample.copy_from_slice(&servo_sample(dice.throw() as u32, dice.below(3) as u8, dice.byte())),
+        0 => sample[0] = dice.pick(&[1, 4, 7, 128, 130, 131, 255]),
+        1 => sample[0] = other,
+        _ => sample.copy_from_slice(&any_sample(dice, other)),
     }
 }
 
 fn spoil_field(dice: &mut Dice, sample: &mut [u8]) {
-    if sample[0] == Servo::TYPE {
-        sample[1] = dice.pick(&[3, 3, 4, 127, 128, 254, 255]);
-    } else {
-        let inputs: u16 = dice.pick(&[4096, 4096, 4097, 0x1FFF, 0x8000, 0xF000, 0xFFFF]);
-        sample[1..3].copy_from_slice(&inputs.to_le_bytes());
+    match sample[0] {
+        Servo::TYPE => sample[1] = dice.pick(&[3, 3, 4, 127, 128, 254, 255]),
+        Io::TYPE => {
+            let inputs: u16 = dice.pick(&[4096, 4096, 4097, 0x1FFF, 0x8000, 0xF000, 0xFFFF]);
+            sample[1..3].copy_from_slice(&inputs.to_le_bytes());
+        }
+        _ => sample[1] = dice.pick(&[2, 2, 3, 127, 128, 254, 255]),
     }
 }
 
@@ -661,23 +736,28 @@ pub fn any_record(dice: &mut Dice) -> Vec<u8> {
             baud: dice.byte(),
         };
         let module = &mut net[slot(place)..slot(place + 1)];
-        if module_type == Servo::TYPE {
-            put_module(module, &Module::Servo(Box::new(any_servo(dice, station))));
-            continue;
-        }
-        module[0] = 2;
-        module[1..6].copy_from_slice(&[
-            station.individual,
-            station.group,
-            station.leader.into(),
-            station.low.into(),
-            station.cause,
-        ]);
-        for at in TWELVE_BITS {
-            module[at + 1] &= 0x0F;
+        match module_type {
+            Servo::TYPE => put_module(module, &Module::Servo(Box::new(any_servo(dice, station)))),
+            Io::TYPE => put_any_io(module, &station),
+            _ => put_module(module, &Module::Stepper(Box::new(stepper::any_stepper(dice, station)))),
         }
     }
     net
+}
+
+/// An I/O module out of whatever the slot holds.
+fn put_any_io(module: &mut [u8], station: &Station) {
+    module[0] = Io::TYPE;
+    module[1..6].copy_from_slice(&[
+        station.individual,
+        station.group,
+        station.leader.into(),
+        station.low.into(),
+        station.cause,
+    ]);
+    for at in TWELVE_BITS {
+        module[at + 1] &= 0x0F;
+    }
 }
 
 /// Signed and unsigned fields of a servo's slot, four bytes each.
@@ -728,10 +808,12 @@ fn damage_number(dice: &mut Dice, slot: &mut [u8]) {
     slot[at..at + 4].copy_from_slice(&new.to_le_bytes());
 }
 
-/// A bit that the mode does not allow, the cut bit where no filter runs or the error bit where something does; or any
-/// number in a byte that has few.
+/// A bit that the mode does not allow, the cut bit where no filter runs or the error bit where something does; no power;
+/// or any number in a byte that has few.
 fn damage_byte(dice: &mut Dice, slot: &mut [u8]) {
-    if dice.percent(50) {
+    if dice.percent(15) {
+        slot[at::POWER] = 0;
+    } else if dice.percent(50) {
         let forbidden = match slot[at::MODE] {
             0 => at::CUT,
             1 => dice.pick(&[at::CUT, at::ERROR]),
@@ -765,29 +847,33 @@ pub fn damaged_record(dice: &mut Dice, net: &[u8]) -> Vec<u8> {
     }
     for _ in 0..1 + dice.below(2) {
         let place = place_to_damage(dice, net);
-        let is_servo = net[slot(place)] == Servo::TYPE;
-        match dice.below(10) {
-            0..=3 if is_servo => {
-                damage_number(dice, &mut damaged[slot(place)..slot(place + 1)]);
-                continue;
-            }
-            4 if is_servo => {
-                damage_byte(dice, &mut damaged[slot(place)..slot(place + 1)]);
-                continue;
-            }
-            5 if dice.percent(30) => {
-                damaged[slot(place) + CAUSE] = (CAUSES - dice.below(2)) as u8;
-                continue;
-            }
-            _ => {}
-        }
-        let used = if is_servo { SERVO_LEN } else { IO_LEN };
-        let at = match dice.below(10) {
-            0..=2 => dice.below(SLOTS),
-            3..=7 => slot(place) + dice.below(used),
-            _ => dice.below(NET_LEN),
-        };
-        damaged[at] = if dice.percent(60) { dice.pick(EDGES) } else { dice.byte() };
+        damage_some(dice, place, &mut damaged);
     }
     damaged
+}
+
+/// A field of the place's type, or any byte, of its slot, of the receiver, or of all.
+fn damage_some(dice: &mut Dice, place: usize, net: &mut [u8]) {
+    let (module_type, own) = (net[slot(place)], &mut net[slot(place)..slot(place + 1)]);
+    match (module_type, dice.below(10)) {
+        (Servo::TYPE, 0..=3) => return damage_number(dice, own),
+        (Servo::TYPE, 4) => return damage_byte(dice, own),
+        (Stepper::TYPE, 0..=4) => return stepper::damage(dice, own),
+        (_, 5) if dice.percent(30) => {
+            own[CAUSE] = (CAUSES - dice.below(2)) as u8;
+            return;
+        }
+        _ => {}
+    }
+    let used = match module_type {
+        Servo::TYPE => SERVO_LEN,
+        Io::TYPE => IO_LEN,
+        _ => STEPPER_LEN,
+    };
+    let at = match dice.below(10) {
+        0..=2 => dice.below(SLOTS),
+        3..=7 => slot(place) + dice.below(used),
+        _ => dice.below(NET_LEN),
+    };
+    net[at] = if dice.percent(60) { dice.pick(EDGES) } else { dice.byte() };
 }

@@ -1,5 +1,5 @@
 //! Answers worked out by hand, byte for byte: the bench sheet's frames, the manuals' frames, and what no reply shows but
-//! the board drives. What a servo drives is in outputs.rs.
+//! the board drives. What a servo drives is in outputs.rs, what a step-motor module does in stepper.rs.
 
 use doljurven_tests::calls::*;
 use doljurven_tests::capi::Library;
@@ -66,16 +66,20 @@ fn setup_writes_power_up_into_every_slot() {
 }
 
 #[test]
-fn setup_of_both_types() {
+fn setup_of_every_type() {
     let mut net = vec![0x99; NET_LEN];
-    assert_eq!(Library.setup(&mut net, &[0, 2, 0]), DONE);
+    assert_eq!(Library.setup(&mut net, &[0, 2, 3, 0, 3]), DONE);
     let mut servo = [0; SLOT_LEN];
     // group, SM, error bit
     (servo[2], servo[34], servo[98]) = (0xFF, 1, 1);
+    let mut stepper = [0; SLOT_LEN];
+    (stepper[0], stepper[2]) = (3, 0xFF);
     assert_eq!(net[slot(0)..slot(1)], servo);
     assert_eq!(net[slot(1)..slot(2)], network(1)[slot(0)..slot(1)]);
-    assert_eq!(net[slot(2)..slot(3)], servo);
-    assert!(net[slot(3)..].iter().all(|byte| *byte == 0));
+    assert_eq!(net[slot(2)..slot(3)], stepper);
+    assert_eq!(net[slot(3)..slot(4)], servo);
+    assert_eq!(net[slot(4)..slot(5)], stepper);
+    assert!(net[slot(5)..].iter().all(|byte| *byte == 0));
 }
 
 #[test]
@@ -151,13 +155,56 @@ fn io_fields_stand_where_the_record_says() {
 }
 
 #[test]
+fn stepper_fields_stand_where_the_record_says() {
+    let mut net = vec![0x99; NET_LEN];
+    assert_eq!(Library.setup(&mut net, &[3]), DONE);
+    let mut all = [0; SLOT_LEN];
+    (all[0], all[2]) = (3, 0xFF);
+    let mut expect = |frame: &[u8], ticks: usize, changes: &[(usize, &[u8])]| {
+        send(&mut net, frame);
+        for _ in 0..ticks {
+            assert_eq!(Library.tick(&mut net, &stepper_sample(0)), DONE);
+        }
+        for (at, bytes) in changes {
+            all[*at..at + bytes.len()].copy_from_slice(bytes);
+        }
+        assert_eq!(net[slot(0)..slot(1)], all, "{frame:02X?}, then {ticks} ticks");
+    };
+    expect(&[], 1, &[]);
+    // amplifier, then the minimum: of Set Parameters nothing else is stored
+    expect(&written(0, 7, &[0x01]), 0, &[(8, &[1])]);
+    expect(&written(0, 6, &[0xFF, 5, 0xEE, 0xDD, 0xCC]), 0, &[(9, &[5])]);
+    // position and timer count, then the load: it waits, backward, speed and T
+    let load = written(0, 4, &[0x1F, 0x78, 0x56, 0x34, 0x12, 0x0A, 0x03, 0x21, 0x43, 0x65]);
+    let stored: [(usize, &[u8]); 2] = [(10, &[0x78, 0x56, 0x34, 0x12, 0x21, 0x43, 0x65, 0]), (18, &[1, 1, 10, 3])];
+    expect(&load, 1, &stored);
+    // a load without speed and T replaces it whole, the stored numbers stay
+    expect(&written(0, 4, &[0x00]), 0, &[(18, &[1, 0, 0, 0])]);
+    expect(&load, 0, &stored);
+    // speed, backward, goal, T, ticks that have passed, stopping; the load is used up
+    expect(&written(0, 5, &[]), 0, &[(18, &[0, 0, 0, 0, 5, 1, 10, 3, 0, 0])]);
+    expect(&[], 2, &[(26, &[2]), (28, &[0xF6, 0xFF, 0xFF, 0xFF])]);
+    expect(&[], 1, &[(22, &[6]), (26, &[0]), (28, &[0xF0])]);
+    // while moving the minimum stays
+    expect(&written(0, 6, &[0, 9, 0, 0, 0]), 0, &[]);
+    expect(&written(0, 4, &[0x16, 20, 1]), 1, &[(18, &[1, 1, 20, 1]), (26, &[1]), (28, &[0xEA])]);
+    expect(&written(0, 7, &[0x08]), 0, &[(8, &[0]), (18, &[0; 4]), (24, &[5]), (26, &[0, 1])]);
+    expect(&[], 3, &[(22, &[5]), (28, &[0xD9])]);
+    expect(&[], 2, &[(26, &[2]), (28, &[0xCF])]);
+    expect(&[], 1, &[(22, &[0; 6])]);
+    expect(&written(0, 15, &[]), 1, &[(8, &[0; 24])]);
+}
+
+#[test]
 fn samples_stand_in_a_list_as_the_header_says() {
     assert_eq!(servo_sample(0x0A0B_0C0D, 2, 0x5A), [0, 2, 0x5A, 0x0D, 0x0C, 0x0B, 0x0A, 0, 0, 0]);
     assert_eq!(io_sample(0xABC, [0x11, 0x22, 0x33], 0x0102_0304), [2, 0xBC, 0x0A, 0x11, 0x22, 0x33, 4, 3, 2, 1]);
+    assert_eq!(stepper_sample(1), [3, 1, 0, 0, 0, 0, 0, 0, 0, 0]);
     assert_eq!((no_sample(0), no_sample(2)), (servo_sample(0, 0, 0), io_sample(0, [0; 3], 0)));
+    assert_eq!(no_sample(3), stepper_sample(0));
 }
 
-/// Whether each place has latched its own sample of a list.
+/// Whether each place has latched its own sample of a list, servos and I/O modules.
 fn latched(net: &[u8], list: &[Sample]) -> bool {
     list.iter().enumerate().all(|(place, sample)| {
         let own = if sample[0] == 0 { &sample[1..7] } else { &sample[1..] };
@@ -392,11 +439,22 @@ fn servo_and_io() -> Vec<u8> {
     net
 }
 
-/// The cause that a frame leaves at each of the two; one that is not 0 leaves nothing else.
-fn causes_after(net: &mut [u8], frame: &[u8]) -> [u8; 2] {
+/// A servo at 1, an I/O module at 2 and a stepper at 3, all of group 255. The servo has no power, the stepper no minimum:
+/// what would move them is not now.
+fn all_types() -> Vec<u8> {
+    let mut net = vec![0x99; NET_LEN];
+    assert_eq!(Library.setup(&mut net, &[0, 2, 3]), DONE);
+    for address in 1..=3 {
+        send(&mut net, &written(0, 1, &[address, 0xFF]));
+    }
+    net
+}
+
+/// The cause that a frame leaves at each of the three; one that is not 0 leaves nothing else.
+fn causes_after(net: &mut [u8], frame: &[u8]) -> [u8; 3] {
     let before = net.to_vec();
     send(net, frame);
-    [0, 1].map(|place| {
+    [0, 1, 2].map(|place| {
         let mut kept = before[slot(place)..slot(place + 1)].to_vec();
         let cause = net[slot(place) + CAUSE];
         kept[CAUSE] = cause;
@@ -405,90 +463,132 @@ fn causes_after(net: &mut [u8], frame: &[u8]) -> [u8; 2] {
     })
 }
 
-/// Code and data, then the causes at the servo and at the I/O module.
-type FrameAndCauses = (u8, &'static [u8], [u8; 2]);
+/// Code and data, then the causes at the servo, at the I/O module and at the stepper.
+type FrameAndCauses = (u8, &'static [u8], [u8; 3]);
 
 const FRAMES_AND_CAUSES: &[FrameAndCauses] = &[
-    (14, &[], [0, 0]),
-    // a code that neither knows has no right count; one that the other knows is unknown here all the same
-    (9, &[], [4, 4]),
-    (13, &[1, 2, 3], [4, 4]),
-    (8, &[0x33], [4, 0]),
-    (8, &[], [4, 2]),
-    (12, &[], [4, 0]),
-    (12, &[1], [4, 2]),
-    (11, &[1], [2, 4]),
+    (14, &[], [0, 0, 0]),
+    // a code that nobody knows has no right count; one that another knows is unknown here all the same
+    (9, &[], [4, 4, 4]),
+    (13, &[1, 2, 3], [4, 4, 4]),
+    (8, &[0x33], [4, 0, 4]),
+    (8, &[], [4, 2, 4]),
+    (12, &[], [4, 0, 4]),
+    (12, &[1], [4, 2, 4]),
+    (11, &[1], [2, 4, 4]),
     // counts, each by the type's own command
-    (1, &[5], [2, 2]),
-    (2, &[], [2, 2]),
-    (3, &[1, 2], [2, 2]),
-    (14, &[0], [2, 2]),
-    (15, &[1], [2, 2]),
-    (0, &[], [0, 2]),
-    (0, &[0, 0], [2, 0]),
-    (6, &[0, 0], [2, 0]),
-    (7, &[0, 0, 0, 0], [2, 0]),
+    (1, &[5], [2, 2, 2]),
+    (2, &[], [2, 2, 2]),
+    (3, &[1, 2], [2, 2, 2]),
+    (14, &[0], [2, 2, 2]),
+    (15, &[1], [2, 2, 2]),
+    (0, &[], [0, 2, 4]),
+    (0, &[0, 0], [2, 0, 4]),
+    (6, &[0, 0], [2, 0, 2]),
+    (7, &[0, 0, 0, 0], [2, 0, 2]),
     // loads: count, then values, then whether it can start
-    (4, &[], [2, 2]),
-    (4, &[0x97, 0, 0, 0, 0, 0, 0, 0, 0], [2, 2]),
-    (4, &[0x06, 0x01, 0x00, 0x00, 0x05, 1, 0, 0], [2, 2]),
-    (4, &[0x02, 0x01, 0x00, 0x00, 0x05, 0], [2, 2]),
-    (4, &[0x02, 0x01, 0x00, 0x00, 0x05], [5, 2]),
-    (4, &[0x92, 0x01, 0x00, 0x00, 0x05], [5, 2]),
-    (4, &[0x92, 0x00, 0x00, 0x00, 0x05], [3, 2]),
-    (4, &[0x04, 0, 0, 0, 0], [5, 2]),
-    (4, &[0x94, 0, 0, 0, 0], [5, 2]),
-    (4, &[0x94, 1, 0, 0, 0], [3, 2]),
-    (4, &[0x04, 0x01, 0x00, 0x00, 0x05], [5, 2]),
-    (4, &[0x88, 7], [3, 0]),
-    (5, &[], [3, 0]),
-    (5, &[0], [2, 2]),
+    (4, &[], [2, 2, 2]),
+    (4, &[0x97, 0, 0, 0, 0, 0, 0, 0, 0], [2, 2, 2]),
+    (4, &[0x06, 0x01, 0x00, 0x00, 0x05, 1, 0, 0], [2, 2, 2]),
+    (4, &[0x02, 0x01, 0x00, 0x00, 0x05, 0], [2, 2, 2]),
+    (4, &[0x02, 0x01, 0x00, 0x00, 0x05], [5, 2, 2]),
+    (4, &[0x92, 0x01, 0x00, 0x00, 0x05], [5, 2, 2]),
+    (4, &[0x92, 0x00, 0x00, 0x00, 0x05], [3, 2, 2]),
+    (4, &[0x04, 0, 0, 0, 0], [5, 2, 2]),
+    (4, &[0x94, 0, 0, 0, 0], [5, 2, 2]),
+    (4, &[0x94, 1, 0, 0, 0], [3, 2, 2]),
+    (4, &[0x04, 0x01, 0x00, 0x00, 0x05], [5, 2, 2]),
+    (4, &[0x88, 7], [3, 0, 2]),
+    (5, &[], [3, 0, 3]),
+    (5, &[0], [2, 2, 2]),
     // Kp, Kd, Ki, IL and EL too large, SR not 1, DB not 0; and a short one with Kp too large
-    (6, &[0, 0x7F, 0, 0, 0, 0, 0, 0, 0, 0, 0xFF, 0x3F, 1, 0, 0], [0, 2]),
-    (6, &[0, 0x80, 0, 0, 0, 0, 0, 0, 0, 0, 0, 0, 1, 0, 0], [5, 2]),
-    (6, &[0, 0, 0, 0x80, 0, 0, 0, 0, 0, 0, 0, 0, 1, 0, 0], [5, 2]),
-    (6, &[0, 0, 0, 0, 0, 0x80, 0, 0, 0, 0, 0, 0, 1, 0, 0], [5, 2]),
-    (6, &[0, 0, 0, 0, 0, 0, 0, 0x80, 0, 0, 0, 0, 1, 0, 0], [5, 2]),
-    (6, &[0, 0, 0, 0, 0, 0, 0, 0, 0, 0, 0, 0x40, 1, 0, 0], [5, 2]),
-    (6, &[0, 0, 0, 0, 0, 0, 0, 0, 0, 0, 0, 0, 0, 0, 0], [5, 2]),
-    (6, &[0, 0, 0, 0, 0, 0, 0, 0, 0, 0, 0, 0, 1, 1, 0], [5, 2]),
-    (6, &[0, 0x80, 0, 0, 0, 0, 0, 0, 0, 0, 0, 0, 1, 0], [2, 2]),
+    (6, &[0, 0x7F, 0, 0, 0, 0, 0, 0, 0, 0, 0xFF, 0x3F, 1, 0, 0], [0, 2, 2]),
+    (6, &[0, 0x80, 0, 0, 0, 0, 0, 0, 0, 0, 0, 0, 1, 0, 0], [5, 2, 2]),
+    (6, &[0, 0, 0, 0x80, 0, 0, 0, 0, 0, 0, 0, 0, 1, 0, 0], [5, 2, 2]),
+    (6, &[0, 0, 0, 0, 0, 0x80, 0, 0, 0, 0, 0, 0, 1, 0, 0], [5, 2, 2]),
+    (6, &[0, 0, 0, 0, 0, 0, 0, 0x80, 0, 0, 0, 0, 1, 0, 0], [5, 2, 2]),
+    (6, &[0, 0, 0, 0, 0, 0, 0, 0, 0, 0, 0, 0x40, 1, 0, 0], [5, 2, 2]),
+    (6, &[0, 0, 0, 0, 0, 0, 0, 0, 0, 0, 0, 0, 0, 0, 0], [5, 2, 2]),
+    (6, &[0, 0, 0, 0, 0, 0, 0, 0, 0, 0, 0, 0, 1, 1, 0], [5, 2, 2]),
+    (6, &[0, 0x80, 0, 0, 0, 0, 0, 0, 0, 0, 0, 0, 1, 0], [2, 2, 2]),
     // Stop: its count by bit 4 alone, then its bits, then whether it can hold
-    (7, &[], [2, 2]),
-    (7, &[0x12], [2, 2]),
-    (7, &[0x12, 0, 0, 0, 0], [5, 2]),
-    (7, &[0x0A, 0, 0, 0, 0], [2, 2]),
-    (7, &[0x06], [5, 2]),
-    (7, &[0x20], [5, 2]),
-    (7, &[0x44], [5, 2]),
-    (7, &[0x80, 0], [2, 2]),
-    (7, &[0x04], [3, 2]),
-    (7, &[0x04, 0], [2, 2]),
-    (7, &[0x10, 0, 0, 0, 0], [3, 2]),
-    (7, &[0x08], [0, 2]),
-    (11, &[], [0, 4]),
+    (7, &[], [2, 2, 2]),
+    (7, &[0x12], [2, 2, 5]),
+    (7, &[0x12, 0, 0, 0, 0], [5, 2, 2]),
+    (7, &[0x0A, 0, 0, 0, 0], [2, 2, 2]),
+    (7, &[0x06], [5, 2, 5]),
+    (7, &[0x20], [5, 2, 5]),
+    (7, &[0x44], [5, 2, 5]),
+    (7, &[0x80, 0], [2, 2, 2]),
+    (7, &[0x04], [3, 2, 0]),
+    (7, &[0x04, 0], [2, 2, 2]),
+    (7, &[0x10, 0, 0, 0, 0], [3, 2, 2]),
+    (7, &[0x08], [0, 2, 0]),
+    (11, &[], [0, 4, 4]),
+    // items that a stepper has not
+    (2, &[0xFF], [0, 0, 5]),
+    (2, &[0x02], [0, 0, 5]),
+    (3, &[0x40], [0, 0, 5]),
+    (3, &[0x21], [0, 0, 0]),
+    (2, &[0xFF, 0], [2, 2, 2]),
+    (2, &[0x00], [0, 0, 0]),
+    // a stepper's loads: count, then values, then whether it can start; two bytes are a Set PWM to the I/O module
+    (4, &[0x02, 100], [2, 0, 0]),
+    (4, &[0x02, 250], [2, 0, 0]),
+    (4, &[0x02, 0], [2, 0, 5]),
+    (4, &[0x02, 251], [2, 0, 5]),
+    (4, &[0x04, 255], [2, 0, 0]),
+    (4, &[0x04, 0], [2, 0, 5]),
+    (4, &[0x22, 5], [2, 0, 5]),
+    (4, &[0x42, 5], [2, 0, 5]),
+    (4, &[0x06, 0], [2, 0, 2]),
+    (4, &[0x82, 0], [2, 0, 5]),
+    (4, &[0x82, 5], [2, 0, 3]),
+    (4, &[0x88, 1, 2, 3], [2, 2, 3]),
+    (4, &[0x86, 5, 1], [2, 2, 3]),
+    (4, &[0x80], [3, 2, 3]),
+    // Set Parameters: count, then the minimum; then the load that was not now
+    (6, &[0, 0, 0, 0], [2, 2, 2]),
+    (6, &[0, 0, 0, 0, 0], [2, 2, 5]),
+    (6, &[0, 251, 0, 0, 0], [2, 2, 5]),
+    (6, &[0xFF, 250, 0xFF, 0xFF, 0xFF], [2, 2, 0]),
+    (6, &[0, 1, 0, 0, 0], [2, 2, 0]),
+    (4, &[0x86, 5, 1], [2, 2, 0]),
+    // moving forward: the other direction is not now, a minimum that stays is executed
+    (4, &[0x96, 5, 1], [2, 2, 3]),
+    (6, &[0, 7, 0, 0, 0], [2, 2, 0]),
+    (6, &[0, 0, 0, 0, 0], [2, 2, 5]),
+    (4, &[0x16, 5, 1], [2, 2, 0]),
+    (5, &[], [3, 0, 3]),
+    (4, &[0x06, 5, 1], [2, 2, 0]),
+    (5, &[], [3, 0, 0]),
+    (5, &[], [3, 0, 3]),
+    (7, &[0x0C], [5, 2, 5]),
+    (7, &[0x0D], [5, 2, 5]),
+    (7, &[0x05], [3, 2, 0]),
 ];
 
 #[test]
 fn each_fault_has_its_cause() {
-    let mut net = servo_and_io();
+    let mut net = all_types();
     for (code, data, causes) in FRAMES_AND_CAUSES {
         let frame = written(0xFF, u32::from(*code), data);
         let mut damaged = frame.clone();
         *damaged.last_mut().unwrap() ^= 1;
-        assert_eq!(causes_after(&mut net, &damaged), [1, 1], "code {code}, data {data:02X?}, damaged");
+        assert_eq!(causes_after(&mut net, &damaged), [1; 3], "code {code}, data {data:02X?}, damaged");
         assert_eq!(causes_after(&mut net, &frame), *causes, "code {code}, data {data:02X?}");
     }
 }
 
 #[test]
 fn set_baud_sent_individually_is_unknown_whatever_its_count() {
-    let mut net = servo_and_io();
+    let mut net = all_types();
     let counts: [(&[u8], u8); 3] = [(&[], 2), (&[0x3F], 0), (&[0x3F, 0x3F], 2)];
     for (data, by_group) in counts {
-        assert_eq!(causes_after(&mut net, &written(0xFF, 10, data)), [by_group; 2], "{data:02X?} to the group");
+        assert_eq!(causes_after(&mut net, &written(0xFF, 10, data)), [by_group; 3], "{data:02X?} to the group");
         send(&mut net, &written(1, 10, data));
-        assert_eq!(causes_after(&mut net, &written(2, 10, data)), [4, 4], "{data:02X?} to each alone");
+        send(&mut net, &written(2, 10, data));
+        assert_eq!(causes_after(&mut net, &written(3, 10, data)), [4; 3], "{data:02X?} to each alone");
     }
 }
 
@@ -518,4 +618,9 @@ fn status_reader_takes_replies_apart() {
     ];
     assert_eq!(reading(0, 0xFF, &servo), (0x19, [0xFFFF_FFFE, 0x80, 0x1234, 0, 0, 0x0A00, 0xFFFF, 0]));
     assert_eq!(reading(0, 0x20, &[0x11, 0x00, 0x0A, 0x1B]), (0x11, [0, 0, 0, 0, 0, 0x0A00, 0, 0]));
+    let stepper = [0x01, 0xFE, 0xFF, 0xFF, 0xFF, 0x03, 0x01, 0x00];
+    assert_eq!(reading(3, 0x21, &stepper), (1, [0xFFFF_FFFE, 0, 0, 0, 0, 0x0103, 0, 0]));
+    assert_eq!(reading(3, 0x20, &[0x02, 0x03, 0x01, 0x06]), (2, [0, 0, 0, 0, 0, 0x0103, 0, 0]));
+    assert_eq!(reading(3, 0x01, &[0x00, 1, 2, 3, 4, 10]), (0, [0x0403_0201, 0, 0, 0, 0, 0, 0, 0]));
+    assert_eq!(reading(3, 0, &[0x03, 0x03]), (3, [0; 8]));
 }

@@ -11,10 +11,11 @@ use doljurven_tests::calls::*;
 use doljurven_tests::capi::Library;
 use doljurven_tests::histories;
 use doljurven_tests::model::Mode;
+use doljurven_tests::seen::stepper::{Run, Upon, ALL_UPON, RUNS};
 use doljurven_tests::seen::{Change, Seen, CHANGES};
 use doljurven_tests::slips::Slip;
 
-const SESSIONS: usize = 18_000;
+const SESSIONS: usize = 19_000;
 const SEED: u64 = 0x00D0_17C3;
 
 /// A number from the environment, if it is there.
@@ -32,6 +33,7 @@ fn library_and_model_agree() {
     frames_meet_everything(&seen);
     every_mode_change_is_made(&seen);
     servos_come_everywhere(&seen);
+    steppers_come_everywhere(&seen);
     calls_give_every_number(&seen);
 }
 
@@ -52,15 +54,17 @@ fn branches_are_reached() {
     println!("rarest branches: {:?}", &rarest[..10]);
     assert!(share_reached() >= 95);
     // each cause, and each that hides a later one
-    often_reached(Branch::Executed, Branch::RangeBeforeNotNowStop);
+    often_reached(Branch::Executed, Branch::RangeBeforeNotNowStepLoad);
     // each start condition decides alone, by Start and by start now
     often_reached(Branch::StartNothingWaits, Branch::NowHalfTurnFromOff);
+    // all that a stepper does, each of its start conditions among it
+    often_reached(Branch::StepperUnknown, Branch::StepsBackward);
     // the amplifier bit through a dip
     often_reached(Branch::StopSetsAmplifierAtLow, Branch::EnableBackFromHigh);
     // ticks that are cut, and those that nearly are
     often_reached(Branch::CutAbove, Branch::UncutAfterCut);
     // each refusal of a tick's list, each that hides a later one, and what a good list may hold
-    often_reached(Branch::TickDone, Branch::SamplesOfIosDiffer);
+    often_reached(Branch::TickDone, Branch::SamplesOfSteppersDiffer);
 }
 
 /// Branches that stand together in the table, from one to another.
@@ -81,8 +85,11 @@ fn frames_meet_everything(seen: &Seen) {
     assert!(seen.chains.iter().all(|frames| *frames > 100), "{:?}", seen.chains);
     assert!(seen.places.iter().all(|touched| *touched > 100), "{:?}", seen.places);
     // codes that a type does not know, those that may be not now, and those with values out of range
-    let types: [(&str, &[usize], &[usize], &[usize]); 2] =
-        [("servo", &[8, 9, 12, 13], &[0, 4, 5, 7], &[4, 6, 7]), ("I/O", &[9, 11, 13], &[], &[])];
+    let types: [(&str, &[usize], &[usize], &[usize]); 3] = [
+        ("servo", &[8, 9, 12, 13], &[0, 4, 5, 7], &[4, 6, 7]),
+        ("I/O", &[9, 11, 13], &[], &[]),
+        ("stepper", &[0, 8, 9, 11, 12, 13], &[4, 5], &[2, 3, 4, 6, 7]),
+    ];
     for ((name, unknown, not_now, out_of_range), met) in types.iter().zip(&seen.met) {
         for (code, causes) in met.iter().enumerate() {
             let known = !unknown.contains(&code);
@@ -94,7 +101,7 @@ fn frames_meet_everything(seen: &Seen) {
             }
         }
     }
-    for (name, times) in &seen.two_causes {
+    for (name, times) in seen.two_causes.iter().chain(&seen.three_causes) {
         assert!(*times > 100, "{name}: {times}");
     }
     assert!(seen.repliers.iter().all(|frames| *frames > 1000), "{:?}", seen.repliers);
@@ -140,6 +147,36 @@ fn servos_come_everywhere(seen: &Seen) {
     }
     for often in ["output at its limit", "trapezoid's speed neither highest nor lowest"] {
         assert!(seen.running.iter().any(|(name, times)| *name == often && *times > 1000), "{often}");
+    }
+}
+
+/// What a stepper's motor may do after what came upon it.
+fn runs_after(upon: Upon, before: Run) -> Vec<Run> {
+    use Run::{Backward, Forward, Rest, StoppingBackward, StoppingForward};
+    match (upon, before) {
+        (Upon::Start | Upon::StartNow, Rest) => vec![Forward, Backward],
+        (Upon::Start | Upon::StartNow, Forward | StoppingForward) => vec![Forward],
+        (Upon::Start | Upon::StartNow, Backward | StoppingBackward) => vec![Backward],
+        (Upon::Abrupt | Upon::HardReset | Upon::Input, _) => vec![Rest],
+        (Upon::Smooth, Forward) => vec![StoppingForward],
+        (Upon::Smooth, Backward) => vec![StoppingBackward],
+        (Upon::Tick, StoppingForward | StoppingBackward) => vec![before, Rest],
+        _ => vec![before],
+    }
+}
+
+fn steppers_come_everywhere(seen: &Seen) {
+    for upon in ALL_UPON {
+        for before in RUNS {
+            for after in RUNS {
+                let times = seen.steppers.runs[upon as usize][before as usize][after as usize];
+                let may = runs_after(upon, before).contains(&after);
+                assert!(if may { times > 50 } else { times == 0 }, "{upon:?} from {before:?} to {after:?}: {times}");
+            }
+        }
+    }
+    for (name, times) in seen.steppers.frames.iter().chain(&seen.steppers.ticks) {
+        assert!(*times > 100, "{name}: {times}");
     }
 }
 

@@ -1,6 +1,6 @@
-//! The model of the servo by itself: its shorter sums against the paper's words, and the bench sheet.
+//! The model by itself: the servo's shorter sums against the paper's words, the bench sheet, and a step-motor module's ramp.
 
-use doljurven_tests::model::{distance, greatest_speed, stopping_sum, Device, Servo, SPEED_MOST};
+use doljurven_tests::model::{distance, greatest_speed, stopping_sum, Device, Servo, Stepper, SPEED_MOST};
 use doljurven_tests::slips::Slip;
 
 /// w + (w - a) + (w - 2a) + ..., positive terms, one after another.
@@ -98,4 +98,38 @@ fn load_counts() {
         assert_eq!(Servo::load_count(control), count, "control {control:02X}");
         assert_eq!(Servo::count(4, &[control]), count);
     }
+}
+
+#[test]
+fn stepper_load_counts() {
+    let counts = [(0x00, 1), (0xF0, 1), (0x01, 5), (0x02, 2), (0x04, 2), (0x06, 3), (0x08, 4), (0x87, 7), (0x9F, 10)];
+    for (control, count) in counts {
+        assert_eq!(Stepper::load_count(control), count, "control {control:02X}");
+        assert_eq!(Stepper::count(4, &[control]), count);
+    }
+}
+
+/// The speeds of so many ticks after what a frame brings about.
+fn speeds(stepper: &mut Stepper, code: u8, data: &[u8], ticks: usize) -> Vec<i32> {
+    assert_eq!(stepper.command(code, data, Slip::None), Ok(()));
+    let tick = |_| {
+        stepper.tick(false, Slip::None);
+        stepper.speed()
+    };
+    (0..ticks).map(tick).collect()
+}
+
+#[test]
+fn stepper_changes_its_speed_each_t_th_tick() {
+    let mut stepper = Stepper::power_up();
+    assert_eq!(speeds(&mut stepper, 6, &[0, 5, 0, 0, 0], 1), [0]);
+    assert_eq!(speeds(&mut stepper, 4, &[0x86, 8, 3], 10), [5, 5, 6, 6, 6, 7, 7, 7, 8, 8]);
+    assert_eq!(speeds(&mut stepper, 4, &[0x86, 6, 1], 3), [7, 6, 6]);
+    assert_eq!(speeds(&mut stepper, 4, &[0x86, 6, 2], 1), [6]);
+    assert_eq!(speeds(&mut stepper, 7, &[8], 5), [6, 5, 5, 0, 0]);
+    assert_eq!(speeds(&mut stepper, 4, &[0x96, 6, 1], 2), [-6, -6]);
+    stepper.tick(true, Slip::None);
+    assert_eq!(stepper.speed(), 0);
+    // 52 + 13 + 6 + 6 + 5 + 5 + ... forward, 12 back
+    assert_eq!(stepper.position, 65 + 19 + 6 + 16 - 12);
 }

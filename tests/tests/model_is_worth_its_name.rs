@@ -16,7 +16,7 @@ fn without_a_slip_the_short_run_passes() {
 
 #[test]
 fn every_slip_is_noticed() {
-    assert!(CALLS.len() >= 100);
+    assert!(CALLS.len() >= 250);
     let mut missed = Vec::new();
     for (slip, words) in CALLS {
         match histories::run(&Library, *slip, SEED, SESSIONS) {
@@ -48,7 +48,10 @@ enum Spoil {
     TickAtUnusedByte,
     FirstSampleForAll,
     LastSampleOfTickBefore,
+    StopInputLost,
+    StopInputForAll,
     OutputsSign,
+    OutputsDirection,
     SetupLeavesUnusedBytes,
     OutputsOfPlaceZero,
     OutputsOfLastPlace,
@@ -62,7 +65,7 @@ enum Spoil {
     WriterBehindFrame,
 }
 
-const SPOILS: [Spoil; 27] = [
+const SPOILS: [Spoil; 30] = [
     Spoil::RoomBehindReplies,
     Spoil::OneByteMoreReported,
     Spoil::LastReplyByte,
@@ -78,7 +81,10 @@ const SPOILS: [Spoil; 27] = [
     Spoil::TickAtUnusedByte,
     Spoil::FirstSampleForAll,
     Spoil::LastSampleOfTickBefore,
+    Spoil::StopInputLost,
+    Spoil::StopInputForAll,
     Spoil::OutputsSign,
+    Spoil::OutputsDirection,
     Spoil::SetupLeavesUnusedBytes,
     Spoil::OutputsOfPlaceZero,
     Spoil::OutputsOfLastPlace,
@@ -105,8 +111,12 @@ impl Spoiled {
             return list;
         }
         let (first, last) = (samples[..SAMPLE_LEN].to_vec(), &net[slot(chain - 1)..slot(chain)]);
+        let of_stepper = |sample: &[u8]| sample[0] == 3 && sample[1] <= 1;
+        let stop = samples.chunks_exact(SAMPLE_LEN).any(|sample| of_stepper(sample) && sample[1] == 1);
         for (place, sample) in list.chunks_exact_mut(SAMPLE_LEN).enumerate() {
             match self.0 {
+                Spoil::StopInputLost if of_stepper(sample) => sample[1] = 0,
+                Spoil::StopInputForAll if of_stepper(sample) => sample[1] = u8::from(stop),
                 Spoil::FirstSampleForAll if sample[0] == first[0] => sample.copy_from_slice(&first),
                 Spoil::LastSampleOfTickBefore if place == chain - 1 && sample[0] == last[0] => {
                     sample.copy_from_slice(&latched(last));
@@ -148,7 +158,7 @@ impl Calls for Spoiled {
 
     fn tick(&self, net: &mut [u8], samples: &[u8]) -> u32 {
         let number = Library.tick(net, &self.handed_over(net, samples));
-        // of the raw count, or an A/D byte
+        // of the raw count, an A/D byte, or of a stored position
         let measured = slot(0) + LATCHED + 3;
         match (self.0, number) {
             (Spoil::RefusedLengthLatched, BAD_LIST) => net[measured] ^= 1,
@@ -175,8 +185,12 @@ impl Calls for Spoiled {
             }
             // a record that calls leave behind and that is not taken any more
             Spoil::OutputsRefuse if number == DONE && net[FILL] > 17 => BAD_RECORD,
-            // only a servo's second byte is a sign
+            // a servo's second byte is a sign, a stepper's a direction
             Spoil::OutputsSign if number == DONE && net[slot(place as usize)] == 0 => {
+                outputs[1] = 0;
+                number
+            }
+            Spoil::OutputsDirection if number == DONE && net[slot(place as usize)] == 3 => {
                 outputs[1] = 0;
                 number
             }

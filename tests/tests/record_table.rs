@@ -15,27 +15,31 @@ const NETWORK: &[&str] = &["net_rules", "module_rules"];
 const STATION: &[&str] = &["module_rules"];
 const INOUT: &[&str] = &["inout_slot_rules", "module_rules"];
 const SERVO: &[&str] = &["servo_slot_rules", "module_rules"];
+const STEPPER: &[&str] = &["stepper_slot_rules", "module_rules"];
 const SAMPLE: &[&str] = &["module_rules", "servo_slot_rules"];
 
-const SECTIONS: [Section; 9] = [
+const SECTIONS: [Section; 11] = [
     Section { heading: "# The lent network record", crates: NETWORK },
     Section { heading: "## Receiver and slots", crates: NETWORK },
     Section { heading: "## Every slot", crates: STATION },
     Section { heading: "## Slot of an I/O module (type 2)", crates: INOUT },
     Section { heading: "## Slot of a servo (type 0)", crates: SERVO },
+    Section { heading: "## Slot of a step-motor module (type 3)", crates: STEPPER },
     Section { heading: "## A sample in a tick's list", crates: SAMPLE },
     Section { heading: "## The list for refusal 16", crates: NETWORK },
     Section { heading: "### Lines of an I/O slot", crates: INOUT },
     Section { heading: "### Lines of a servo's slot", crates: SERVO },
+    Section { heading: "### Lines of a step-motor module's slot", crates: STEPPER },
 ];
 
 /// The sections that have a table of bytes, and where its first row begins and its last one ends.
-const TABLES: [(usize, &str, &str); 5] = [
+const TABLES: [(usize, &str, &str); 6] = [
     (1, "0", "NET_LEN"),
     (2, "0", "OWN_AT"),
     (3, "OWN_AT", "SLOT_LEN"),
     (4, "OWN_AT", "SLOT_LEN"),
-    (5, "0", "SAMPLE_LEN"),
+    (5, "OWN_AT", "SLOT_LEN"),
+    (6, "0", "SAMPLE_LEN"),
 ];
 
 fn project() -> PathBuf {
@@ -52,7 +56,7 @@ struct Sources(BTreeMap<&'static str, BTreeMap<String, String>>);
 impl Sources {
     fn read() -> Sources {
         let crates = env::var_os("DOLJURVEN_CRATES").map_or_else(|| project().join("crates"), PathBuf::from);
-        let names = ["net_rules", "module_rules", "inout_slot_rules", "servo_slot_rules"];
+        let names = ["net_rules", "module_rules", "inout_slot_rules", "servo_slot_rules", "stepper_slot_rules"];
         let of = |name| (name, constants(&text(crates.join(name).join("src/lib.rt"))));
         Sources(names.into_iter().map(of).collect())
     }

@@ -4,7 +4,9 @@
 use doljurven_tests::calls::*;
 use doljurven_tests::capi::Library;
 use doljurven_tests::model::frame_bytes;
-use doljurven_tests::record::{at, slot, CAUSE, COUNT, FILL, MARK, SLOT_LEN, TWELVE_BITS};
+use doljurven_tests::record::{
+    at, slot, stepper_at, CAUSE, COUNT, FILL, ITEMS, MARK, MOTION, SLOT_LEN, STEPPER_LEN, TWELVE_BITS,
+};
 
 const JUNK: u8 = 0xE7;
 
@@ -18,10 +20,20 @@ fn chain(types: &[u8]) -> Vec<u8> {
     assert_eq!(Library.setup(&mut net, types), DONE);
     let latched = list_of(types, servo_sample(0x1234_5678, 1, 0x5A), io_sample(0xA5C, [1, 2, 3], 0x1234_5678));
     assert_eq!(tick_call(&mut net, &latched), DONE);
+    set_steppers_going(&mut net, types);
     for byte in &frame_bytes(0, 1, &[1, 0xFF])[..4] {
         assert_eq!(byte_call(&mut net, 0, *byte, ROOM_LEN), DONE);
     }
     net
+}
+
+/// Every step-motor module moves, so that no tick leaves it as it is.
+fn set_steppers_going(net: &mut [u8], types: &[u8]) {
+    for place in (0..types.len()).filter(|place| types[*place] == 3) {
+        let own = &mut net[slot(place)..slot(place + 1)];
+        own[stepper_at::MINIMUM] = 5;
+        own[MOTION].copy_from_slice(&[7, 0, 9, 200, 3, 0]);
+    }
 }
 
 /// A byte call that holds the library to what a refusal leaves: record, room, and 0 written.
@@ -38,12 +50,17 @@ fn byte_call(net: &mut [u8], mark: u32, byte: u8, room_len: usize) -> u32 {
     number
 }
 
-/// A tick's list for a chain of these types, where all of one type measure the same.
+/// A tick's list for a chain of these types, where all of one type measure the same; no stop input is 1.
 fn list_of(types: &[u8], servo: Sample, io: Sample) -> Vec<u8> {
-    types.iter().flat_map(|module_type| if *module_type == 0 { servo } else { io }).collect()
+    let sample = |module_type: &u8| match module_type {
+        0 => servo,
+        2 => io,
+        _ => stepper_sample(0),
+    };
+    types.iter().flat_map(sample).collect()
 }
 
-/// A list by which everything that is latched changes.
+/// A list by which everything that is latched changes, and what moves goes on.
 fn list(types: &[u8]) -> Vec<u8> {
     list_of(types, servo_sample(0x0BAD_CAFE, 2, 0x77), io_sample(0x3A5, [9, 8, 7], 0x0BAD_CAFE))
 }
@@ -221,7 +238,7 @@ fn in_every_slot(at: usize, good: &[u8], bad: &[u8]) {
 
 #[test]
 fn record_with_a_slot_of_unknown_type() {
-    in_every_slot(0, &[2], &[1, 3, 4, 128, 255]);
+    in_every_slot(0, &[2], &[1, 4, 5, 128, 130, 131, 255]);
 }
 
 #[test]
@@ -269,11 +286,12 @@ const RUNNING: [u8; 4] = [PWM, HOLDING, VELOCITY, TRAPEZOID];
 /// Modes in which the filter runs.
 const SERVO_ON: [u8; 3] = [HOLDING, VELOCITY, TRAPEZOID];
 
-/// A servo of its own in a network, at rest in some mode at power 1.
+/// A slot that is put into a network.
 #[derive(Clone)]
 struct Slot([u8; SLOT_LEN]);
 
 impl Slot {
+    /// A servo's, at rest in some mode at power 1.
     fn new(mode: u8) -> Slot {
         let mut slot = Slot([0; SLOT_LEN]);
         slot.0[2] = 0xFF;
@@ -305,12 +323,13 @@ impl Slot {
     }
 
     fn judged(&self, number: u32, words: &str) {
-        let net = chain(&[0, 2, 0]);
+        let types = [self.0[0], 2, self.0[0]];
+        let net = chain(&types);
         for place in [0, 2] {
             let mut net = net.clone();
             net[slot(place)..slot(place + 1)].copy_from_slice(&self.0);
-            let told = tick_call(&mut net.clone(), &list(&[0, 2, 0]));
-            assert_eq!(told, number, "{words}, mode {}", self.0[at::MODE]);
+            let told = tick_call(&mut net.clone(), &list(&types));
+            assert_eq!(told, number, "{words}: {:02X?}", self.0);
             every_call_says(&net, number);
         }
         let mut beyond = net;
@@ -516,6 +535,97 @@ fn servo_record_bytes_that_may_be_anything() {
     }
 }
 
+// ---------------------------------------------------------------- 16 by a stepper's slot
+
+/// A stepper's slot at rest, its minimum 5.
+fn stepper_at_rest() -> Slot {
+    let mut slot = Slot([0; SLOT_LEN]);
+    (slot.0[0], slot.0[2], slot.0[stepper_at::MINIMUM]) = (3, 0xFF, 5);
+    slot
+}
+
+/// The same in motion, not stopping: speed 7, forward, goal 9, T 4, of which 2 ticks have passed.
+fn stepper_in_motion() -> Slot {
+    let mut slot = stepper_at_rest();
+    slot.0[MOTION].copy_from_slice(&[7, 0, 9, 4, 2, 0]);
+    slot
+}
+
+/// A byte at every value: those within these bounds pass, and no others.
+fn in_bounds(slot: &Slot, at: usize, good: std::ops::RangeInclusive<u8>) {
+    for value in 0..=255 {
+        let number = if good.contains(&value) { DONE } else { BAD_RECORD };
+        slot.clone().one(at, value).judged(number, &format!("byte at {at} is {value}"));
+    }
+}
+
+#[test]
+fn stepper_record_with_bytes_out_of_range() {
+    for slot in [stepper_at_rest(), stepper_in_motion()] {
+        slot.passes("as it is");
+        for at in [3, 4, stepper_at::AMPLIFIER, stepper_at::LOAD_WAITS, stepper_at::LOAD_BACKWARD] {
+            in_bounds(&slot, at, 0..=1);
+        }
+        in_bounds(&slot, CAUSE, 0..=5);
+        in_bounds(&slot, stepper_at::LOAD_SPEED, 0..=250);
+        for items in 0..=255 {
+            let number = if items & !0x21 == 0 { DONE } else { BAD_RECORD };
+            slot.clone().one(ITEMS, items).judged(number, &format!("items {items:02X}"));
+        }
+    }
+    in_bounds(&stepper_at_rest(), stepper_at::MINIMUM, 0..=250);
+}
+
+#[test]
+fn stepper_record_at_rest_with_something_of_a_motion() {
+    let rest = stepper_at_rest();
+    for at in MOTION.filter(|at| *at != stepper_at::SPEED) {
+        in_bounds(&rest, at, 0..=0);
+        in_bounds(&rest.clone().one(stepper_at::MINIMUM, 0), at, 0..=0);
+    }
+    for value in 1..=255 {
+        rest.clone().one(stepper_at::SPEED, value).breaks("a speed without goal and T");
+    }
+}
+
+#[test]
+fn stepper_record_in_a_motion_that_there_is_not() {
+    for backward in [0, 1] {
+        let moving = stepper_in_motion().one(stepper_at::BACKWARD, backward);
+        in_bounds(&moving, stepper_at::SPEED, 5..=250);
+        in_bounds(&moving, stepper_at::GOAL, 5..=250);
+        in_bounds(&moving, stepper_at::MINIMUM, 1..=7);
+        in_bounds(&moving, stepper_at::TIME, 3..=255);
+        in_bounds(&moving, stepper_at::PASSED, 0..=3);
+        moving.clone().one(stepper_at::PASSED, 0).one(stepper_at::TIME, 0).breaks("T 0");
+        moving.clone().one(stepper_at::PASSED, 0).one(stepper_at::TIME, 1).passes("T 1");
+        moving.clone().one(stepper_at::PASSED, 254).one(stepper_at::TIME, 255).passes("T 255");
+        moving.clone().one(stepper_at::STOPPING, 1).breaks("stopping toward another goal");
+        let stopping = moving.clone().one(stepper_at::STOPPING, 1).one(stepper_at::GOAL, 5);
+        stopping.passes("stopping");
+        in_bounds(&stopping, stepper_at::GOAL, 5..=5);
+        in_bounds(&stopping, stepper_at::SPEED, 5..=250);
+        in_bounds(&stopping, stepper_at::MINIMUM, 5..=5);
+        in_bounds(&stopping, stepper_at::STOPPING, 0..=1);
+    }
+    in_bounds(&stepper_in_motion(), stepper_at::BACKWARD, 0..=1);
+}
+
+#[test]
+fn stepper_record_bytes_that_may_be_anything() {
+    let stored = stepper_at::STORED_POSITION..stepper_at::LOAD_WAITS;
+    let position = stepper_at::POSITION..stepper_at::POSITION + 4;
+    let all = [1, 2, 7, stepper_at::LOAD_TIME].into_iter().chain(stored).chain(position);
+    for at in all.chain(STEPPER_LEN..SLOT_LEN) {
+        for slot in [stepper_at_rest(), stepper_in_motion()] {
+            slot.one(at, 0xFF).passes(&format!("byte at {at}"));
+        }
+    }
+    // a load that does not wait is not looked at beyond its ranges
+    let left = stepper_at_rest().one(stepper_at::LOAD_BACKWARD, 1).one(stepper_at::LOAD_SPEED, 250);
+    left.one(stepper_at::LOAD_TIME, 255).passes("what a load has left");
+}
+
 #[test]
 fn setup_does_not_mind_what_the_record_holds() {
     let mut clean = vec![0; NET_LEN];
@@ -527,6 +637,9 @@ fn setup_does_not_mind_what_the_record_holds() {
 }
 
 // ---------------------------------------------------------------- 11, 12
+
+/// Servo, I/O module, stepper.
+const TYPES: [u8; 3] = [0, 2, 3];
 
 #[test]
 fn chain_of_none_or_too_many() {
@@ -543,13 +656,12 @@ fn chain_of_none_or_too_many() {
 #[test]
 fn unknown_types() {
     for (at, length) in [(0, 1), (0, 32), (15, 32), (31, 32)] {
-        for known in [0, 2] {
+        for known in TYPES {
             let mut types = vec![known; length];
-            types[at] = 2 - known;
-            assert_eq!(setup_call(&mut network(3), &types), DONE, "type {} among {known}", 2 - known);
-            for unknown in [1, 3, 4, 128, 130, 255] {
-                types[at] = unknown;
-                assert_eq!(setup_call(&mut network(3), &types), BAD_TYPE, "type {unknown} at {at}");
+            for other in 0..=255 {
+                types[at] = other;
+                let number = if TYPES.contains(&other) { DONE } else { BAD_TYPE };
+                assert_eq!(setup_call(&mut network(3), &types), number, "type {other} at {at} among {known}");
             }
         }
     }
@@ -593,13 +705,20 @@ fn room_too_short_for_every_reply() {
 
 // ---------------------------------------------------------------- 20, 13, 14 by a tick's list
 
-/// Servos and I/O modules, so that each stands at an end and beside its like and the other.
-const MIXED: [u8; 6] = [0, 0, 2, 2, 0, 2];
+/// Chains of all types, so that each stands at an end and beside its like and the others.
+const MIXED: [u8; 9] = [0, 0, 2, 2, 3, 3, 0, 3, 2];
+const MIXED_OTHERWISE: [u8; 5] = [3, 2, 0, 2, 3];
 
-/// Bytes of a sample: its type; a servo's power, which is the lower byte of an I/O module's inputs; their upper byte.
+/// Bytes of a sample: its type; a servo's power, which is a stepper's stop input and the lower byte of an I/O module's
+/// inputs; their upper byte.
 const TYPE: usize = 0;
 const POWER: usize = 1;
 const INPUTS_HIGH: usize = 2;
+
+/// Types that a module of this one is not.
+fn others(own: u8) -> impl Iterator<Item = u8> {
+    TYPES.into_iter().filter(move |other| *other != own)
+}
 
 /// A list with one byte of one place changed.
 fn with(list: &[u8], place: usize, at: usize, value: u8) -> Vec<u8> {
@@ -610,16 +729,16 @@ fn with(list: &[u8], place: usize, at: usize, value: u8) -> Vec<u8> {
 
 /// A list whose sample at a place has a field out of range.
 fn with_bad_field(list: &[u8], types: &[u8], place: usize) -> Vec<u8> {
-    if types[place] == 0 {
-        with(list, place, POWER, 3)
-    } else {
-        with(list, place, INPUTS_HIGH, 0x10)
+    match types[place] {
+        0 => with(list, place, POWER, 3),
+        2 => with(list, place, INPUTS_HIGH, 0x10),
+        _ => with(list, place, POWER, 2),
     }
 }
 
 #[test]
 fn list_of_another_length() {
-    for types in [&[0][..], &[2], &[0, 2], &MIXED, &[0; 32], &[2; 32]] {
+    for types in [&[0][..], &[2], &[3], &[0, 2], &[3, 0], &MIXED, &[0; 32], &[2; 32], &[3; 32]] {
         let net = chain(types);
         let good = list(types);
         let right = good.len();
@@ -645,9 +764,11 @@ fn list_with_a_sample_of_another_type() {
             assert_eq!(tick_call(&mut net.clone(), &with(&good, place, TYPE, byte)), number, "type {byte} at {place}");
         }
         // all that belongs to the other type, too
-        let mut other = good.clone();
-        other[SAMPLE_LEN * place..SAMPLE_LEN * (place + 1)].copy_from_slice(&list(&[2 - own]));
-        assert_eq!(tick_call(&mut net.clone(), &other), BAD_PLACE, "a sample of the other type at {place}");
+        for other_type in others(own) {
+            let mut other = good.clone();
+            other[SAMPLE_LEN * place..SAMPLE_LEN * (place + 1)].copy_from_slice(&list(&[other_type]));
+            assert_eq!(tick_call(&mut net.clone(), &other), BAD_PLACE, "a sample of type {other_type} at {place}");
+        }
     }
     let mut reversed = MIXED;
     reversed.reverse();
@@ -661,9 +782,9 @@ fn list_with_a_field_out_of_range() {
     for (place, own) in MIXED.into_iter().enumerate() {
         for byte in 0..=255 {
             let told = format!("byte {byte} at {place}");
-            let lower = if own == 2 || byte <= 2 { DONE } else { BAD_FIELD };
+            let lower = if own == 2 || byte <= if own == 0 { 2 } else { 1 } { DONE } else { BAD_FIELD };
             assert_eq!(tick_call(&mut net.clone(), &with(&good, place, POWER, byte)), lower, "{told}");
-            let upper = if own == 0 || byte <= 15 { DONE } else { BAD_FIELD };
+            let upper = if own != 2 || byte <= 15 { DONE } else { BAD_FIELD };
             assert_eq!(tick_call(&mut net.clone(), &with(&good, place, INPUTS_HIGH, byte)), upper, "{told}");
         }
         for at in INPUTS_HIGH + 1..SAMPLE_LEN {
@@ -677,16 +798,18 @@ fn list_with_a_field_out_of_range() {
 
 #[test]
 fn another_type_anywhere_comes_before_a_field_anywhere() {
-    let net = chain(&MIXED);
-    let good = list(&MIXED);
-    for field in 0..MIXED.len() {
-        let bad_field = with_bad_field(&good, &MIXED, field);
-        assert_eq!(tick_call(&mut net.clone(), &bad_field), BAD_FIELD, "field at {field}");
-        for of_type in 0..MIXED.len() {
-            for byte in [2 - MIXED[of_type], 7] {
-                let both = with(&bad_field, of_type, TYPE, byte);
-                let told = format!("field at {field}, type {byte} at {of_type}");
-                assert_eq!(tick_call(&mut net.clone(), &both), BAD_PLACE, "{told}");
+    for types in [&MIXED[..], &MIXED_OTHERWISE] {
+        let net = chain(types);
+        let good = list(types);
+        for field in 0..types.len() {
+            let bad_field = with_bad_field(&good, types, field);
+            assert_eq!(tick_call(&mut net.clone(), &bad_field), BAD_FIELD, "field at {field}");
+            for (of_type, own) in types.iter().enumerate() {
+                for byte in others(*own).chain([7]) {
+                    let both = with(&bad_field, of_type, TYPE, byte);
+                    let told = format!("field at {field}, type {byte} at {of_type}");
+                    assert_eq!(tick_call(&mut net.clone(), &both), BAD_PLACE, "{told}");
+                }
             }
         }
     }
@@ -694,13 +817,13 @@ fn another_type_anywhere_comes_before_a_field_anywhere() {
 
 #[test]
 fn bytes_of_a_list_that_nobody_looks_at() {
-    for types in [&[0][..], &MIXED, &[0; 32]] {
+    for types in [&[0][..], &[3], &MIXED, &[0; 32], &[3; 32]] {
         let net = chain(types);
         let good = list(types);
         let mut expected = net.clone();
         assert_eq!(tick_call(&mut expected, &good), DONE);
-        for place in (0..types.len()).filter(|place| types[*place] == 0) {
-            for at in 7..SAMPLE_LEN {
+        for place in (0..types.len()).filter(|place| types[*place] != 2) {
+            for at in if types[place] == 0 { 7 } else { 2 }..SAMPLE_LEN {
                 for byte in [1, 2, 0x80, 0xFF] {
                     let mut ticked = net.clone();
                     assert_eq!(tick_call(&mut ticked, &with(&good, place, at, byte)), DONE);
@@ -760,11 +883,13 @@ fn reply(length: usize) -> Vec<u8> {
 
 #[test]
 fn replies_of_a_type_that_nobody_has() {
-    for module_type in [1, 3, 4, 255, 256, 258, 1 << 16, u32::MAX] {
+    for module_type in [1, 4, 255, 256, 258, 259, 1 << 16, u32::MAX] {
         assert_eq!(read_call(module_type, 0, &reply(2)), BAD_TYPE, "type {module_type}");
+        assert_eq!(read_call(module_type, 0xFF, &[]), BAD_TYPE, "type {module_type}");
     }
-    assert_eq!(read_call(0, 0, &reply(2)), DONE);
-    assert_eq!(read_call(2, 0, &reply(2)), DONE);
+    for module_type in TYPES {
+        assert_eq!(read_call(module_type.into(), 0, &reply(2)), DONE);
+    }
 }
 
 #[test]
@@ -784,15 +909,33 @@ fn replies_of_another_length() {
 }
 
 #[test]
+fn replies_with_items_that_a_stepper_has_not() {
+    for items in 0..=255u8 {
+        let right = 2 + usize::from(items & 0x01) * 4 + usize::from(items >> 5 & 1) * 2;
+        let number = if items & !0x21 == 0 { DONE } else { BAD_LENGTH };
+        assert_eq!(read_call(3, items, &reply(right)), number, "items {items:02X}");
+        // whatever the length, also one that other items would have
+        for length in (1..=40).filter(|length| *length != right) {
+            assert_eq!(read_call(3, items, &reply(length)), BAD_LENGTH, "items {items:02X}, {length} bytes");
+        }
+        assert_eq!(read_call(3, items, &[]), BAD_LENGTH, "items {items:02X}");
+        let mut wrong_sum = reply(right);
+        wrong_sum[right - 1] ^= 1;
+        let number = if items & !0x21 == 0 { BAD_SUM } else { BAD_LENGTH };
+        assert_eq!(read_call(3, items, &wrong_sum), number, "items {items:02X}");
+    }
+}
+
+#[test]
 fn replies_with_a_wrong_sum() {
-    for module_type in [0, 2] {
-        let good = reply(19);
-        assert_eq!(read_call(module_type, 0xFF, &good), DONE);
-        for at in 0..19 {
+    for (module_type, items, length) in [(0, 0xFF, 19), (2, 0xFF, 19), (3, 0x21, 8)] {
+        let good = reply(length);
+        assert_eq!(read_call(module_type, items, &good), DONE);
+        for at in 0..length {
             for change in [1, 0x80, 0xFF] {
                 let mut bad = good.clone();
                 bad[at] ^= change;
-                assert_eq!(read_call(module_type, 0xFF, &bad), BAD_SUM, "byte {at}");
+                assert_eq!(read_call(module_type, items, &bad), BAD_SUM, "byte {at}");
             }
         }
     }
@@ -826,13 +969,14 @@ fn outputs_and_cause_refusals_in_order() {
 #[test]
 fn tick_refusals_in_order() {
     let net = chain(&MIXED);
+    let last = MIXED.len() - 1;
     let mut spoiled = net.clone();
-    spoiled[slot(5) + CAUSE] = 6;
+    spoiled[slot(last) + CAUSE] = 6;
     let good = list(&MIXED);
     let short = |list: &[u8]| list[..list.len() - 1].to_vec();
     let field_first = with(&good, 0, POWER, 3);
-    let type_last = with(&good, 5, TYPE, 7);
-    let both = with(&field_first, 5, TYPE, 7);
+    let type_last = with(&good, last, TYPE, 7);
+    let both = with(&field_first, last, TYPE, 7);
     let lists = [
         (good.clone(), DONE),
         (Vec::new(), BAD_LIST),

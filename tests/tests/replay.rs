@@ -45,7 +45,7 @@ fn replay_of_standard_input(bytes: &[u8]) -> String {
 
 fn all_captures() -> Vec<(PathBuf, Capture)> {
     let texts = captures::with_extension("txt");
-    assert!(texts.len() >= 30, "only {} captures found", texts.len());
+    assert!(texts.len() >= 80, "only {} captures found", texts.len());
     let parsed = texts.into_iter().map(|path| {
         let text = fs::read_to_string(&path).expect("a readable text");
         let capture = captures::parse(&text).unwrap_or_else(|told| panic!("{}: {told}", path.display()));
@@ -217,10 +217,29 @@ fn program_with_two_names_says_how_it_is_used() {
 
 /// A command that a module of this type knows, with data that it can often take.
 fn command(dice: &mut Dice, module_type: u8) -> (u8, Vec<u8>) {
-    if module_type == 2 {
-        let (code, count) = dice.pick(&[(0, 2), (2, 1), (3, 1), (5, 0), (6, 2), (7, 4), (12, 0), (14, 0)]);
-        return (code, dice.bytes(count));
+    match module_type {
+        0 => servo_command(dice),
+        2 => {
+            let (code, count) = dice.pick(&[(0, 2), (2, 1), (3, 1), (5, 0), (6, 2), (7, 4), (12, 0), (14, 0)]);
+            (code, dice.bytes(count))
+        }
+        _ => stepper_command(dice),
     }
+}
+
+fn stepper_command(dice: &mut Dice) -> (u8, Vec<u8>) {
+    let code = dice.pick(&[2, 3, 3, 4, 4, 4, 5, 5, 6, 7, 7, 14]);
+    let data = match code {
+        2 | 3 => vec![dice.pick(&[0x00, 0x01, 0x20, 0x21, 0x21, 0xFF])],
+        4 => vec![dice.pick(&[0x06, 0x16, 0x86, 0x96]), 1 + dice.below(20) as u8, 1 + dice.below(3) as u8],
+        6 => vec![0, dice.below(8) as u8, 0, 0, 0],
+        7 => vec![dice.pick(&[0, 1, 4, 8, 9, 9, 12])],
+        _ => Vec::new(),
+    };
+    (code, data)
+}
+
+fn servo_command(dice: &mut Dice) -> (u8, Vec<u8>) {
     let low = |dice: &mut Dice| u32::from(dice.byte()).to_le_bytes();
     let code = dice.pick(&[0, 2, 3, 4, 4, 4, 5, 5, 6, 7, 11, 11, 14]);
     let data = match code {
@@ -244,9 +263,20 @@ fn command(dice: &mut Dice, module_type: u8) -> (u8, Vec<u8>) {
     (code, data)
 }
 
-/// A long capture: a chain addressed, then frames, samples and ticks.
+/// A good sample: a motor that hardly moves, mostly with power; any inputs; mostly no stop input.
+fn sample_record(dice: &mut Dice, place: u8, module_type: u8) -> Vec<u8> {
+    match module_type {
+        0 => vec![2, place, dice.pick(&[0, 1, 1, 1, 1, 2]), dice.byte(), dice.byte(), 0, 0, 0],
+        2 => [vec![3, place, dice.byte(), dice.byte() & 15], dice.bytes(7)].concat(),
+        _ => vec![5, place, u8::from(dice.percent(15))],
+    }
+}
+
+/// A long capture: a chain of all types addressed, then frames, samples and ticks.
 fn long_capture(dice: &mut Dice, records: usize) -> Vec<u8> {
-    let types: Vec<u8> = (0..1 + dice.below(6)).map(|_| dice.pick(&[0, 2])).collect();
+    let mut types = vec![0, 2, 3];
+    types.rotate_left(dice.below(3));
+    types.extend((0..dice.below(4)).map(|_| dice.pick(&[0, 2, 3])));
     let modules = types.len();
     let mut file = Vec::new();
     for module_type in &types {
@@ -265,13 +295,7 @@ fn long_capture(dice: &mut Dice, records: usize) -> Vec<u8> {
             0 => file.push(4),
             1 => {
                 let place = dice.below(modules);
-                if types[place] == 0 {
-                    // a motor that hardly moves, mostly with power
-                    file.extend([2, place as u8, dice.pick(&[0, 1, 1, 1, 1, 2]), dice.byte(), dice.byte(), 0, 0, 0]);
-                } else {
-                    file.extend([3, place as u8, dice.byte(), dice.byte() & 15]);
-                    file.extend(dice.bytes(7));
-                }
+                file.extend(sample_record(dice, place as u8, types[place]));
             }
             _ => {
                 let place = dice.below(modules);

@@ -15,7 +15,7 @@ use Rattle.base_layout.specs.Every.{every}
 use Rattle.base_layout.specs.First.{here, later}
 use Rattle.base_layout.proofs.First.{none-first}
 use Rattle.module_rules.specs.Slots.{measuredAt}
-use Rattle.types_rules.specs.Table.{ModuleType, servo, inout, rulesOf, sampleOf}
+use Rattle.types_rules.specs.Table.{ModuleType, servo, inout, stepper, rulesOf, sampleOf}
 use Rattle.types_rules.specs.Types.{Module, AnySample, kind, slots, inRange}
 use Rattle.types_rules.proofs.Dispatch.{type-at}
 use Rattle.types_rules.proofs.Sampled.{own-tick}
@@ -78,6 +78,9 @@ module _ (samples : List ℕ) (i : ℕ) where
   inout-test : getD samples (10 * i) 0 ≡ 2 → inRange ten ≡ leb (getD samples (10 * i + 2) 0) 15
   inout-test e = tested inout e ∙ ap (λ (n : ℕ). leb n 15) (byte-of 2 (omega arith))
 
+  stepper-test : getD samples (10 * i) 0 ≡ 3 → inRange ten ≡ leb (getD samples (10 * i + 1) 0) 1
+  stepper-test e = tested stepper e ∙ ap (λ (n : ℕ). leb n 1) (byte-of 1 (omega arith))
+
 module _ (net samples : List ℕ) (b : Bytes samples) where
   abbrev chain : List Module
   chain = netIn slots net .modules
@@ -94,6 +97,10 @@ module _ (net samples : List ℕ) (b : Bytes samples) where
       let low = b (10 * i + 1) in
       let two : 10 * i + 1 + 1 ≡ 10 * i + 2 = omega arith in
       let high : getD samples (10 * i + 1 + 1) 0 ≡ getD samples (10 * i + 2) 0 = ap (λ (n : ℕ). getD samples n 0) two in
+      omega arith
+  far-fails i t (Far.stop m e h) a =
+      let r = range-each (length chain) samples a i (some-below chain i _ e) in
+      let p = leb-true (getD samples (10 * i + 1) 0) 1 (sym (stepper-test samples i (t _ e)) ∙ r) in
       omega arith
 
   -- and one in range stands it
@@ -117,6 +124,11 @@ module _ (net samples : List ℕ) (b : Bytes samples) where
               let two : 10 * i + 1 + 1 ≡ 10 * i + 2 = omega arith in
               let high : getD samples (10 * i + 1 + 1) 0 ≡ getD samples (10 * i + 2) 0 = ap (λ (n : ℕ). getD samples n 0) two in
               absurd (n (Far.inputs m e (omega arith)))
+      by (some (stepper, m)) e z = stepper-test samples i (t _ e) ∙ at (leb (getD samples (10 * i + 1) 0) 1) refl
+        where
+          at : (a : Bool) → leb (getD samples (10 * i + 1) 0) 1 ≡ a → a ≡ true
+          at true q = refl
+          at false q = absurd (n (Far.stop m e (leb-false _ 1 q)))
 
 pub tick-bounds : TickBounds
 tick-bounds net samples b v = record {

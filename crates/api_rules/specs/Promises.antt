@@ -112,11 +112,12 @@ readOf status items numbers = record { number = 0; reading = record { status = s
 abbrev pub moduleRead : (t : ModuleType) → Frame → Of t → Answered
 moduleRead t f m = readOf (rulesOf t .status m) (itemsFor f (rulesOf t .station m)) (rulesOf t .numbers m)
 
--- The status reader takes apart whatever a module of any type replies: of the record after the frame, and so on the line, of the record before
--- it.
+-- The status reader takes apart whatever a module of any type replies: of the record after the frame, with items that the type has, and so on the
+-- line, of the record before it, whatever the frame is.
 pub record StatusRead : Type 0 where
   pub after : (t : ModuleType) (f : Frame) (m : Of t)
       → slotsOf t .fits m
+      → rulesOf t .shows (itemsFor f (rulesOf t .station m)) ≡ true
       → (reply (rulesOf t) f m ≡ [] → ⊥)
       → statusOf (rulesOf t .number) (itemsFor f (rulesOf t .station m)) (reply (rulesOf t) f m) ≡ moduleRead t f m
   pub before : (t : ModuleType) (f : Frame) (m : Of t)

@@ -10,7 +10,7 @@ use lib.Dec.{eqb}
 use Rattle.base_layout.specs.Bytes.{ofLe, readAt, Bytes}
 use Rattle.line_receiver.specs.Receive.{taken}
 use Rattle.line_receiver.specs.Promises.{Numbered}
-use Rattle.types_rules.specs.Table.{servo, inout, Of}
+use Rattle.types_rules.specs.Table.{servo, inout, stepper, Of}
 use Rattle.types_rules.specs.Types.{Module, slots, typeOf}
 use Rattle.types_rules.specs.Promises.{ThereIs}
 use Rattle.net_rules.specs.Record.{netIn, valid}
@@ -37,7 +37,7 @@ pub record Sixteen (net : List ℕ) : Type 0 where
 abbrev pub BadRecord : Type 0
 BadRecord = (net : List ℕ) → Sixteen net
 
--- 01 Numbers given back, setup: 4,116 bytes, else 16; 1 to 32 modules, else 11; all of types 0 and 2, else 12.
+-- 01 Numbers given back, setup: 4,116 bytes, else 16; 1 to 32 modules, else 11; all of types 0, 2 and 3, else 12.
 pub record SetUp (net types : List ℕ) : Type 0 where
   pub done : length net ≡ 4116
       → 1 ≤ length types
@@ -67,10 +67,12 @@ pub record LineByte (net : List ℕ) (mark : ℕ) (room : List ℕ) : Type 0 whe
 abbrev pub ByteBounds : Type 0
 ByteBounds = (net : List ℕ) (mark : ℕ) (room : List ℕ) → valid slots net ≡ true → LineByte net mark room
 
--- a field out of range at place i of a tick's list: a servo's power above 2, an I/O module's input bits above 4,095
+-- a field out of range at place i of a tick's list: a servo's power above 2, an I/O module's input bits above 4,095, a step-motor module's stop input
+-- above 1
 pub data Far (net samples : List ℕ) (i : ℕ) : Type 0 where
   power : (m : Of servo) → standsAt net i ≡ some (servo, m) → 3 ≤ getD samples (10 * i + 1) 0 → Far net samples i
   inputs : (m : Of inout) → standsAt net i ≡ some (inout, m) → 4096 ≤ ofLe (readAt 2 (10 * i + 1) samples) → Far net samples i
+  stop : (m : Of stepper) → standsAt net i ≡ some (stepper, m) → 2 ≤ getD samples (10 * i + 1) 0 → Far net samples i
 
 -- at place i of a tick's list the number of the module's type stands first
 abbrev pub TypedAt : List ℕ → List ℕ → ℕ → Type 0

@@ -1,9 +1,9 @@
 // Whole numbers with a sign, each in an `i64`, and 32-bit numbers that stand for them; the bits of a byte.
 ghost use mathlib.Core.Path.{_≡_};
 ghost use Prim.Native.Nat.{_<_, _^_};
-ghost use lib.Dec.{leb, eqb};
+ghost use lib.Dec.{leb};
 ghost use lib.IntN.{natAbs};
-ghost use Rattle.base_integers.specs.Bits.{bit};
+ghost use Rattle.base_integers.specs.Bits.{isSet};
 ghost use Rattle.base_integers.specs.Whole.{same, less, signed, word, difference};
 
 // z without its sign.
@@ -66,7 +66,7 @@ pub fn difference(x: u32, y: u32) -> i64
 // Whether bit k of a byte is set.
 pub fn is_set(k: u8, b: u8) -> bool
     requires { ⌜ k < 8 ⌝ }
-    ensures { λ r. ⌜ r ≡ eqb (bit k b) 1 ⌝ }
+    ensures { λ r. ⌜ r ≡ isSet k b ⌝ }
 {
     (b >> k) % 2 == 1
 }

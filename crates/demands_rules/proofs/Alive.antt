@@ -30,7 +30,15 @@ use Rattle.servo_rules.specs.Tick as Tick
 use Rattle.servo_rules.specs.Tick.{putOut, pulsed, ran}
 use Rattle.servo_rules.specs.Answers as Servos
 use Rattle.servo_rules.specs.Answers.{done, statusOf, numbersOf, outputsFrom}
-use Rattle.types_rules.specs.Table.{servo, inout}
+use Rattle.stepper_rules.specs.Carried as Stepped
+use Rattle.stepper_rules.specs.Asks as StepperAsks
+use Rattle.stepper_rules.specs.Asks.{parametersMeant}
+use Rattle.stepper_rules.specs.Ramp as Ramp
+use Rattle.stepper_rules.specs.Ramp.{changed, onward, moved}
+use Rattle.stepper_rules.specs.Perform as Steps
+use Rattle.stepper_rules.specs.Perform.{parametersSet}
+use Rattle.stepper_rules.specs.Answers as Steppers
+use Rattle.types_rules.specs.Table.{servo, inout, stepper}
 use Rattle.types_rules.specs.Types.{Module, AnySample, kind, slots}
 use Rattle.net_rules.specs.Record.{recordSize, roomSize, netIn}
 use Rattle.net_rules.specs.Calls.{byteOf, setUp, allTyped, allInRange}
@@ -46,9 +54,12 @@ use Rattle.demands_rules.proofs.Calls.{from-setup, any-calls}
 use Rattle.demands_rules.proofs.Order.{keeps-address, order-does-not-matter, order-of-all, by-calls, own-ticks}
 use Rattle.demands_rules.proofs.OnTheLine.{small, fed-handed, fed-two, fed-both}
 
--- a servo and an I/O module
+-- a servo and an I/O module, and a step-motor module behind them
 abbrev types : List ℕ
 types = Servos.typeNumber ∷ Inout.typeNumber ∷ []
+
+abbrev chain : List ℕ
+chain = types ++ Steppers.typeNumber ∷ []
 
 abbrev History : Type 0
 History = List (Event (List AnySample))
@@ -61,19 +72,26 @@ frame address code ds = sent (clean (written address code ds))
 abbrev measured : ℕ → List AnySample
 measured ad1 = (servo, record { raw = 5; power = 1; ad = 0 }) ∷ (inout, record { inputs = 0; ad1 = ad1; ad2 = 0; ad3 = 0; counter = 0 }) ∷ []
 
--- after setup the servo gets address 1 and the I/O module 2; the servo has good power, no error bit, output limit 255 and its amplifier on
+-- and a stop input of 0
+abbrev allMeasured : ℕ → List AnySample
+allMeasured ad1 = measured ad1 ++ (stepper, record { stop = false }) ∷ []
+
+-- after setup the servo gets address 1, the I/O module 2 and the step-motor module 3; the servo has good power, no error bit, output limit 255 and its
+-- amplifier on, the step-motor module a minimum of 5
 abbrev prepared : History
 prepared =
     frame 0 1 (1 ∷ 0xFF ∷ [])
     ∷ frame 0 1 (2 ∷ 0xFF ∷ [])
-    ∷ ticked (measured 0)
+    ∷ frame 0 1 (3 ∷ 0xFF ∷ [])
+    ∷ ticked (allMeasured 0)
     ∷ frame 1 11 []
     ∷ frame 1 6 (0 ∷ 0 ∷ 0 ∷ 0 ∷ 0 ∷ 0 ∷ 0 ∷ 0 ∷ 255 ∷ 0 ∷ 0 ∷ 0 ∷ 1 ∷ 0 ∷ 1 ∷ [])
     ∷ frame 1 7 (1 ∷ [])
+    ∷ frame 3 6 (0 ∷ 5 ∷ 0 ∷ 0 ∷ 0 ∷ [])
     ∷ []
 
 unfoldable pub ready : Net Module
-ready = run kind prepared (setUp types) .net
+ready = run kind prepared (setUp chain) .net
 
 -- for the servo: a load of PWM 100, a Hard Reset of which a byte is marked, a start
 abbrev toServo : History
@@ -86,12 +104,19 @@ toInout =
     ∷ frame 2 6 (0x34 ∷ 0x02 ∷ [])
     ∷ []
 
--- each is asked: the servo for its position, the I/O module for its bits and the first A/D value
+-- for the step-motor module: a load of speed 6 with T 1, and its start
+abbrev toStepper : History
+toStepper = frame 3 4 (0x06 ∷ 6 ∷ 1 ∷ []) ∷ frame 3 5 [] ∷ []
+
+-- each is asked: the servo for its position, the I/O module for its bits and the first A/D value, the step-motor module for its position
 abbrev askServo : Event (List AnySample)
 askServo = frame 1 3 (1 ∷ [])
 
 abbrev askInout : Event (List AnySample)
 askInout = frame 2 3 (3 ∷ [])
+
+abbrev askStepper : Event (List AnySample)
+askStepper = frame 3 3 (1 ∷ [])
 
 -- two lists, by turns
 abbrev turns : History → History → History
@@ -99,12 +124,12 @@ turns [] h = h
 turns (e ∷ g) [] = e ∷ g
 turns (e ∷ g) (d ∷ h) = e ∷ d ∷ turns g h
 
--- the servo first and then the I/O module; and by turns, the I/O module first
+-- the servo first, then the I/O module and the step-motor module; and this one first, then the others by turns, the I/O module first
 abbrev oneByOne : History
-oneByOne = toServo ++ toInout ++ ticked (measured 77) ∷ askServo ∷ askInout ∷ []
+oneByOne = toServo ++ toInout ++ toStepper ++ ticked (allMeasured 77) ∷ askServo ∷ askInout ∷ askStepper ∷ []
 
 abbrev inTurns : History
-inTurns = turns toInout toServo ++ ticked (measured 77) ∷ askInout ∷ askServo ∷ []
+inTurns = toStepper ++ turns toInout toServo ++ ticked (allMeasured 77) ∷ askInout ∷ askStepper ∷ askServo ∷ []
 
 -- ---- what they come to
 
@@ -115,26 +140,30 @@ firstAddress (sent (a ∷ []) ∷ h) = 0
 firstAddress (sent (a ∷ b ∷ bs) ∷ h) = b .value
 firstAddress (ticked xs ∷ h) = 0
 
--- the addresses of the ready network, computed once
+-- the addresses of the first two places, and of the ready network, computed once
 ws : List Address
 ws =
     record { individual = 1; group = 255; leader = false; low = true }
     ∷ record { individual = 2; group = 255; leader = false; low = true }
     ∷ []
 
+wsAll : List Address
+wsAll = ws ++ record { individual = 3; group = 255; leader = false; low = true } ∷ []
+
 idles : ready .receiver ≡ idle
 unfolding ready taken byteStep
 idles = refl
 
-ready-addresses : addresses kind (ready .modules) ≡ ws
-unfolding ws ready taken byteStep asked request execute own Tick.ticked gainMeant gainsFit gainsIn stopMeant ones haltOf stopped
+ready-addresses : addresses kind (ready .modules) ≡ wsAll
+unfolding wsAll ws ready taken byteStep asked request execute own StepperAsks.own parametersMeant parametersSet Ramp.ticked Tick.ticked gainMeant gainsFit gainsIn stopMeant ones haltOf stopped
 ready-addresses = refl
 
-met-by : (i : ℕ) → metBy ws i oneByOne ≡ metBy ws i inTurns
-unfolding ws reads taken
+met-by : (i : ℕ) → metBy wsAll i oneByOne ≡ metBy wsAll i inTurns
+unfolding wsAll ws reads taken
 met-by zero = refl
 met-by (suc zero) = refl
-met-by (suc (suc i)) = refl
+met-by (suc (suc zero)) = refl
+met-by (suc (suc (suc i))) = refl
 
 meet-the-same : (i : ℕ) → MeetsTheSame kind ready oneByOne inTurns i
 meet-the-same i = rw ready-addresses (met-by i)
@@ -163,23 +192,35 @@ to-inout = (
   ),
 )
 
+to-stepper : Ordinary (toStepper ++ askStepper ∷ [])
+unfolding reads taken
+to-stepper = (
+  (_, refl, inr (λ e. omega arith, λ e. omega arith)),
+  (
+    (_, refl, inr (λ e. omega arith, λ e. omega arith)),
+    ((_, refl, inr (λ e. omega arith, λ e. omega arith)), tt),
+  ),
+)
+
 one-by-one : Ordinary oneByOne
 one-by-one =
     let (a, (b, (c, (d, t)))) = to-servo in
     let (x, (y, (z, u))) = to-inout in
-    (a, (b, (c, (x, (y, (d, (z, tt)))))))
+    let (p, (q, (r, v))) = to-stepper in
+    (a, (b, (c, (x, (y, (p, (q, (d, (z, (r, tt))))))))))
 
 in-turns : Ordinary inTurns
 in-turns =
     let (a, (b, (c, (d, t)))) = to-servo in
     let (x, (y, (z, u))) = to-inout in
-    (x, (a, (y, (b, (c, (z, (d, tt)))))))
+    let (p, (q, (r, v))) = to-stepper in
+    (p, (q, (x, (a, (y, (b, (c, (z, (r, (d, tt))))))))))
 
 lives : Lives (run kind oneByOne ready) × Lives (run kind inTurns ready)
-unfolding ready taken byteStep asked request execute reply replyOf report InoutAsks.own blend own gainMeant gainsFit gainsIn stopMeant haltOf loadMeant ones inRange carriedIn loaded loadOf wayOf complete startable signedBy start idled stopped held putOut pulsed ran Tick.ticked done statusOf numbersOf outputsFrom
+unfolding ready taken byteStep asked request execute reply replyOf report StepperAsks.own StepperAsks.loadMeant parametersMeant Stepped.carriedIn Stepped.inRange Steps.loaded Steps.storing Steps.loadOf Steps.startable Steps.begun Steps.start parametersSet Ramp.ticked onward changed moved InoutAsks.own blend own gainMeant gainsFit gainsIn stopMeant haltOf loadMeant ones inRange carriedIn loaded loadOf wayOf complete startable signedBy start idled stopped held putOut pulsed ran Tick.ticked done statusOf numbersOf outputsFrom
 lives = (
-  record { servoDrives = refl; inoutDrives = refl; servoReplied = refl; inoutReplied = refl },
-  record { servoDrives = refl; inoutDrives = refl; servoReplied = refl; inoutReplied = refl },
+  record { servoDrives = refl; inoutDrives = refl; stepperDrives = refl; servoReplied = refl; inoutReplied = refl; stepperReplied = refl },
+  record { servoDrives = refl; inoutDrives = refl; stepperDrives = refl; servoReplied = refl; inoutReplied = refl; stepperReplied = refl },
 )
 
 pub alive : Alive ready oneByOne inTurns
@@ -187,7 +228,7 @@ unfolding firstAddress
 alive = record {
   first = lives .0;
   second = lives .1;
-  differ = λ e. let z : _≡_ {A = ℕ} 1 2 = ap firstAddress e in omega arith;
+  differ = λ e. let z : _≡_ {A = ℕ} 1 3 = ap firstAddress e in omega arith;
   idles = idles;
   ordinary = (one-by-one, in-turns);
   meetTheSame = meet-the-same;
@@ -291,6 +332,7 @@ holds-lent = from-setup zeros types refl .1
 latchedAd : Option Module → ℕ
 latchedAd none = 0
 latchedAd (some (servo, m)) = 0
+latchedAd (some (stepper, m)) = 0
 latchedAd (some (inout, m)) = m .latched .ad1
 
 other-ad : getElem? (run kind (ticked (measured 77) ∷ []) (setUp types) .net .modules) 1 ≡ getElem? (run kind (ticked (measured 78) ∷ []) (setUp types) .net .modules) 1 → ⊥

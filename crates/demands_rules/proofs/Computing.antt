@@ -16,7 +16,7 @@ use Rattle.line_receiver.specs.declared.Answer.the-variants.{Ended, Nothing}
 use Rattle.line_receiver.specs.Receive.{taken}
 use Rattle.line_receiver.specs.Frames.{Byte, Frame, frameIn, values, AreBytes}
 use Rattle.chain_rules.specs.Chain.{Net}
-use Rattle.types_rules.specs.Table.{servo, inout}
+use Rattle.types_rules.specs.Table.{servo}
 use Rattle.types_rules.specs.Types.{Module, kind, slots}
 use Rattle.net_rules.specs.Record.{roomSize, netIn}
 use Rattle.net_rules.specs.Calls.{allTyped, allInRange}
@@ -28,7 +28,7 @@ use Rattle.demands_history_rules.specs.Events.{event}
 use Rattle.demands_history_rules.specs.Calls.{Call, byte, tick, Handed, AllHanded, refusals, leaves, leftBy, does}
 use Rattle.demands_history_rules.proofs.Calls.{call-kept, passed-leaves}
 use Rattle.demands_rules.specs.Quickest.{ticksOf, ticksIn}
-use Rattle.demands_rules.proofs.Types.{types, call-types}
+use Rattle.demands_rules.proofs.Types.{typeOf, types, call-types, of-type}
 use Rattle.demands_rules.proofs.OnTheLine.{small, byte-goes}
 
 -- a servo alone on the line
@@ -68,8 +68,9 @@ tick-goes power h net v one =
   where
     alone : (ms : List Module) → types ms ≡ servo ∷ [] → (length ms ≡ 1) × (allTyped ms (atPower power) ≡ true)
     alone [] e = let z : _≡_ {A = Bool} true false = cc in absurd (true≢false z)
-    alone ((servo, m) ∷ []) e = (refl, refl)
-    alone ((inout, m) ∷ []) e = let z : _≡_ {A = Bool} true false = cc in absurd (true≢false z)
+    alone (m ∷ []) e =
+        let z : typeOf m ≡ servo = cc in
+        (refl, ap (λ (m : Module). allTyped (m ∷ []) (atPower power)) (of-type servo m z .1))
     alone (m ∷ k ∷ ms) e = let z : _≡_ {A = Bool} true false = cc in absurd (true≢false z)
 
     fair : allInRange 1 (atPower power) ≡ true

@@ -38,13 +38,14 @@ use Rattle.api_rules.proofs.TickBounds.{own-ten}
 use Rattle.api_rules.proofs.Kept.{kept}
 use Rattle.demands_history_rules.specs.Calls.{Call, byte, tick, AllHanded, leaves, leftBy}
 use Rattle.demands_history_rules.proofs.Calls.{call-kept}
-use Rattle.demands_rules.specs.Motion.{AtRest, At}
-use Rattle.demands_rules.specs.Place.{servoSampleAt, after, Stands, Executed}
+use Rattle.demands_rules.specs.Motion.{AtRest}
+use Rattle.demands_rules.specs.Place.{after}
+use Rattle.demands_rules.specs.ServoPlace.{At, servoSampleAt, Stands, Executed}
 use Rattle.demands_rules.specs.Dip.{ComesBack, OffUntilStarted, LastSwitch, Switched, notYet, byStop, byReset, LineOf, EnabledWasSent}
 use Rattle.demands_rules.proofs.Motion.{resting-rests}
 use Rattle.demands_rules.proofs.Making.{same, framed, timed, set-up-is}
 use Rattle.demands_rules.proofs.Placing.{stood-before, untouched, Only, executed-by, calm, Carries, carried, carried-on}
-use Rattle.demands_rules.proofs.Sending.{none-on, none-yet}
+use Rattle.demands_rules.proofs.Since.{none-on, none-yet}
 use Rattle.demands_rules.proofs.EveryCall.{never}
 
 -- ---- what frames keep but for those such as Q that are executed, and ticks always, is kept through calls with none such
@@ -53,15 +54,15 @@ pub record Lasts (Q : Frame → Type 0) (P : Servo → Type 0) : Type 0 where
   pub tick : (x : Sample) (m : Servo) → P m → P (ticked x m)
 
 module _ (Q : Frame → Type 0) (P : Servo → Type 0) (l : Lasts Q P) (net : List ℕ) (cs : List Call) (i : ℕ) where
-  lasts-on : ((j : ℕ) (f : Frame) → Executed net cs i j f → Q f → ⊥) → Carries net cs i (λ n k. P k)
+  lasts-on : ((j : ℕ) (f : Frame) → Executed net cs i j f → Q f → ⊥) → Carries servo net cs i (λ n k. P k)
   lasts-on u n _ m _ g w st (same c _ _) st′ o p = p
   lasts-on u n _ m k g w st (framed mark x room d goes a t) st′ o p =
-      l .frame (frameIn (netIn slots (after net cs i n) .receiver) d) _ m p (calm net cs i n mark x room Q d k g goes t a o (u n))
+      l .frame (frameIn (netIn slots (after net cs i n) .receiver) d) _ m p (calm servo net cs i n mark x room Q d k g goes t a o (u n))
   lasts-on u n _ m _ g w st (timed samples _ _) st′ o p = l .tick (servoSampleAt samples i) m p
 
   pub lasts : (m k : Servo) → ValidRecord net → AllHanded cs → At net i m → At (leftBy cs net) i k
       → ((j : ℕ) (f : Frame) → Executed net cs i j f → Q f → ⊥) → P m → P k
-  lasts m k v h e q u p = carried-on net cs i (λ n k. P k) v h (lasts-on u) m e p k q
+  lasts m k v h e q u p = carried-on servo net cs i (λ n k. P k) v h (lasts-on u) m e p k q
 
 -- ---- the amplifier bit
 
@@ -115,7 +116,7 @@ module _ (net : List ℕ) (cs : List Call) (i : ℕ) where
   -- nothing is switched by call n
   module _ (n : ℕ) (u : (f : Frame) → Executed net cs i n f → Switches f → ⊥) where
     last-on : (j : ℕ) (f : Frame) → LastSwitch net cs i n j f → LastSwitch net cs i (suc n) j f
-    last-on j f s = record { earlier = omega (arith, s .earlier); executed = s .executed; last = none-on net cs i Switches j n (s .last) u }
+    last-on j f s = record { earlier = omega (arith, s .earlier); executed = s .executed; last = none-on servo net cs i Switches j n (s .last) u }
 
     quiet : (a : Bool) → Switched net cs i n a → Switched net cs i (suc n) a
     quiet _ (byStop j f s c) = byStop j f (last-on j f s) c
@@ -145,7 +146,7 @@ module _ (net : List ℕ) (cs : List Call) (i : ℕ) where
     done-tells z x c p = at (eqb (f .code) 7) refl (eqb (f .code) 15) refl
       where
         now : LastSwitch net cs i (suc n) n f
-        now = record { earlier = le-refl (suc n); executed = x; last = none-yet net cs i Switches n }
+        now = record { earlier = le-refl (suc n); executed = x; last = none-yet servo net cs i Switches n }
 
         only-one : (g : Frame) → Executed net cs i n g → g ≡ f
         only-one g y = y .met .frame ∙ ap (frameIn (netIn slots (after net cs i n) .receiver)) (y .undamaged ∙ sym z)
@@ -165,7 +166,7 @@ module _ (net : List ℕ) (cs : List Call) (i : ℕ) where
       → getElem? cs n ≡ some (byte mark value room) → Passes (byteTable (after net cs i n) mark room)
       → touched true (netIn slots (after net cs i n) .receiver .address) (addresses kind (netIn slots (after net cs i n) .modules)) i ≡ true
       → taken (netIn slots (after net cs i n) .receiver) value (eqb mark 1) .answer ≡ Ended d
-      → Stands net cs i (suc n) (k n d alone m) → Only net cs i (suc n) (k n d alone m)
+      → Stands net cs i (suc n) (k n d alone m) → Only servo net cs i (suc n) (k n d alone m)
       → Tells n m → Tells (suc n) (k n d alone m)
   framed-tells n mark value room true alone m call goes t a st o p =
       let e = every-type servo .cause (f n true alone m) alone m .damaged refl in
@@ -175,12 +176,12 @@ module _ (net : List ℕ) (cs : List Call) (i : ℕ) where
       at : (b : Bool) → eqb (k n false alone m .station .cause) 0 ≡ b → Tells (suc n) (k n false alone m)
       at true e =
           let c = eqb-true _ 0 e in
-          done-tells n false alone m refl (executed-by net cs i n mark value room call goes t a _ o c) c p
+          done-tells n false alone m refl (executed-by servo net cs i n mark value room call goes t a _ o c) c p
       at false e =
           let c = eqb-false _ 0 e in
           kept-tells n false alone m (λ g x z. c (x .cause _ st)) (λ z c′. absurd (c c′)) p
 
-  switched-on : Carries net cs i Tells
+  switched-on : Carries servo net cs i Tells
   switched-on n _ m _ g w st (same c s _) st′ o p = quiet n (λ f x z. untouched net cs i n c g s f (x .met)) (m .run .drive .amplifier) p
   switched-on n _ m _ g w st (framed mark x room d goes a t) st′ o p = framed-tells n mark x room d _ m g goes t a st′ o p
   switched-on n _ m _ g w st (timed samples _ _) st′ o p =
@@ -198,7 +199,7 @@ pub enabled-was-sent : EnabledWasSent
 enabled-was-sent net types cs i n k p h l e =
     let r : List ℕ = setupRecord net types in
     let v : ValidRecord r = kept .setup net types p in
-    let (s, q) = stood-before r cs i n k v h l e in
+    let (s, q) = stood-before servo r cs i n k v h l e in
     let first : Switched r cs i 0 (s .run .drive .amplifier) =
-    subst (λ (s : Servo). Switched r cs i 0 (s .run .drive .amplifier)) (set-up-is net types i s p q) (notYet (λ j f l x z. omega arith)) in
-    (k .run .drive .amplifier, carried r cs i (Tells r cs i) v h (switched-on r cs i) s q first n l k e, line-of k)
+    subst (λ (s : Servo). Switched r cs i 0 (s .run .drive .amplifier)) (set-up-is servo net types i s p q) (notYet (λ j f l x z. omega arith)) in
+    (k .run .drive .amplifier, carried servo r cs i (Tells r cs i) v h (switched-on r cs i) s q first n l k e, line-of k)

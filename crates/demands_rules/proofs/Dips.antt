@@ -27,7 +27,7 @@ use Rattle.servo_rules.specs.Answers as Servos
 use Rattle.servo_rules.specs.Answers.{outputsFrom, enableLine}
 use Rattle.types_rules.specs.Types.{Module}
 use Rattle.demands_history_rules.specs.Calls.{Call, byte, tick, AllHanded, leftBy}
-use Rattle.demands_rules.specs.Motion.{At}
+use Rattle.demands_rules.specs.ServoPlace.{At}
 use Rattle.demands_rules.specs.Dip.{Switched, LineOf, Dips}
 use Rattle.demands_rules.proofs.Calls.{any-calls}
 use Rattle.demands_rules.proofs.OnTheLine.{small}

@@ -47,14 +47,16 @@ use Rattle.demands_history_rules.specs.Events as Events
 use Rattle.demands_history_rules.specs.Calls.{Call, byte, tick, AllHanded, refusals, leaves, leftBy, doneBy}
 use Rattle.demands_history_rules.proofs.Singly.{run-singly}
 use Rattle.demands_history_rules.proofs.Calls.{call-kept}
-use Rattle.demands_rules.specs.Motion.{Moves, AtRest, moving, bound, Begins, out, put, turnedOn, Starts, At, StartedBy}
+use Rattle.demands_rules.specs.Motion.{Moves, AtRest, moving, bound, Begins, out, put, turnedOn, Starts, StartedBy}
+use Rattle.demands_rules.specs.ServoPlace.{At}
 use Rattle.demands_rules.specs.Question.{short, fed}
 use Rattle.demands_rules.proofs.Calls.{from-setup, any-calls, done-passed}
 use Rattle.demands_rules.specs.Sent.{MoveSent, PulseSent, WasSent}
 use Rattle.demands_rules.proofs.Motion.{resting-rests, frame-starts}
 use Rattle.demands_rules.proofs.Sent.{what-moves-was-sent}
 use Rattle.demands_rules.proofs.EveryCall.{every-call, never}
-use Rattle.demands_rules.proofs.OnTheLine.{small, fed-handed, fed-done, question-on-the-line}
+use Rattle.demands_rules.proofs.OnTheLine.{small, fed-handed, fed-done}
+use Rattle.demands_rules.proofs.ServoQuestion.{question-on-the-line}
 use Rattle.demands_rules.proofs.Types.{types as typesOf}
 use Rattle.demands_rules.proofs.Computing.{Lone, atPower, tick-goes, power-bytes}
 

@@ -3,15 +3,18 @@ mod Reading
 mod Alike
 pub mod Calls
 pub mod Motion
-mod Making
-mod Placing
+pub mod Making
+pub mod Placing
 pub mod InTime
+pub mod Since
 mod Sending
 pub mod Sent
+pub mod SettingOut
 pub mod EveryCall
 pub mod Question
 pub mod Order
 pub mod OnTheLine
+pub mod ServoQuestion
 pub mod Dipping
 pub mod Winding
 pub mod Alive

@@ -38,6 +38,11 @@ use Rattle.servo_rules.proofs.Shown.{samples}
 use Rattle.servo_rules.proofs.Items.{items-are}
 use Rattle.servo_rules.proofs.GoingOn.{goes-on}
 use Rattle.servo_rules.proofs.Slowing.{no-frame-raises}
+use Rattle.stepper_rules.proofs.Frames.{told}
+use Rattle.stepper_rules.proofs.Doing.{obeys}
+use Rattle.stepper_rules.proofs.Loading.{loading}
+use Rattle.stepper_rules.proofs.Ramping.{climb, fall, slow-down}
+use Rattle.stepper_rules.proofs.Ticking.{never-past, ticking}
 use Rattle.types_rules.proofs.Promised.{every-type}
 use Rattle.servo_slot_rules.specs.Promises.{Fits}
 use Rattle.servo_slot_rules.proofs.Good.{InMode, good}
@@ -186,6 +191,14 @@ meaning = record {
   asTheBase = only-the-integral;
   largest = largest;
   reached = reached;
+  stepperLoads = loading;
+  stepperObeys = obeys;
+  stepperTells = told;
+  neverPast = never-past;
+  climb = climb;
+  fall = fall;
+  slowDown = slow-down;
+  stepperTicks = ticking;
   bytes = ofLe-le;
   numbers = le-ofLe;
 }

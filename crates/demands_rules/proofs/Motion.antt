@@ -51,7 +51,7 @@ use Rattle.servo_slot_rules.proofs.Good.{InMode, good}
 use Rattle.types_rules.specs.Table.{servo}
 use Rattle.types_rules.proofs.Promised.{every-type}
 use Rattle.demands_rules.specs.Motion.{Moves, Bound, AtRest, SetsOut, moving, bound, Begins, out, put, turnedOn, Asks, LoadStarts, byStart, byLoad, Starts, ofLoad, byStopHere, StartsAreExecuted}
-use Rattle.demands_rules.specs.Sent.{control}
+use Rattle.demands_rules.specs.Loaded.{control}
 use Rattle.demands_rules.proofs.Reading.{here-five}
 
 -- the servos that a slot can hold have counts within their bytes

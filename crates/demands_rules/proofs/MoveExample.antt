@@ -4,7 +4,7 @@ use mathlib.Core.Path.{_≡_, refl, sym, ap, subst, _∙_}
 use mathlib.Core.Logic.{_⊎_, inl, inr}
 use mathlib.Core.List.{List, [], _∷_, _++_}
 use mathlib.Core.Bool.{Bool, true, false, not, cond, _&&_, true≢false, false≢true}
-use mathlib.Core.Option.{Option, some, none}
+use mathlib.Core.Option.{Option, some, none, Option·map}
 use Prim.Native.Nat.{ℕ, _-_, _^_, _<_, _≤_}
 use native.Mathlib.Omega.{arith}
 use borrow.Author.Tests.{leb-true, ltb-true}
@@ -12,6 +12,7 @@ use lib.Count.{ones}
 use lib.IntN.{ℤ, pos, negsuc, natAbs}
 use lib.ListN.{length, getElem?}
 use lib.Dec.{eqb, leb, ltb}
+use Rattle.base_integers.specs.Bits.{isSet}
 use Rattle.base_integers.specs.Whole.{same, signed, difference}
 use Rattle.line_receiver.specs.Receive.{taken}
 use Rattle.line_receiver.specs.Frames.{Byte, Frame, clean, written, values, AreBytes}
@@ -25,14 +26,14 @@ use Rattle.servo_filter.specs.Filter.{held, drive, limited, filtered}
 use Rattle.servo_rules.specs.declared.Mode.the-variants.{Off, Velocity, Trapezoid}
 use Rattle.servo_rules.specs.declared.Sample.{Sample}
 use Rattle.servo_rules.specs.declared.Servo.{Servo}
-use Rattle.servo_rules.specs.Carried.{isSet, carriedIn, inRange}
+use Rattle.servo_rules.specs.Carried.{carriedIn, inRange}
 use Rattle.servo_rules.specs.Asks.{loadMeant, gainsIn, gainsFit, gainMeant, haltOf, stopMeant, own}
 use Rattle.servo_rules.specs.Loads.{wayOf, loadOf, ratesOf, loaded, beginningAt, movable, complete, startable, toPlace, start}
 use Rattle.servo_rules.specs.Perform.{stopped}
 use Rattle.servo_rules.specs.Tick.{advanced, servoed, ran, ticked}
 use Rattle.servo_rules.specs.TickPromises.{followed}
 use Rattle.servo_rules.proofs.Keeping.{distinct}
-use Rattle.types_rules.specs.Table.{servo, inout}
+use Rattle.types_rules.specs.Table.{ModuleType, servo, inout, stepper, Of}
 use Rattle.types_rules.specs.Types.{Module, kind, slots}
 use Rattle.net_rules.specs.Record.{netIn}
 use Rattle.net_rules.specs.Calls.{setUp, samplesIn}
@@ -42,17 +43,27 @@ use Rattle.demands_history_rules.specs.Events.{event, run}
 use Rattle.demands_history_rules.specs.Calls.{Call, byte, tick, AllHanded, leaves, leftBy, does}
 use Rattle.demands_history_rules.proofs.Events.{below}
 use Rattle.demands_history_rules.proofs.Calls.{call-kept, passed-leaves}
-use Rattle.demands_rules.specs.Motion.{Bound, bound, LoadStarts, At, CallStarts}
-use Rattle.demands_rules.specs.Sent.{control, Has}
-use Rattle.demands_rules.specs.Place.{servoSampleAt, after}
+use Rattle.demands_rules.specs.Motion.{Bound, bound, LoadStarts, CallStarts}
+use Rattle.demands_rules.specs.Loaded.{control, Has}
+use Rattle.demands_rules.specs.Place.{after}
+use Rattle.demands_rules.specs.ServoPlace.{At, servoSampleAt}
 use Rattle.demands_rules.specs.Quickest.{Disturbs, Undisturbed, SetsOff, OnItsWay}
-use Rattle.demands_rules.proofs.Making.{servoIn}
 use Rattle.demands_rules.proofs.Examples.{lit, types, lent, room, valid, lone, enough, calls, happens, are-handed, ends-with}
 use Rattle.demands_rules.proofs.OnTheLine.{areSmall, small, byte-goes}
 use Rattle.demands_rules.proofs.Calls.{any-calls}
 use Rattle.demands_rules.proofs.EveryCall.{every-call}
 use Rattle.demands_rules.proofs.OnTheWay.{quickest-on-the-line}
 use Rattle.demands_rules.proofs.Computing.{Lone, lone-after, lone-on, AllOpen, through, net-after, allPass, passes-at, endsSuch, ends-such, spread, spread-open, spread-handed, all-tick}
+
+-- the servo that a module is, if it is one: a line for each type
+abbrev servoOf : (t : ModuleType) (m : Of t) → Option ((k : Servo) × _≡_ {A = Module} (t, m) (servo, k))
+servoOf servo m = some (m, refl)
+servoOf inout m = none
+servoOf stepper m = none
+
+abbrev servoIn : (o : Option Module) → Option ((k : Servo) × (o ≡ some (servo, k)))
+servoIn none = none
+servoIn (some m) = Option·map (λ s. (s .0, ap some (s .1))) (servoOf (m .0) (m .1))
 
 -- ---- a test that nothing disturbs, call by call
 
@@ -104,7 +115,7 @@ is-steady x m e =
 
 abbrev leaves-it : Net Module → Call → Bool
 leaves-it n (byte mark x room) = endsSuch (λ f. isCalm (f .code) (control f)) n mark x
-leaves-it n (tick samples) = elim (servoIn (getElem? (n .modules) 0)) [ none ↦ false | some m ↦ isSteady (servoSampleAt samples 0) m ]
+leaves-it n (tick samples) = elim (servoIn (getElem? (n .modules) 0)) [ none ↦ false | some s ↦ isSteady (servoSampleAt samples 0) (s .0) ]
 
 undisturbed : (net : List ℕ) (cs : List Call) → ValidRecord net → Lone net → AllHanded cs → AllOpen cs → allPass leaves-it (length cs) cs (netIn slots net) ≡ true
     → Undisturbed net cs 0
@@ -115,7 +126,7 @@ undisturbed net cs v one h o e = record {
   ticks = λ j x m t st.
       is-steady x m
       (ap (λ (x : Sample). isSteady x m) (t .own)
-      ∙ sym (ap (λ (y : Option Module). elim (servoIn y) [ none ↦ false | some m ↦ isSteady (servoSampleAt (t .samples) 0) m ]) st)
+      ∙ sym (ap (λ (y : Option Module). elim (servoIn y) [ none ↦ false | some s ↦ isSteady (servoSampleAt (t .samples) 0) (s .0) ]) st)
       ∙ passed j (tick (t .samples)) (t .call));
 }
   where
@@ -160,18 +171,20 @@ meanwhile power = spread power room line
 
 -- the servo at place 0 of a network, and whether there is one
 abbrev servoAt : Net Module → Servo
-servoAt n = elim (servoIn (getElem? (n .modules) 0)) [ none ↦ lit | some m ↦ m ]
+servoAt n = elim (servoIn (getElem? (n .modules) 0)) [ none ↦ lit | some s ↦ s .0 ]
 
 abbrev isThere : Net Module → Bool
-isThere n = elim (servoIn (getElem? (n .modules) 0)) [ none ↦ false | some m ↦ true ]
+isThere n = elim (servoIn (getElem? (n .modules) 0)) [ none ↦ false | some s ↦ true ]
 
 is-there : (n : Net Module) → isThere n ≡ true → getElem? (n .modules) 0 ≡ some (servo, servoAt n)
-is-there n e = at (getElem? (n .modules) 0) e
+is-there n e = at (servoIn (getElem? (n .modules) 0)) e
   where
-    at : (o : Option Module) → elim (servoIn o) [ none ↦ false | some m ↦ true ] ≡ true → o ≡ some (servo, elim (servoIn o) [ none ↦ lit | some m ↦ m ])
+    o : Option Module
+    o = getElem? (n .modules) 0
+
+    at : (s : Option ((k : Servo) × (o ≡ some (servo, k)))) → elim s [ none ↦ false | some s ↦ true ] ≡ true → o ≡ some (servo, elim s [ none ↦ lit | some s ↦ s .0 ])
     at none e = absurd (false≢true e)
-    at (some (servo, m)) e = refl
-    at (some (inout, m)) e = absurd (false≢true e)
+    at (some s) e = s .1
 
 -- one history: what is sent, at which power it then ticks, and the byte that starts
 module _ (orders : List Byte) (power x : ℕ) where

@@ -3,7 +3,7 @@ use mathlib.Core.Path.{_≡_, refl, sym, ap, ap₂, _∙_}
 use mathlib.Core.List.{List, [], _∷_, map}
 use Prim.Native.Nat.{ℕ}
 use Rattle.line_receiver.specs.Receive.{idle}
-use Rattle.types_rules.specs.Table.{ModuleType, servo, inout, rulesOf}
+use Rattle.types_rules.specs.Table.{ModuleType, servo, inout, stepper, rulesOf}
 use Rattle.types_rules.specs.Types.{Module, typeIn, kind, powered}
 use Rattle.types_rules.specs.Numbering.{asOlder, olderKind}
 use Rattle.types_rules.proofs.Numbering.{renumbered}
@@ -16,6 +16,7 @@ use Rattle.demands_rules.specs.Numbering.{OnlyTheNumber}
 started-older : (t : ModuleType) → asOlder (t, rulesOf t .started) ≡ (t, rulesOf t .started)
 started-older servo = refl
 started-older inout = refl
+started-older stepper = refl
 
 powered-older : (ts : List ℕ) → map asOlder (map powered ts) ≡ map powered ts
 powered-older [] = refl

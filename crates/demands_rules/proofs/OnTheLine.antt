@@ -1,4 +1,4 @@
--- The mill's question on the line, byte by byte, through the exported call. Assumes nothing.
+-- The mill's question on the line, byte by byte, through the exported call, of any type with loads. Assumes nothing.
 use mathlib.Core.Path.{_≡_, refl, sym, ap, ap₂, _∙_}
 use mathlib.Core.Logic.{inr}
 use mathlib.Core.List.{List, [], _∷_, _++_, map, map-append, append-nil}
@@ -14,11 +14,10 @@ use Rattle.line_receiver.specs.Frames.{Byte, Frame, values, AreBytes}
 use Rattle.module_rules.specs.declared.Address.{Address}
 use Rattle.module_rules.specs.Touch.{individually}
 use Rattle.module_rules.specs.Kind.{executed}
+use Rattle.module_rules.specs.Rules.{execute}
 use Rattle.chain_rules.specs.Chain.{Net, addresses, touched}
 use Rattle.chain_rules.proofs.Touching.{touched-before}
-use Rattle.servo_rules.specs.declared.Servo.{Servo}
-use Rattle.servo_rules.specs.Answers.{execute}
-use Rattle.types_rules.specs.Table.{servo}
+use Rattle.types_rules.specs.Table.{ModuleType, Of, rulesOf}
 use Rattle.types_rules.specs.Types.{Module, AnySample, kind, slots}
 use Rattle.net_rules.specs.Record.{roomSize, netIn, valid}
 use Rattle.net_rules.specs.Calls.{byteOf}
@@ -28,7 +27,7 @@ use Rattle.demands_history_rules.specs.Calls.{Call, byte, AllHanded, refusals, 
 use Rattle.demands_history_rules.proofs.Events.{whole-event, event-idle}
 use Rattle.demands_history_rules.proofs.Singly.{run-singly}
 use Rattle.demands_history_rules.proofs.Calls.{call-kept}
-use Rattle.demands_rules.specs.Question.{fed, QuestionOnTheLine}
+use Rattle.demands_rules.specs.Question.{fed, QuestionOnTheLine, Loading}
 use Rattle.demands_rules.proofs.Calls.{done-passed, any-calls}
 use Rattle.demands_rules.proofs.Order.{keeps-address, kept-handed}
 use Rattle.demands_rules.proofs.Question.{question}
@@ -92,22 +91,6 @@ fed-both room bs ds net r v h =
 
 -- ---- two frames at one place
 
--- a servo that a frame may have reached is still a servo
-reached-is : (t : Bool) (x y : Servo) → _≡_ {A = Module} (cond t (servo, x) (servo, y)) (servo, cond t x y)
-reached-is true x y = refl
-reached-is false x y = refl
-
--- what the bytes of a frame make of the servo at a place
-place-after : (n : Net Module) (i : ℕ) (m : Servo) (bs : List Byte) (f : Frame) → n .receiver ≡ idle → Reads bs f → getElem? (n .modules) i ≡ some (servo, m)
-    → getElem? (taking kind bs n .net .modules) i
-    ≡ some (servo, cond (touched true (f .address) (addresses kind (n .modules)) i) (execute f (individually (f .address) (m .station .address)) m) m)
-place-after n i m bs f z q e =
-    let t : Bool = touched true (f .address) (addresses kind (n .modules)) i in
-    ap (λ (o : Outcome Module). getElem? (o .net .modules) i) (whole-event kind n z bs f q)
-    ∙ touched-before kind f (n .modules) i
-    ∙ ap (λ (o : Option Module). Option·map (λ (m : Module). cond t (executed kind f m) m) o) e
-    ∙ ap some (reached-is t (execute f (individually (f .address) (m .station .address)) m) m)
-
 -- a Load changes nobody's address
 load-addresses : (n : Net Module) (bs : List Byte) (f : Frame) → n .receiver ≡ idle → Reads bs f → f .code ≡ 4
     → addresses kind (taking kind bs n .net .modules) ≡ addresses kind (n .modules)
@@ -115,18 +98,35 @@ load-addresses n bs f z q c =
     ap (λ (o : Outcome Module). addresses kind (o .net .modules)) (whole-event kind n z bs f q)
     ∙ kept-handed kind keeps-address f true (n .modules) (inr (λ e. omega arith, λ e. omega arith))
 
-pub question-on-the-line : QuestionOnTheLine
-question-on-the-line net room i m loadBytes startBytes load start v r h z here unready readsLoad c missed readsStart isStart touches =
-    let n : Net Module = netIn slots net in
-    let n′ : Net Module = taking kind loadBytes n .net in
-    let reached : Bool = touched true (load .address) (addresses kind (n .modules)) i in
-    let alone : Bool = individually (load .address) (m .station .address) in
-    let k : Servo = cond reached (execute load alone m) m in
-    let apart : Bool = individually (start .address) (k .station .address) in
-    let z′ : n′ .receiver ≡ idle = event-idle kind n z (sent loadBytes) (load, readsLoad) in
-    let touches′ : touched true (start .address) (addresses kind (n′ .modules)) i ≡ true =
-    ap (λ (ws : List Address). touched true (start .address) ws i) (load-addresses n loadBytes load z readsLoad c) ∙ touches in
-    ap (λ (n : Net Module). getElem? (n .modules) i) (fed-both room loadBytes startBytes net r v h)
-    ∙ place-after n′ i k startBytes start z′ readsStart (place-after n i m loadBytes load z readsLoad here)
-    ∙ ap (λ (t : Bool). some (servo, cond t (execute start apart k) k)) touches′
-    ∙ ap (λ (m : Servo). some (servo, m)) (question m load start reached alone apart missed unready isStart)
+module _ (t : ModuleType) where
+  -- a module that a frame may have reached is still of its type
+  reached-is : (u : Bool) (x y : Of t) → _≡_ {A = Module} (cond u (t, x) (t, y)) (t, cond u x y)
+  reached-is true x y = refl
+  reached-is false x y = refl
+
+  -- what the bytes of a frame make of the module at a place
+  place-after : (n : Net Module) (i : ℕ) (m : Of t) (bs : List Byte) (f : Frame) → n .receiver ≡ idle → Reads bs f → getElem? (n .modules) i ≡ some (t, m)
+      → getElem? (taking kind bs n .net .modules) i
+      ≡ some (t, cond (touched true (f .address) (addresses kind (n .modules)) i) (execute (rulesOf t) f (individually (f .address) (rulesOf t .station m .address)) m) m)
+  place-after n i m bs f z q e =
+      let u : Bool = touched true (f .address) (addresses kind (n .modules)) i in
+      ap (λ (o : Outcome Module). getElem? (o .net .modules) i) (whole-event kind n z bs f q)
+      ∙ touched-before kind f (n .modules) i
+      ∙ ap (λ (o : Option Module). Option·map (λ (m : Module). cond u (executed kind f m) m) o) e
+      ∙ ap some (reached-is u (execute (rulesOf t) f (individually (f .address) (rulesOf t .station m .address)) m) m)
+
+  pub question-on-the-line : (needed : ℕ → ℕ) (NoneReady NoLoad : Of t → Type 0) → Loading t needed NoneReady NoLoad → QuestionOnTheLine t needed NoneReady
+  question-on-the-line needed NoneReady NoLoad o net room i m loadBytes startBytes load start v r h z here unready readsLoad c missed readsStart isStart touches =
+      let n : Net Module = netIn slots net in
+      let n′ : Net Module = taking kind loadBytes n .net in
+      let reached : Bool = touched true (load .address) (addresses kind (n .modules)) i in
+      let alone : Bool = individually (load .address) (rulesOf t .station m .address) in
+      let k : Of t = cond reached (execute (rulesOf t) load alone m) m in
+      let apart : Bool = individually (start .address) (rulesOf t .station k .address) in
+      let z′ : n′ .receiver ≡ idle = event-idle kind n z (sent loadBytes) (load, readsLoad) in
+      let touches′ : touched true (start .address) (addresses kind (n′ .modules)) i ≡ true =
+      ap (λ (ws : List Address). touched true (start .address) ws i) (load-addresses n loadBytes load z readsLoad c) ∙ touches in
+      ap (λ (n : Net Module). getElem? (n .modules) i) (fed-both room loadBytes startBytes net r v h)
+      ∙ place-after n′ i k startBytes start z′ readsStart (place-after n i m loadBytes load z readsLoad here)
+      ∙ ap (λ (u : Bool). some (t, cond u (execute (rulesOf t) start apart k) k)) touches′
+      ∙ ap (λ (m : Of t). some (t, m)) (question t needed NoneReady NoLoad o m load start reached alone apart missed unready isStart)

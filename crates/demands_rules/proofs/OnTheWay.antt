@@ -61,9 +61,11 @@ use Rattle.api_rules.specs.Promises.{Passes, Refuses, ValidRecord}
 use Rattle.api_rules.proofs.Refused as Refused
 use Rattle.demands_history_rules.specs.Calls.{Call, byte, tick, AllHanded, leaves, leftBy}
 use Rattle.demands_history_rules.proofs.Calls.{passes?, call-kept}
-use Rattle.demands_rules.specs.Motion.{LoadStarts, At, CallStarts}
-use Rattle.demands_rules.specs.Place.{servoSampleAt, after, Stands, inTime}
-use Rattle.demands_rules.specs.Sent.{control, WholeLoad}
+use Rattle.demands_rules.specs.Motion.{LoadStarts, CallStarts}
+use Rattle.demands_rules.specs.Place.{after}
+use Rattle.demands_rules.specs.ServoPlace.{At, servoSampleAt, Stands, inTime}
+use Rattle.demands_rules.specs.Loaded.{control}
+use Rattle.demands_rules.specs.Sent.{WholeLoad}
 use Rattle.demands_rules.specs.Quickest.{total, final, speedsFrom, ticksOf, ticksIn, Disturbs, Undisturbed, SetsOff, OnItsWay, QuickestOnTheLine}
 use Rattle.demands_rules.proofs.Making.{same-place, fits-at, Silent, Made, same, framed, timed, made}
 use Rattle.demands_rules.proofs.Motion.{load-started}
@@ -179,15 +181,15 @@ module _ (net : List ℕ) (cs : List Call) (i : ℕ) (s : Servo) (v : ValidRecor
 
   -- a call leaves what time makes of the servo, or a frame that does not disturb it
   call-steps : (n : ℕ) (c : Call) (m k : Servo) → getElem? cs n ≡ some c → Stands net cs i n m → m .run .drive .mode ≡ Trapezoid
-      → Only net cs i (suc n) k → Made (after net cs i n) i m c k → Later (ticksOf (after net cs i n) c) m k
+      → Only servo net cs i (suc n) k → Made servo (after net cs i n) i m c k → Later (ticksOf (after net cs i n) c) m k
   unfolding Profiles.after
   call-steps n _ _ k g st e o (framed mark x room d goes a t) =
-      frame-keeps (frameIn (netIn slots (after net cs i n) .receiver) d) _ _ (calm net cs i n mark x room Disturbs d k g goes t a o (u .frames n))
+      frame-keeps (frameIn (netIn slots (after net cs i n) .receiver) d) _ _ (calm servo net cs i n mark x room Disturbs d k g goes t a o (u .frames n))
   call-steps n _ m _ g st e o (same c y q) = subst (Later (ticksOf (after net cs i n) c) m) q (by-time n c m g st e)
   call-steps n _ m _ g st e o (timed samples p q) = subst (Later (ticksOf (after net cs i n) (tick samples)) m) q (by-time n (tick samples) m g st e)
 
   -- the servo after n calls
-  goes : Carries net cs i (λ n k. Later (ticksIn net (take n cs)) s k)
+  goes : Carries servo net cs i (λ n k. Later (ticksIn net (take n cs)) s k)
   goes n c m k g w st b st′ o (p, d) =
       let j : ℕ = ticksOf (after net cs i n) c in
       let (q, f) = call-steps n c m k g st (d ∙ runs) o b in
@@ -198,7 +200,7 @@ module _ (net : List ℕ) (cs : List Call) (i : ℕ) (s : Servo) (v : ValidRecor
   unfolding Profiles.after
   went k e =
       subst (λ (ds : List Call). Later (ticksIn net ds) s k) (take-length cs)
-      (carried-on net cs i (λ n k. Later (ticksIn net (take n cs)) s k) v h goes s at (refl, refl) k e)
+      (carried-on servo net cs i (λ n k. Later (ticksIn net (take n cs)) s k) v h goes s at (refl, refl) k e)
 
 -- ---- where it is then
 
@@ -283,7 +285,7 @@ not-silent : (net : List ℕ) (c : Call) (i : ℕ) (m : Servo) → CallStarts Lo
 not-silent net (byte mark x room) i m (p, l) s = s false p (l .ended) (l .touches)
 not-silent net (tick samples) i m l s = l
 
-made-still : (net : List ℕ) (c : Call) (i : ℕ) (m k : Servo) → CallStarts LoadStarts net i m c → Made net i m c k → k .run .drive .mode ≡ Trapezoid
+made-still : (net : List ℕ) (c : Call) (i : ℕ) (m k : Servo) → CallStarts LoadStarts net i m c → Made servo net i m c k → k .run .drive .mode ≡ Trapezoid
     → (k .run .profile .speed ≡ pos 0) × (0 < k .run .profile .top)
 made-still net _ i m _ l (same c s q) t = absurd (not-silent net c i m l s)
 made-still net _ i m _ l (timed samples p q) t = absurd l
@@ -297,7 +299,7 @@ pub quickest-on-the-line : QuickestOnTheLine
 quickest-on-the-line net c cs i m s k v hc h e l es t u ek =
     let p : Profile = s .run .profile in
     let w : ValidRecord (leaves net c) = call-kept net c hc v in
-    let f = fits-at (leaves net c) i s w es in
+    let f = fits-at servo (leaves net c) i s w es in
     let r = running-in s f t in
     let ranged = good s f .sane .profile in
     let (still, fast) = started in
@@ -307,7 +309,7 @@ quickest-on-the-line net c cs i m s k v hc h e l es t u ek =
   where
     started : (s .run .profile .speed ≡ pos 0) × (0 < s .run .profile .top)
     started =
-        let (k, q, d) = made net c i m hc v e in
-        let z : k ≡ s = same-place (netIn slots (leaves net c) .modules) i k s q es in
+        let (k, q, d) = made servo net c i m hc v e in
+        let z : k ≡ s = same-place servo (netIn slots (leaves net c) .modules) i k s q es in
         subst (λ (k : Servo). (k .run .profile .speed ≡ pos 0) × (0 < k .run .profile .top)) z
         (made-still net c i m k l d (ap (λ (k : Servo). k .run .drive .mode) z ∙ t))

@@ -107,7 +107,7 @@ of-any-kind M S K = (each-alone K, λ keeps. (order-does-not-matter K keeps, ord
 pub keeps-address : KeepsAddress kind
 keeps-address = record {
   execute = stays;
-  tick = λ x m. ap (λ (s : Station). s .address) (given-address (x .0) (m .0) (x .1) (m .1));
+  tick = λ x m. ap (λ (s : Station). s .address) (given-address (m .0) x (m .1));
 }
   where
     stays : (f : Frame) (t : Bool) (m : Module) → Harmless f → kind .address (kind .execute f t m) ≡ kind .address m

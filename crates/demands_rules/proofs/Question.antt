@@ -1,73 +1,69 @@
--- The mill's question at one servo. Assumes nothing.
-use mathlib.Core.Path.{_≡_, refl, ap, _∙_}
-use mathlib.Core.Bool.{Bool, true, false, cond, _&&_, and-false, true≢false}
-use mathlib.Core.Logic.{inl, inr}
+-- The mill's question at one module of any type with loads. Assumes nothing.
+use mathlib.Core.Path.{_≡_, refl, sym, ap, _∙_}
+use mathlib.Core.Bool.{Bool, true, false, cond, true≢false}
 use Prim.Native.Nat.{ℕ}
 use Rattle.line_receiver.specs.Frames.{Frame}
 use Rattle.module_rules.specs.declared.Fault.the-variants.{Count}
-use Rattle.servo_rules.specs.declared.Halt.the-variants.{Here}
-use Rattle.servo_rules.specs.declared.Order.the-variants.{LoadTrajectory, Start, Stop}
-use Rattle.servo_rules.specs.declared.Servo.{Servo}
-use Rattle.servo_rules.specs.State.{ready}
-use Rattle.servo_rules.specs.Loads.{complete, startable, loaded}
-use Rattle.servo_rules.specs.Perform.{can, perform}
-use Rattle.servo_rules.specs.Answers.{withCause, execute}
-use Rattle.servo_rules.proofs.Apart.{unseen}
-use Rattle.servo_rules.proofs.Starting.{starts, start-now, twice as twice-from}
-use Rattle.servo_rules.proofs.Stopping.{stops, stops-now}
-use Rattle.types_rules.specs.Table.{servo}
+use Rattle.module_rules.specs.declared.Station.{Station}
+use Rattle.module_rules.specs.Commands.{caused}
+use Rattle.module_rules.specs.Rules.{withCause, execute}
+use Rattle.types_rules.specs.Table.{ModuleType, Of, SampleOf, rulesOf}
+use Rattle.types_rules.proofs.Owed.{owes}
 use Rattle.types_rules.proofs.Promised.{every-type}
-use Rattle.demands_rules.specs.Motion.{byStart, byLoad, ofLoad, byStopHere, OnlyTheCause}
-use Rattle.demands_rules.specs.Question.{Missed, elsewhere, damaged, short, MissedTells, NoneReady, IsStart, Question, Twice}
-use Rattle.demands_rules.proofs.Reading.{start-asks, short-asks, not-keep}
-
--- without a complete load no Start can be carried out, whatever the cause is
-unready : (c : ℕ) (m : Servo) → NoneReady m → can Start (withCause c m) ≡ false
-unfolding startable
-unready c m n = unseen .can Start _ m ∙ by n
-  where
-    by : NoneReady m → startable m ≡ false
-    by (inl e) = ap (λ (t : Bool). t && complete m && ready m) e
-    by (inr e) =
-        ap (λ (t : Bool). m .settings .load .waits && t && ready m) e ∙ ap (λ (t : Bool). t && ready m) (and-false (m .settings .load .waits))
-
--- an undamaged Start with no complete load waiting
-pub start-refused : (c : ℕ) (m : Servo) (f : Frame) (apart : Bool) → NoneReady m → IsStart f → execute f apart (withCause c m) ≡ withCause 3 m
-start-refused c m f apart n s = every-type servo .cause f apart (withCause c m) .notNow Start (s .0) (start-asks f apart (s .1) (s .2)) (unready c m n)
-
-pub missed-tells : MissedTells
-missed-tells load alone m = record {
-  damaged = every-type servo .cause load alone m .damaged;
-  short = λ d c n. every-type servo .cause load alone m .malformed Count d (short-asks load alone c n);
-}
-
--- what a load that was missed leaves: its own cause, or none
-pub missed-is : (load : Frame) (alone reached : Bool) (m : Servo) → Missed reached load → (c : ℕ) × (cond reached (execute load alone m) m ≡ withCause c m)
-missed-is load alone false m x = (m .station .cause, refl)
-missed-is load alone true m (elsewhere e) = absurd (true≢false e)
-missed-is load alone true m (damaged d) = (1, missed-tells load alone m .damaged d)
-missed-is load alone true m (short c n) = at (load .damaged) refl
-  where
-    at : (d : Bool) → load .damaged ≡ d → (k : ℕ) × (execute load alone m ≡ withCause k m)
-    at true d = (1, missed-tells load alone m .damaged d)
-    at false d = (2, missed-tells load alone m .short d c n)
+use Rattle.demands_rules.specs.Motion.{OnlyTheCause}
+use Rattle.demands_rules.specs.Question.{Missed, elsewhere, damaged, short, MissedTells, IsStart, Question, Loading}
 
 pub only-the-cause : OnlyTheCause
 only-the-cause t = (every-type t .cause, every-type t .tested)
 
-pub question : Question
-question m load start reached alone apart x n s =
-    let k = missed-is load alone reached m x in
-    ap (execute start apart) (k .1) ∙ start-refused (k .0) m start apart n s
+-- ---- modules that are the same but for the cause
 
-pub twice : Twice
-twice m f g alone apart (ofLoad (byStart a s)) t =
-    twice-from Start m tt .second f g alone apart (a .undamaged) (a .order) (starts m .1 s) (t .0) (start-asks g apart (t .1) (t .2))
-twice m f g alone apart (ofLoad (byLoad c a e s)) t =
-    twice-from (LoadTrajectory c) m e .second f g alone apart (a .undamaged) (a .order) (start-now c m .now e ∙ starts (loaded c m) .1 s) (t .0) (start-asks g apart (t .1) (t .2))
-twice m f g alone apart (byStopHere a x h r) t =
-    let k : Servo = execute f alone m in
-    let e : k ≡ withCause 0 (perform (Stop a Here x) m) = every-type servo .cause f alone m .executed (Stop a Here x) (h .undamaged) (h .order) (stops-now a x m .here .1 r) in
-    start-refused (k .station .cause) k g apart
-    (inl (ap (λ (k : Servo). k .settings .load .waits) e ∙ stops a x m .waits Here (not-keep Here refl)))
-    t
+module _ (t : ModuleType) where
+  -- with the same cause they are the same
+  abbrev pub ButCause : Of t → Of t → Type 0
+  ButCause m k = (c : ℕ) → withCause (rulesOf t) c k ≡ withCause (rulesOf t) c m
+
+  pub cause-again : (c d : ℕ) (m : Of t) → withCause (rulesOf t) c (withCause (rulesOf t) d m) ≡ withCause (rulesOf t) c m
+  cause-again c d m =
+      let s : Station = caused d (rulesOf t .station m) in
+      ap (λ (x : Station). rulesOf t .withStation (caused c x) (rulesOf t .withStation s m)) (owes t .apart .put s m) ∙ owes t .apart .again (caused c s) s m
+
+  -- a tick does the same to both
+  pub tick-cause : (x : SampleOf t) (c : ℕ) (m : Of t) → withCause (rulesOf t) c (rulesOf t .tick x m) ≡ rulesOf t .tick x (withCause (rulesOf t) c m)
+  tick-cause x c m =
+      ap (λ (s : Station). rulesOf t .withStation (caused c s) (rulesOf t .tick x m)) (owes t .apart .tick x m)
+      ∙ sym (owes t .unseen .tick x (caused c (rulesOf t .station m)) m)
+
+  pub tick-but : (x : SampleOf t) (m k : Of t) → ButCause m k → ButCause (rulesOf t .tick x m) (rulesOf t .tick x k)
+  tick-but x m k b c = tick-cause x c k ∙ ap (rulesOf t .tick x) (b c) ∙ sym (tick-cause x c m)
+
+module _ (t : ModuleType) (needed : ℕ → ℕ) (NoneReady NoLoad : Of t → Type 0) (o : Loading t needed NoneReady NoLoad) where
+  -- an undamaged Start with no complete load waiting, whatever the cause is
+  pub start-refused : (m k : Of t) (f : Frame) (apart : Bool) → ButCause t m k → NoneReady m → IsStart f → execute (rulesOf t) f apart k ≡ withCause (rulesOf t) 3 m
+  start-refused m k f apart b n s =
+      every-type t .cause f apart k .notNow (o .start) (s .0) (o .asks f apart (s .1) (s .2))
+      (sym (owes t .unseen .can (o .start) _ k) ∙ ap (rulesOf t .can (o .start)) (b 0) ∙ owes t .unseen .can (o .start) _ m ∙ o .unready m n)
+      ∙ b 3
+
+  pub missed-tells : MissedTells t needed
+  missed-tells load alone m = record {
+    damaged = every-type t .cause load alone m .damaged;
+    short = λ d c n. every-type t .cause load alone m .malformed Count d (o .miscounted load alone c n);
+  }
+
+  -- a load that was missed leaves all but the cause
+  pub missed-but : (load : Frame) (alone : Bool) (m k : Of t) → ButCause t m k → Missed needed true load → ButCause t m (execute (rulesOf t) load alone k)
+  missed-but load alone m k b (elsewhere e) = absurd (true≢false e)
+  missed-but load alone m k b (damaged d) = λ c. ap (withCause (rulesOf t) c) (missed-tells load alone k .damaged d) ∙ cause-again t c 1 k ∙ b c
+  missed-but load alone m k b (short p n) = at (load .damaged) refl
+    where
+      at : (d : Bool) → load .damaged ≡ d → ButCause t m (execute (rulesOf t) load alone k)
+      at true d = λ c. ap (withCause (rulesOf t) c) (missed-tells load alone k .damaged d) ∙ cause-again t c 1 k ∙ b c
+      at false d = λ c. ap (withCause (rulesOf t) c) (missed-tells load alone k .short d p n) ∙ cause-again t c 2 k ∙ b c
+
+  pub question : Question t needed NoneReady
+  question m load start reached alone apart x n s = start-refused m (cond reached (execute (rulesOf t) load alone m) m) start apart (at reached x) n s
+    where
+      at : (reached : Bool) → Missed needed reached load → ButCause t m (cond reached (execute (rulesOf t) load alone m) m)
+      at true x = missed-but load alone m m (λ c. refl) x
+      at false x = λ c. refl

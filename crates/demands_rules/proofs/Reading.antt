@@ -5,6 +5,7 @@ use mathlib.Core.Bool.{Bool, true, false, cond, false≢true, true≢false}
 use Prim.Native.Nat.{ℕ}
 use lib.ListN.{length, getD}
 use lib.Dec.{eqb}
+use Rattle.base_integers.specs.Bits.{isSet}
 use Rattle.line_receiver.specs.Frames.{Frame}
 use Rattle.module_rules.specs.declared.Fault.the-variants.{Count}
 use Rattle.module_rules.specs.Rules.{malformed, wants}
@@ -13,14 +14,15 @@ use Rattle.servo_rules.specs.declared.Halt.the-variants.{Keep, Release, Abrupt,
 use Rattle.servo_rules.specs.declared.Order.the-variants.{Start}
 use Rattle.servo_rules.specs.declared.Way.{Way}
 use Rattle.servo_rules.specs.declared.Way.the-variants.{Pulse, Speed, Move}
-use Rattle.servo_rules.specs.Carried.{isSet, needed}
+use Rattle.servo_rules.specs.Carried.{needed}
 use Rattle.servo_rules.specs.Asks.{haltOf, stopCount}
 use Rattle.servo_rules.specs.Loads.{wayOf}
 use Rattle.servo_rules.specs.Answers.{request}
 use Rattle.servo_rules.proofs.Known.{spared, BitOf, haltBits, halt-bits}
 use Rattle.servo_rules.proofs.Coding.{codes}
 use Rattle.servo_rules.proofs.Taken.{load-read}
-use Rattle.demands_rules.specs.Sent.{control, Has, Lacks, Drops}
+use Rattle.demands_rules.specs.Loaded.{control, Has, Lacks}
+use Rattle.demands_rules.specs.Sent.{Drops}
 
 -- a code that is spared drops no waiting load
 pub spares : (f : Frame) → spared (f .code) ≡ true → Drops f → ⊥

@@ -6,7 +6,6 @@ use mathlib.Core.Bool.{Bool, true, false, cond, false≢true}
 use Prim.Native.Nat.{ℕ, suc, _+_, _%_, _^_, _<_, _≤_}
 use native.Mathlib.Omega.{arith}
 use native.Mathlib.Nat.{le-refl, le-trans}
-use borrow.Author.Tests.{eqb-true, eqb-false}
 use lib.IntN.{ℤ, pos, negsuc, natAbs}
 use lib.Dec.{eqb}
 use Rattle.base_integers.specs.Whole.{less}
@@ -19,7 +18,7 @@ use Rattle.servo_rules.specs.declared.Way.{Way}
 use Rattle.servo_rules.specs.declared.Way.the-variants.{Pulse, Speed, Move}
 use Rattle.servo_rules.specs.declared.Run.{Run}
 use Rattle.servo_rules.specs.declared.Servo.{Servo}
-use Rattle.servo_rules.specs.Carried.{carriedIn}
+use Rattle.servo_rules.specs.Carried.{needed, carriedIn}
 use Rattle.servo_rules.specs.State.{setpointAt, servoOff}
 use Rattle.servo_rules.specs.Loads.{loadOf, signedBy, start}
 use Rattle.servo_rules.specs.LoadPromises.{Movable, Completes}
@@ -28,25 +27,24 @@ use Rattle.servo_rules.proofs.Keeping.{number, distinct}
 use Rattle.servo_rules.proofs.Starting.{begins}
 use Rattle.servo_slot_rules.specs.Promises.{Fits}
 use Rattle.servo_slot_rules.proofs.Good.{InMode, good}
+use Rattle.types_rules.specs.Table.{servo}
 use Rattle.demands_history_rules.specs.Calls.{Call}
-use Rattle.demands_rules.specs.Place.{Stands, Executed, None, Since}
-use Rattle.demands_rules.specs.Sent.{Has, pulseIn, signedIn, Halts, encoder, HeldAt, Loaded, Given, Started, itself, byStart, Began, SlowingSent, HoldSent, WasSent, numberIn}
+use Rattle.demands_rules.specs.ServoPlace.{Stands, Executed, Since}
+use Rattle.demands_rules.specs.Loaded.{Has, itself, byStart}
+use Rattle.demands_rules.specs.Sent.{pulseIn, signedIn, Halts, Drops, encoder, HeldAt, Given, Started, Began, SlowingSent, HoldSent, WasSent, numberIn}
 use Rattle.demands_rules.proofs.Reading.{WayBits, way-bits}
 use Rattle.demands_rules.proofs.Alike.{Alike}
-use Rattle.demands_rules.proofs.Placing.{Only}
+use Rattle.demands_rules.proofs.Placing as Placing
+use Rattle.demands_rules.proofs.Since.{up-to, none-on, none-yet, since-on, since-first, began-on}
 use Rattle.demands_rules.proofs.Motion.{zero?}
+
+-- k is the servo after n calls
+abbrev pub Only : List ℕ → List Call → ℕ → ℕ → Servo → Type 0
+Only = Placing.Only servo
 
 -- what takes the place of the number of bit k, or forgets it
 abbrev pub Replaces : ℕ → Frame → Type 0
 Replaces k f = ((f .code ≡ 4) × Has k f) ⊎ (f .code ≡ 15)
-
--- one more is the same or less, or it
-up-to : (j n : ℕ) → j ≤ suc n → (j ≤ n) ⊎ (j ≡ suc n)
-up-to j n h = at (eqb j (suc n)) refl
-  where
-    at : (t : Bool) → eqb j (suc n) ≡ t → (j ≤ n) ⊎ (j ≡ suc n)
-    at true e = inr (eqb-true j (suc n) e)
-    at false e = let k = eqb-false j (suc n) e in inl (omega arith)
 
 zero-size : (z : ℤ) → natAbs z ≤ 0 → z ≡ pos 0
 zero-size (pos n) h = let e : n ≡ 0 = omega arith in ap pos e
@@ -82,54 +80,6 @@ module _ (f : Frame) where
   bits-are = way-bits f
 
 module _ (net : List ℕ) (cs : List Call) (i : ℕ) where
-  pub none-on : (P : Frame → Type 0) (a n : ℕ) → None net cs i P a n → ((f : Frame) → Executed net cs i n f → P f → ⊥) → None net cs i P a (suc n)
-  none-on P a n h g j f l q e z = at (up-to (suc j) n q)
-    where
-      at : (suc j ≤ n) ⊎ (suc j ≡ suc n) → ⊥
-      at (inl q) = h j f l q e z
-      at (inr q) = let k : j ≡ n = omega arith in g f (subst (λ (j : ℕ). Executed net cs i j f) k e) z
-
-  pub none-yet : (P : Frame → Type 0) (n : ℕ) → None net cs i P n (suc n)
-  none-yet P n j f l q e z = absurd (omega arith)
-
-  since-on : (P : Servo → Type 0) (a n : ℕ) (k : Servo) → Since net cs i a n P → Only net cs i (suc n) k → P k → Since net cs i a (suc n) P
-  since-on P a n k h o p j m l q e = at (up-to j n q)
-    where
-      at : (j ≤ n) ⊎ (j ≡ suc n) → P m
-      at (inl q) = h j m l q e
-      at (inr q) = subst P (sym (o m (subst (λ (j : ℕ). Stands net cs i j m) q e))) p
-
-  since-first : (P : Servo → Type 0) (n : ℕ) (k : Servo) → Only net cs i (suc n) k → P k → Since net cs i n (suc n) P
-  since-first P n k o p j m l q e =
-      let z : j ≡ suc n = omega arith in
-      subst P (sym (o m (subst (λ (j : ℕ). Stands net cs i j m) z e))) p
-
-  pub loaded-on : (P : Frame → Type 0) (f : Frame) (n : ℕ) → Loaded net cs i P f n → ((g : Frame) → Executed net cs i n g → P g → ⊥) → Loaded net cs i P f (suc n)
-  loaded-on P f n l h = record {
-    by = l .by;
-    earlier = omega (arith, l .earlier);
-    executed = l .executed;
-    load = l .load;
-    last = none-on P (l .by) n (l .last) h;
-  }
-
-  -- one call more since a start: other bits and another meaning may be told of it
-  began-on : {Bits Others : Frame → Type 0} {Is Also : Servo → Frame → Servo → Type 0} (s n : ℕ) (k : Servo)
-      → Began net cs i s n Bits Is → Only net cs i (suc n) k
-      → ((f : Frame) → Bits f → Others f)
-      → ((before m : Servo) (f : Frame) → Is before f m → Also before f m)
-      → ((before : Servo) (f : Frame) → Since net cs i s n (Is before f) → Also before f k)
-      → Began net cs i s (suc n) Others Also
-  began-on {Bits} {Others} {Is} {Also} s n k b o w v g = record {
-    load = b .load;
-    started = b .started;
-    bits = w (b .load) (b .bits);
-    before = b .before;
-    stood = b .stood;
-    earlier = omega (arith, b .earlier);
-    since = since-on (Also (b .before) (b .load)) s n k (λ j m l q e. v (b .before) m (b .load) (b .since j m l q e)) o (g (b .before) (b .load) (b .since));
-  }
-
   -- in off nothing was asked for
   pub off-sent : (n : ℕ) (k : Servo) → k .run .drive .mode ≡ Off → WasSent net cs i n k
   off-sent n k e = record {
@@ -156,7 +106,7 @@ module _ (net : List ℕ) (cs : List Call) (i : ℕ) where
             c,
             gv,
             gc,
-            began-on s n k b only (λ f x. x) (λ before m f x. x)
+            began-on servo needed Drops net cs i s n k b only (λ f x. x) (λ before m f x. x)
                 (λ before f x. let y = at-last s (b .earlier) x in (q, a .goal ∙ y .1, a .top ∙ y .2, a .acceleration ∙ y .3)),
           );
       speed = λ q z.
@@ -166,14 +116,14 @@ module _ (net : List ℕ) (cs : List Call) (i : ℕ) where
             c,
             gv,
             gc,
-            began-on s n k b only (λ f x. x) (λ before m f x. x)
+            began-on servo needed Drops net cs i s n k b only (λ f x. x) (λ before m f x. x)
                 (λ before f x. let y = at-last s (b .earlier) x in (q, a .aim ∙ y .1, a .acceleration ∙ y .2)),
           );
       slowing = λ q z y. slow q z (sym (a .mode) ∙ q) (sym (a .aim) ∙ z) y;
       pulse = λ q.
           let (s, b) = w .pulse (sym (a .mode) ∙ q) in (
             s,
-            began-on s n k b only (λ f x. x) (λ before m f x. x)
+            began-on servo needed Drops net cs i s n k b only (λ f x. x) (λ before m f x. x)
                 (λ before f x. let y = at-last s (b .earlier) x in (q, a .pulse ∙ y .1)),
           );
       hold = λ q. held q (sym (a .mode) ∙ q) (w .hold (sym (a .mode) ∙ q));
@@ -184,7 +134,7 @@ module _ (net : List ℕ) (cs : List Call) (i : ℕ) where
         slow q z q′ z′ y =
             let less : natAbs (k .run .profile .speed) ≤ natAbs (m .run .profile .speed) = a .slower q′ z′ in
             let ((s, b), fall) = w .slowing q′ z′ (λ e. y (at-rest e less)) in (
-              (s, began-on s n k b only (λ f x. x) (λ before m f x. x) (λ before f x. inl q)),
+              (s, began-on servo needed Drops net cs i s n k b only (λ f x. x) (λ before m f x. x) (λ before f x. inl q)),
               λ j r l e none. by j r e (up-to j n l) less fall none,
             )
           where
@@ -209,8 +159,8 @@ module _ (net : List ℕ) (cs : List Call) (i : ℕ) where
           before = b .before;
           stood = b .stood;
           earlier = omega (arith, b .earlier);
-          last = none-on Halts (b .by) n (b .last) h;
-          since = since-on _ (b .by) n k (b .since) only (q, subst (HeldAt (b .before) (b .stop)) (sym (a .held q′)) (at-last (b .by) (b .earlier) (b .since) .1));
+          last = none-on servo net cs i Halts (b .by) n (b .last) h;
+          since = since-on servo net cs i _ (b .by) n k (b .since) only (q, subst (HeldAt (b .before) (b .stop)) (sym (a .held q′)) (at-last (b .by) (b .earlier) (b .since) .1));
         }
 
     -- ---- a frame executed by this call changes the mode
@@ -241,7 +191,7 @@ module _ (net : List ℕ) (cs : List Call) (i : ℕ) where
       before = m;
       stood = stands;
       earlier = le-refl (suc n);
-      since = since-first (Is m f) n k only e;
+      since = since-first servo net cs i (Is m f) n k only e;
     }
 
     -- a start of the Load f, which l has loaded
@@ -345,8 +295,8 @@ module _ (net : List ℕ) (cs : List Call) (i : ℕ) where
         before = m;
         stood = stands;
         earlier = le-refl (suc n);
-        last = none-yet Halts n;
-        since = since-first _ n k only (mode, subst (HeldAt m f) (sym (ap (λ (s : ℕ). encoder k (whole s)) at ∙ ap (encoder k) (whole-at x))) h);
+        last = none-yet servo net cs i Halts n;
+        since = since-first servo net cs i _ n k only (mode, subst (HeldAt m f) (sym (ap (λ (s : ℕ). encoder k (whole s)) at ∙ ap (encoder k) (whole-at x))) h);
       };
     }
       where
@@ -369,12 +319,12 @@ module _ (net : List ℕ) (cs : List Call) (i : ℕ) where
     }
       where
         from : m .run .drive .mode ≡ Velocity → (k .run .profile .speed ≡ pos 0 → ⊥) → (m .run .profile .aim ≡ pos 0) ⊎ (m .run .profile .aim ≡ pos 0 → ⊥) → Slowed
-        from e z (inl a) = let (y, b) = w .slowing e a (λ q. z (s .speed ∙ q)) .0 in (y, began-on y n k b only (λ f x. x) (λ before m f x. x) (λ before f x. inl (s .mode)))
-        from e z (inr a) = let (y, v, c, gv, gc, b) = w .speed e a in (y, began-on y n k b only (λ f x. x .0) (λ before m f x. inl (x .0)) (λ before f x. inl (s .mode)))
+        from e z (inl a) = let (y, b) = w .slowing e a (λ q. z (s .speed ∙ q)) .0 in (y, began-on servo needed Drops net cs i y n k b only (λ f x. x) (λ before m f x. x) (λ before f x. inl (s .mode)))
+        from e z (inr a) = let (y, v, c, gv, gc, b) = w .speed e a in (y, began-on servo needed Drops net cs i y n k b only (λ f x. x .0) (λ before m f x. inl (x .0)) (λ before f x. inl (s .mode)))
 
         at : (d : Mode) → m .run .drive .mode ≡ d → (k .run .profile .speed ≡ pos 0 → ⊥) → Slowed
         at Off e z = absurd (false≢true (sym on ∙ ap servoOff e))
         at Pwm e z = absurd (false≢true (sym on ∙ ap servoOff e))
         at Hold e z = absurd (z (s .speed ∙ subst (λ (d : Mode). InMode d (m .latched .power) (m .run)) e (good m t .sane .mode) .0))
         at Velocity e z = from e z (zero? (m .run .profile .aim))
-        at Trapezoid e z = let (y, v, c, gv, gc, b) = w .move e in (y, began-on y n k b only (λ f x. x .0) (λ before m f x. inr (x .0)) (λ before f x. inl (s .mode)))
+        at Trapezoid e z = let (y, v, c, gv, gc, b) = w .move e in (y, began-on servo needed Drops net cs i y n k b only (λ f x. x .0) (λ before m f x. inr (x .0)) (λ before f x. inl (s .mode)))

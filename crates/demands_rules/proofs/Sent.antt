@@ -10,6 +10,7 @@ use native.Mathlib.Nat.{le-refl}
 use lib.IntN.{pos}
 use lib.ListN.{length, getElem?}
 use lib.Dec.{eqb}
+use Rattle.base_integers.specs.Bits.{isSet}
 use Rattle.base_integers.specs.Whole.{less}
 use Rattle.line_receiver.specs.declared.Receiver.{Receiver}
 use Rattle.line_receiver.specs.declared.Answer.the-variants.{Ended}
@@ -31,7 +32,7 @@ use Rattle.servo_rules.specs.declared.Load.{Load}
 use Rattle.servo_rules.specs.declared.Carried.{Carried}
 use Rattle.servo_rules.specs.declared.Sample.{Sample}
 use Rattle.servo_rules.specs.declared.Servo.{Servo}
-use Rattle.servo_rules.specs.Carried.{isSet, needed, carriedIn}
+use Rattle.servo_rules.specs.Carried.{needed, carriedIn}
 use Rattle.servo_rules.specs.Asks.{haltOf, stopCount}
 use Rattle.servo_rules.specs.State.{position, servoOff, started}
 use Rattle.servo_rules.specs.Loads.{loaded, startsNow, start}
@@ -58,13 +59,16 @@ use Rattle.api_rules.proofs.Kept.{kept}
 use Rattle.demands_history_rules.specs.Calls.{Call, byte, tick}
 use Rattle.demands_rules.specs.Motion.{Moves}
 use Rattle.demands_rules.specs.Question.{IsStart}
-use Rattle.demands_rules.specs.Place.{servoSampleAt, after, Stands, Executed}
-use Rattle.demands_rules.specs.Sent.{control, Has, Lacks, WholeLoad, Halts, Drops, encoder, Loaded, Given, itself, byStart, WasSent, WhatMovesWasSent, numberIn}
+use Rattle.demands_rules.specs.Place.{after}
+use Rattle.demands_rules.specs.ServoPlace.{servoSampleAt, Stands, Executed}
+use Rattle.demands_rules.specs.Loaded.{control, Has, Lacks, itself, byStart}
+use Rattle.demands_rules.specs.Sent.{WholeLoad, Halts, Drops, encoder, Loaded, Given, WasSent, WhatMovesWasSent, numberIn}
 use Rattle.demands_rules.proofs.Reading.{spares, not-keep, keep-spares}
 use Rattle.demands_rules.proofs.Alike.{Alike, alike, shift-alike, tick-alike}
 use Rattle.demands_rules.proofs.Making.{fits-at, Silent, Made, same, framed, timed, set-up-is}
-use Rattle.demands_rules.proofs.Placing.{valid-after, untouched, stood-before, Only, executed-by, Carries, carried}
-use Rattle.demands_rules.proofs.Sending.{Replaces, brought, none-yet, loaded-on, off-sent, alike-sent, start-sent, hold-sent, slow-sent}
+use Rattle.demands_rules.proofs.Placing.{valid-after, untouched, stood-before, executed-by, Carries, carried}
+use Rattle.demands_rules.proofs.Since.{none-yet, loaded-on}
+use Rattle.demands_rules.proofs.Sending.{Only, Replaces, brought, off-sent, alike-sent, start-sent, hold-sent, slow-sent}
 
 -- what takes a number's place drops a waiting load too
 replaces-drops : (k : ℕ) (f : Frame) → Replaces k f → Drops f
@@ -115,7 +119,7 @@ module _ (net : List ℕ) (cs : List Call) (i : ℕ) where
     sent : WasSent net cs i n m
 
   rate-on : (b : ℕ) (x : ℕ) (was : Bool) (n : ℕ) → ((g : Frame) → Executed net cs i n g → Replaces b g → ⊥) → Rate b x was n → Rate b x was (suc n)
-  rate-on b x was n h r w = let (f, e, (c, l)) = r w in (f, e, (c, loaded-on net cs i (Replaces b) f n l h))
+  rate-on b x was n h r w = let (f, e, (c, l)) = r w in (f, e, (c, loaded-on servo needed net cs i (Replaces b) f n l h))
 
   module _ (n : ℕ) (m : Servo) (stands : Stands net cs i n m) (t : Fits m) (told : Told n m) where
     -- where no number is replaced
@@ -134,7 +138,7 @@ module _ (net : List ℕ) (cs : List Call) (i : ℕ) where
         → ((g : Frame) → Executed net cs i n g → Drops g → ⊥) → WasSent net cs i (suc n) k → Told (suc n) k
     quiet-told k o r l h s =
         rates-told k r (λ b g x z. h g x (replaces-drops b g z))
-        (λ w. let (f, e, c, d) = told .waits (ap (λ (l : Load). l .waits) (sym l) ∙ w) in (f, l ∙ e, c, loaded-on net cs i Drops f n d h))
+        (λ w. let (f, e, c, d) = told .waits (ap (λ (l : Load). l .waits) (sym l) ∙ w) in (f, l ∙ e, c, loaded-on servo needed net cs i Drops f n d h))
         s
 
     alike-told : (k : Servo) → Only net cs i (suc n) k → k .settings .rates ≡ m .settings .rates → k .settings .load ≡ m .settings .load
@@ -162,11 +166,11 @@ module _ (net : List ℕ) (cs : List Call) (i : ℕ) where
           not-replaced e (inr c) = let z : _≡_ {A = Bool} true false = ap (eqb 4) (sym (w .0) ∙ c) in true≢false z
 
           at : (t : Bool) → isSet b (control f) ≡ t → Rate b new now (suc n)
-          at true e q = (f, has e, (e, record { by = n; earlier = le-refl (suc n); executed = exec; load = w; last = none-yet net cs i (Replaces b) n }))
+          at true e q = (f, has e, (e, record { by = n; earlier = le-refl (suc n); executed = exec; load = w; last = none-yet servo net cs i (Replaces b) n }))
           at false e q =
               let (x, y) = lacks e in
               let (g, z, (c, l)) = r (sym y ∙ q) in
-              (g, x ∙ z, (c, loaded-on net cs i (Replaces b) g n l (spared (Replaces b) (not-replaced e))))
+              (g, x ∙ z, (c, loaded-on servo needed net cs i (Replaces b) g n l (spared (Replaces b) (not-replaced e))))
 
       module _ (w : WholeLoad f) where
         abbrev c : Carried
@@ -187,7 +191,7 @@ module _ (net : List ℕ) (cs : List Call) (i : ℕ) where
         load-told h o = record {
           paced = loaded-paced;
           ramped = loaded-ramped;
-          waits = λ z. (f, refl, h, record { by = n; earlier = le-refl (suc n); executed = exec; load = w; last = none-yet net cs i Drops n });
+          waits = λ z. (f, refl, h, record { by = n; earlier = le-refl (suc n); executed = exec; load = w; last = none-yet servo net cs i Drops n });
           sent = alike-sent net cs i n m (withCause 0 (loaded c m)) stands o (alike m (withCause 0 (loaded c m)) refl refl refl refl)
               (spared Halts (λ z. let y : _≡_ {A = Bool} true false = ap (eqb 4) (sym (w .0) ∙ z .0) in true≢false y)) (told .sent);
         }
@@ -321,7 +325,7 @@ module _ (net : List ℕ) (cs : List Call) (i : ℕ) where
       ending = frameIn r false
 
       exec-by : taken r value (eqb mark 1) .answer ≡ Ended false → (k : Servo) → Only net cs i (suc n) k → k .station .cause ≡ 0 → Executed net cs i n ending
-      exec-by = executed-by net cs i n mark value room call goes touches
+      exec-by = executed-by servo net cs i n mark value room call goes touches
 
       only-one : (g : Frame) → Executed net cs i n g → g ≡ ending
       only-one g x = x .met .frame ∙ ap (frameIn r) (x .undamaged)
@@ -350,7 +354,7 @@ module _ (net : List ℕ) (cs : List Call) (i : ℕ) where
           subst (Told (suc n)) (sym q)
           (settled-told alone e (request ending alone) (known ending alone) (subst (Stands net cs i (suc n)) q st) (subst (Only net cs i (suc n)) q o))
 
-    made-told : (c : Call) (k : Servo) → getElem? cs n ≡ some c → Made (after net cs i n) i m c k → Stands net cs i (suc n) k → Only net cs i (suc n) k → Told (suc n) k
+    made-told : (c : Call) (k : Servo) → getElem? cs n ≡ some c → Made servo (after net cs i n) i m c k → Stands net cs i (suc n) k → Only net cs i (suc n) k → Told (suc n) k
     unfolding ticked
     made-told _ _ e (same c s _) st o = idle-told m o (silent-none c e s) refl refl (inr (alike m m refl refl refl refl))
     made-told _ _ e (framed mark x room d goes a u) st o = framed-told mark x room e goes u d _ a st o
@@ -360,8 +364,8 @@ module _ (net : List ℕ) (cs : List Call) (i : ℕ) where
 
 -- ---- through any calls
 
-told-on : (net : List ℕ) (cs : List Call) (i : ℕ) → Carries net cs i (Told net cs i)
-told-on net cs i n c m k g w st d st′ o told = made-told net cs i n m st (fits-at (after net cs i n) i m w st) told c k g d st′ o
+told-on : (net : List ℕ) (cs : List Call) (i : ℕ) → Carries servo net cs i (Told net cs i)
+told-on net cs i n c m k g w st d st′ o told = made-told net cs i n m st (fits-at servo (after net cs i n) i m w st) told c k g d st′ o
 
 -- at power-up nothing was sent
 started-told : (net : List ℕ) (cs : List Call) (i : ℕ) → Told net cs i 0 started
@@ -391,6 +395,6 @@ pub what-moves-was-sent : WhatMovesWasSent
 what-moves-was-sent net types cs i n k p h l e =
     let r : List ℕ = setupRecord net types in
     let v : ValidRecord r = kept .setup net types p in
-    let (s, q) = stood-before r cs i n k v h l e in
-    let told = carried r cs i (Told r cs i) v h (told-on r cs i) s q (subst (Told r cs i 0) (set-up-is net types i s p q) (started-told r cs i)) n l k e in
-    (in-motion k (fits-at (after r cs i n) i k (valid-after r cs i n v h l) e), told .sent)
+    let (s, q) = stood-before servo r cs i n k v h l e in
+    let told = carried servo r cs i (Told r cs i) v h (told-on r cs i) s q (subst (Told r cs i 0) (set-up-is servo net types i s p q) (started-told r cs i)) n l k e in
+    (in-motion k (fits-at servo (after r cs i n) i k (valid-after r cs i n v h l) e), told .sent)

@@ -25,13 +25,15 @@ use Rattle.net_rules.specs.Record.{netIn}
 use Rattle.net_rules.specs.Calls.{setUp, samplesIn}
 use Rattle.api_rules.specs.Promises.{ValidRecord}
 use Rattle.demands_history_rules.specs.Calls.{Call, byte, tick, AllHanded}
-use Rattle.demands_rules.specs.Place.{after, Stands, Touched, throughTime}
-use Rattle.demands_rules.specs.Question.{Missed, damaged, short}
+use Rattle.demands_rules.specs.Place.{after, Touched}
+use Rattle.demands_rules.specs.ServoPlace.{Stands, throughTime}
+use Rattle.demands_rules.specs.Question.{damaged, short}
+use Rattle.demands_rules.specs.ServoQuestion.{Missed}
 use Rattle.demands_rules.proofs.Examples.{types, lent, room, valid, held, lone, enough, at-power-up}
 use Rattle.demands_rules.proofs.OnTheLine.{small, byte-goes}
 use Rattle.demands_rules.proofs.Placing.{valid-after}
 use Rattle.demands_rules.proofs.Computing.{Lone, AllOpen, through, net-after, allPass, passes-at, endsSuch, ends-such, spread, spread-open, spread-handed}
-use Rattle.demands_rules.proofs.InTime.{question-in-time}
+use Rattle.demands_rules.proofs.ServoQuestion.{question-in-time}
 
 -- a frame that is a missed load wherever it comes
 abbrev isMissed : Frame → Bool

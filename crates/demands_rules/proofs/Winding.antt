@@ -25,10 +25,12 @@ use Rattle.servo_rules.specs.Tick.{advanced, putOut, servoed, pulsed, ran, tick
 use Rattle.servo_rules.specs.Answers.{done, statusOf, numbersOf, outputsFrom}
 use Rattle.servo_rules.specs.CutPromises.{Blanks}
 use Rattle.servo_rules.proofs.Remembering.{remembers}
+use Rattle.types_rules.specs.Table.{servo}
 use Rattle.types_rules.specs.Types.{slots}
 use Rattle.net_rules.specs.Record.{netIn}
 use Rattle.demands_history_rules.specs.Calls.{Call}
-use Rattle.demands_rules.specs.Place.{after, Stands, Executed, Ticked}
+use Rattle.demands_rules.specs.Place.{after}
+use Rattle.demands_rules.specs.ServoPlace.{Stands, Executed, Ticked}
 use Rattle.demands_rules.specs.Winding.{WindsUpNoMore, Blocked, Clears, Lowered}
 use Rattle.demands_rules.proofs.Making.{same, framed, timed}
 use Rattle.demands_rules.proofs.Placing.{calm, Carries, carried-on}
@@ -36,19 +38,19 @@ use Rattle.demands_rules.proofs.Placing.{calm, Carries, carried-on}
 module _ (net : List ℕ) (cs : List Call) (i : ℕ)
     (cut : (j : ℕ) (x : Sample) (s : Servo) → Ticked net cs i j x → Stands net cs i (suc j) s → s .run .drive .cut ≡ true)
     (kept : (j : ℕ) (f : Frame) (s : Servo) → Stands net cs i j s → Executed net cs i j f → Blanks s f → ⊥) where
-  goes : (z : ℤ) → Carries net cs i (λ n k. k .run .memory .integral ≡ z)
+  goes : (z : ℤ) → Carries servo net cs i (λ n k. k .run .memory .integral ≡ z)
   goes z n _ m _ g w st (same c _ _) st′ o p = p
   goes z n _ m k g w st (framed mark x room d call a t) st′ o p =
       ap (λ (y : Memory). y .integral)
       (remembers .frame (frameIn (netIn slots (after net cs i n) .receiver) d) _ m
-      (calm net cs i n mark x room (Blanks m) d k g call t a o (λ f. kept n f m st)))
+      (calm servo net cs i n mark x room (Blanks m) d k g call t a o (λ f. kept n f m st)))
       ∙ p
   goes z n _ m k g w st (timed samples call _) st′ o p =
       remembers .cut _ m (cut n _ _ (record { samples = samples; call = g; done = call; own = refl }) st′) ∙ p
 
 pub winds-up-no-more : WindsUpNoMore
 winds-up-no-more net cs i m k v h e q cut kept =
-    carried-on net cs i (λ n k. k .run .memory .integral ≡ m .run .memory .integral) v h (goes net cs i cut kept (m .run .memory .integral)) m e refl k q
+    carried-on servo net cs i (λ n k. k .run .memory .integral ≡ m .run .memory .integral) v h (goes net cs i cut kept (m .run .memory .integral)) m e refl k q
 
 -- ---- computed
 

@@ -6,9 +6,9 @@ use Prim.Native.Nat.{ℕ, _<_, _≤_}
 use mathlib.Core.List.{List, [], _∷_, _++_}
 use mathlib.Core.Bool.{Bool, true, false}
 use lib.ListN.{length, take, replicate}
+use Rattle.base_integers.specs.Bits.{isSet}
 use Rattle.line_receiver.specs.Frames.{Frame, clean, written}
 use Rattle.servo_rules.specs.declared.Servo.{Servo}
-use Rattle.servo_rules.specs.Carried.{isSet}
 use Rattle.servo_rules.specs.Answers.{typeNumber, enableLine}
 use Rattle.servo_rules.specs.StopPromises.{Released}
 use Rattle.servo_rules.specs.TickPromises.{Switches}
@@ -22,9 +22,9 @@ use Rattle.api_rules.specs.Calls.{setupRecord}
 use Rattle.api_rules.specs.Promises.{Passes, ValidRecord}
 use Rattle.demands_history_rules.specs.Events.{Event, sent, ticked, run}
 use Rattle.demands_history_rules.specs.Calls.{Call, tick, AllHanded, leaves, leftBy}
-use Rattle.demands_rules.specs.Motion.{AtRest, At, StartedBy}
-use Rattle.demands_rules.specs.Place.{servoSampleAt, Stands, Executed, None}
-use Rattle.demands_rules.specs.Sent.{control}
+use Rattle.demands_rules.specs.Motion.{AtRest, StartedBy}
+use Rattle.demands_rules.specs.ServoPlace.{At, servoSampleAt, Stands, Executed, None}
+use Rattle.demands_rules.specs.Loaded.{control}
 use Rattle.demands_rules.specs.Meaning.{gives, Holds}
 
 -- from m to k the enable line has come back: with power 1 latched before and after it is what it was, and with any other power it is low

@@ -1,6 +1,10 @@
 pub mod Motion
+pub mod SettingOut
 pub mod Place
+pub mod ServoPlace
 pub mod Question
+pub mod ServoQuestion
+pub mod Loaded
 pub mod Sent
 pub mod Meaning
 pub mod Order

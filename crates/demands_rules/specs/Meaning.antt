@@ -29,6 +29,8 @@ use Rattle.servo_rules.specs.StopPromises.{Released}
 use Rattle.servo_rules.specs.TickPromises.{GoesOn}
 use Rattle.servo_rules.specs.RestPromises.{NoFrameRaises}
 use Rattle.servo_slot_rules.specs.Promises.{Fits}
+use Rattle.stepper_rules.specs.FramePromises as Stepper
+use Rattle.stepper_rules.specs.RampPromises as Ramp
 use Rattle.types_rules.specs.Table.{ModuleType, rulesOf}
 use Rattle.types_rules.specs.Types.{Module, kind}
 use Rattle.net_rules.specs.Calls.{setUp}
@@ -88,6 +90,16 @@ pub record Meaning : Type 0 where
   pub asTheBase : Filter.OnlyTheIntegral
   pub largest : Filter.Largest
   pub reached : Filter.Reached
+  -- a step-motor module (02 P3): what its loads, starts, stops and parameters do, and what it tells; its speed goes one unit at each T-th tick and
+  -- never past its goal, which is the commanded speed, or the minimum if that is greater; each ramp in closed form; the position moves by the new speed
+  pub stepperLoads : Stepper.Loading
+  pub stepperObeys : Stepper.Obeys
+  pub stepperTells : Stepper.Told
+  pub neverPast : Ramp.NeverPast
+  pub climb : Ramp.Climb
+  pub fall : Ramp.Fall
+  pub slowDown : Ramp.SlowDown
+  pub stepperTicks : Ramp.Ticking
   -- least significant byte first, for any number of bytes, there and back
   pub bytes : (k x : ℕ) → x < 256 ^ k → ofLe (le k x) ≡ x
   pub numbers : (bs : List ℕ) → Bytes bs → le (length bs) (ofLe bs) ≡ bs

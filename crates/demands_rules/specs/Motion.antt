@@ -4,18 +4,13 @@ use mathlib.Core.Logic.{_⊎_}
 use Prim.Native.Nat.{ℕ}
 use mathlib.Core.List.{List, _∷_, _++_}
 use mathlib.Core.Bool.{Bool, true, false}
-use mathlib.Core.Option.{some}
 use lib.IntN.{pos}
-use lib.ListN.{length, getD, getElem?}
-use lib.Dec.{eqb}
+use lib.ListN.{length, getD}
 use Rattle.base_layout.specs.Bytes.{Bytes}
-use Rattle.line_receiver.specs.declared.Answer.the-variants.{Ended}
-use Rattle.line_receiver.specs.Receive.{taken}
-use Rattle.line_receiver.specs.Frames.{Byte, Frame, frameIn}
-use Rattle.module_rules.specs.Touch.{individually}
+use Rattle.line_receiver.specs.Frames.{Frame}
 use Rattle.module_rules.specs.Rules.{wants}
 use Rattle.module_rules.specs.Promises.{Cause, CauseTested}
-use Rattle.chain_rules.specs.Chain.{Net, flat, addresses, touched}
+use Rattle.chain_rules.specs.Chain.{flat}
 use Rattle.servo_motion.specs.Profile.{left}
 use Rattle.servo_rules.specs.declared.Carried.{Carried}
 use Rattle.servo_rules.specs.declared.Halt.the-variants.{Here}
@@ -30,14 +25,16 @@ use Rattle.servo_rules.specs.Answers.{request, execute}
 use Rattle.servo_rules.specs.LoadPromises.{Ready, Startable}
 use Rattle.servo_rules.specs.RestPromises.{following}
 use Rattle.types_rules.specs.Table.{ModuleType, servo, rulesOf}
-use Rattle.types_rules.specs.Types.{Module, kind, slots}
+use Rattle.types_rules.specs.Types.{kind, slots}
 use Rattle.net_rules.specs.Record.{netIn, stored}
-use Rattle.net_rules.specs.Calls.{byteOf, setUp}
-use Rattle.api_rules.specs.Table.{setupTable, byteTable}
+use Rattle.net_rules.specs.Calls.{setUp}
+use Rattle.api_rules.specs.Table.{setupTable}
 use Rattle.api_rules.specs.Calls.{setupRecord}
 use Rattle.api_rules.specs.Promises.{Passes, Refuses, ValidRecord}
 use Rattle.demands_history_rules.specs.Events.{run}
-use Rattle.demands_history_rules.specs.Calls.{Call, byte, tick, Handed, AllHanded, refusals, leaves, leftBy, writtenBy, doneBy}
+use Rattle.demands_history_rules.specs.Calls.{Call, tick, Handed, AllHanded, refusals, leaves, leftBy, writtenBy, doneBy}
+use Rattle.demands_rules.specs.ServoPlace.{At}
+use Rattle.demands_rules.specs.SettingOut as Any
 
 -- Setup, unless it is refused, leaves a valid record of the modules at power-up, whatever was lent.
 abbrev pub FromSetup : Type 0
@@ -115,20 +112,9 @@ pub data Starts (f : Frame) (alone : Bool) (m : Servo) : Type 0 where
 abbrev pub StartsAreExecuted : Type 0
 StartsAreExecuted = (f : Frame) (alone : Bool) (m : Servo) → Starts f alone m → execute f alone m .station .cause ≡ 0
 
--- the servo m is at place i of the network that a record holds
-abbrev pub At : List ℕ → ℕ → Servo → Type 0
-At net i m = getElem? (netIn slots net .modules) i ≡ some (servo, m)
-
--- a byte ended an undamaged frame that touched place i, and at the servo there it was such a start
-pub record LineStarts (Such : Frame → Bool → Servo → Type 0) (n : Net Module) (b : Byte) (i : ℕ) (m : Servo) : Type 0 where
-  pub ended : taken (n .receiver) (b .value) (b .mark) .answer ≡ Ended false
-  pub touches : touched true (n .receiver .address) (addresses kind (n .modules)) i ≡ true
-  pub starts : Such (frameIn (n .receiver) false) (individually (n .receiver .address) (m .station .address)) m
-
--- a call that is not refused hands over such a byte: no other call starts anything
+-- a call that is not refused hands over the last byte of such a start of the servo m at place i
 abbrev pub CallStarts : (Frame → Bool → Servo → Type 0) → List ℕ → ℕ → Servo → Call → Type 0
-CallStarts Such net i m (byte mark x room) = Passes (byteTable net mark room) × LineStarts Such (netIn slots net) (byteOf x (eqb mark 1)) i m
-CallStarts Such net i m (tick samples) = ⊥
+CallStarts = Any.CallStarts servo
 
 -- Every call, with the servo m at place i before it and k after it. What begins motion is the last byte of one of the three, and what sets a
 -- servo out is that of a load's start; a tick, which is no command, only goes on toward a goal that m had, and gives none, whatever list it
@@ -141,18 +127,13 @@ pub record EveryCall : Type 0 where
   pub setup : (net types : List ℕ) (i : ℕ) (k : Servo) → Passes (setupTable net types) → At (setupRecord net types) i k → AtRest k
 
 -- one of the calls started a load of the servo at place i
-pub record StartedBy (cs : List Call) (net : List ℕ) (i : ℕ) : Type 0 where
-  pub before : List Call
-  pub call : Call
-  pub later : List Call
-  pub servo : Servo
-  pub split : cs ≡ before ++ call ∷ later
-  pub here : At (leftBy before net) i servo
-  pub starts : CallStarts LoadStarts (leftBy before net) i servo call
+abbrev pub StartedBy : List Call → List ℕ → ℕ → Type 0
+StartedBy = Any.StartedBy servo LoadStarts
 
--- Never otherwise: a servo that was at rest and, after any calls, is not, had a load started by one of them. (Which, Sent.antt says.)
+-- Never otherwise: a servo that was at rest and, after any calls, is not, had a load started by one of them; and so it is from setup on. (Which,
+-- Sent.antt says.)
 abbrev pub Never : Type 0
-Never =
-    (net : List ℕ) (cs : List Call) (i : ℕ) (m k : Servo)
-    → ValidRecord net → AllHanded cs → At net i m → At (leftBy cs net) i k
-    → AtRest m → (AtRest k → ⊥) → StartedBy cs net i
+Never = Any.Never servo AtRest LoadStarts
+
+abbrev pub NeverFromSetup : Type 0
+NeverFromSetup = Any.NeverFromSetup servo AtRest LoadStarts

@@ -86,15 +86,18 @@ pub record OwnTicks : Type 0 where
       → (run kind (sent bs ∷ ticked xs ∷ []) n .net ≡ run kind (ticked xs ∷ sent bs ∷ []) n .net)
       × ((i : ℕ) → repliesOf i (run kind (sent bs ∷ ticked xs ∷ []) n .replies) ≡ repliesOf i (run kind (ticked xs ∷ sent bs ∷ []) n .replies))
 
--- a network in which a servo drives its motor with 100, an I/O module puts out 0x234, and both have replied: status, asked items, sum
+-- a network in which a servo drives its motor with 100, an I/O module puts out 0x234, a step-motor module goes with speed 6, and all have replied:
+-- status, asked items, sum
 pub record Lives (o : Outcome Module) : Type 0 where
   pub servoDrives : outputsAt (o .net) 0 ≡ 100 ∷ 0 ∷ 1 ∷ 0 ∷ 0 ∷ 0 ∷ 0 ∷ 0 ∷ []
   pub inoutDrives : outputsAt (o .net) 1 ≡ 0 ∷ 0 ∷ 0x34 ∷ 0x02 ∷ 0 ∷ 0 ∷ 0 ∷ 0 ∷ []
+  pub stepperDrives : outputsAt (o .net) 2 ≡ 6 ∷ 0 ∷ 0 ∷ 0 ∷ 0 ∷ 0 ∷ 0 ∷ 0 ∷ []
   pub servoReplied : repliesOf 0 (o .replies) ≡ (9 ∷ 9 ∷ []) ∷ (11 ∷ 11 ∷ []) ∷ (9 ∷ 9 ∷ []) ∷ (9 ∷ 5 ∷ 0 ∷ 0 ∷ 0 ∷ 14 ∷ []) ∷ []
   pub inoutReplied : repliesOf 1 (o .replies) ≡ (0 ∷ 0 ∷ []) ∷ (0 ∷ 0 ∷ []) ∷ (0 ∷ 0x34 ∷ 0x02 ∷ 77 ∷ 131 ∷ []) ∷ []
+  pub stepperReplied : repliesOf 2 (o .replies) ≡ (0 ∷ 0 ∷ []) ∷ (1 ∷ 1 ∷ []) ∷ (1 ∷ 6 ∷ 0 ∷ 0 ∷ 0 ∷ 7 ∷ []) ∷ []
 
--- Not by being dead: from one network two different histories, with a damaged frame among them, that meet all that is asked for above; both
--- live, and so both end in the same network.
+-- Not by being dead: from one network of all three types two different histories, with a damaged frame among them, that meet all that is asked for
+-- above; both live, and so both end in the same network.
 pub record Alive (n : Net Module) (h₁ h₂ : List (Event (List AnySample))) : Type 0 where
   pub first : Lives (run kind h₁ n)
   pub second : Lives (run kind h₂ n)

@@ -26,9 +26,10 @@ use Rattle.api_rules.specs.Table.{tickTable}
 use Rattle.api_rules.specs.Calls.{unless}
 use Rattle.api_rules.specs.Promises.{ValidRecord}
 use Rattle.demands_history_rules.specs.Calls.{Call, byte, tick, Handed, AllHanded, leaves, leftBy}
-use Rattle.demands_rules.specs.Motion.{LoadStarts, At, CallStarts}
-use Rattle.demands_rules.specs.Place.{Stands, Executed, Ticked}
-use Rattle.demands_rules.specs.Sent.{Has, Halts}
+use Rattle.demands_rules.specs.Motion.{LoadStarts, CallStarts}
+use Rattle.demands_rules.specs.ServoPlace.{At, Stands, Executed, Ticked}
+use Rattle.demands_rules.specs.Loaded.{Has}
+use Rattle.demands_rules.specs.Sent.{Halts}
 
 -- what speeds cover together, and the last of them, or v if there is none
 unfoldable pub total : List ℕ → ℕ

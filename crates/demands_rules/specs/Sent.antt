@@ -4,36 +4,28 @@ use mathlib.Core.Path.{_≡_}
 use mathlib.Core.Logic.{_⊎_}
 use Prim.Native.Nat.{ℕ, zero, suc, _+_, _*_, _%_, _^_, _<_, _≤_}
 use mathlib.Core.List.{List}
-use mathlib.Core.Bool.{true, false, cond}
+use mathlib.Core.Bool.{cond}
 use lib.IntN.{ℤ, pos, negℤ, natAbs}
 use lib.ListN.{length, getD}
-use Rattle.base_integers.specs.Bits.{bit}
+use Rattle.base_integers.specs.Bits.{bit, isSet}
 use Rattle.base_layout.specs.Bytes.{ofLe, readAt}
 use Rattle.line_receiver.specs.Frames.{Frame}
 use Rattle.servo_motion.specs.Setpoint.{whole}
 use Rattle.servo_rules.specs.declared.Mode.the-variants.{Pwm, Hold, Velocity, Trapezoid}
 use Rattle.servo_rules.specs.declared.Servo.{Servo}
-use Rattle.servo_rules.specs.Carried.{isSet, needed}
+use Rattle.servo_rules.specs.Carried.{needed}
+use Rattle.types_rules.specs.Table.{servo}
 use Rattle.api_rules.specs.Table.{setupTable}
 use Rattle.api_rules.specs.Calls.{setupRecord}
 use Rattle.api_rules.specs.Promises.{Passes}
 use Rattle.demands_history_rules.specs.Calls.{Call, AllHanded}
-use Rattle.demands_rules.specs.Question.{IsStart}
 use Rattle.demands_rules.specs.Motion.{Moves}
-use Rattle.demands_rules.specs.Place.{Stands, Executed, None, Since}
+use Rattle.demands_rules.specs.Loaded as Any
+use Rattle.demands_rules.specs.Loaded.{control, Has, Lacks}
+use Rattle.demands_rules.specs.ServoPlace.{Stands, Executed, None, Since}
 
--- 01 Load Trajectory, Stop: data bytes begin with a control byte; a Load has then four for each of bits 0 to 2 that is set, and one for bit 3
-abbrev pub control : Frame → ℕ
-control f = getD (f .content) 0 0
-
--- bit k of the control byte is set, or clear
-abbrev pub Has : ℕ → Frame → Type 0
-Has k f = isSet k (control f) ≡ true
-
-abbrev pub Lacks : ℕ → Frame → Type 0
-Lacks k f = isSet k (control f) ≡ false
-
--- how many bytes stand ahead of the number of bit k, and that number: 0 position, 1 velocity, 2 acceleration; the PWM byte is behind all three
+-- 01 Load Trajectory: behind the control byte come four bytes for each of bits 0 to 2 that is set, and one for bit 3. How many bytes stand ahead of
+-- the number of bit k, and that number: 0 position, 1 velocity, 2 acceleration; the PWM byte is behind all three
 abbrev pub ahead : ℕ → Frame → ℕ
 ahead zero f = 1
 ahead (suc k) f = ahead k f + 4 * bit k (control f)
@@ -50,7 +42,7 @@ signedIn f n = cond (isSet 6 (control f)) (negℤ (pos n)) (pos n)
 
 -- a Load of as many data bytes as its control byte asks for; a Stop with one of bits 1 to 4
 abbrev pub WholeLoad : Frame → Type 0
-WholeLoad f = (f .code ≡ 4) × (length (f .content) ≡ needed (control f))
+WholeLoad = Any.WholeLoad needed
 
 abbrev pub Halts : Frame → Type 0
 Halts f = (f .code ≡ 7) × (Has 1 f ⊎ (Has 2 f ⊎ (Has 3 f ⊎ Has 4 f)))
@@ -67,32 +59,19 @@ abbrev pub HeldAt : Servo → Frame → ℕ → Type 0
 HeldAt m f x = (Has 2 f × (x ≡ m .latched .raw)) ⊎ (Has 4 f × (length (f .content) ≡ 5) × (x ≡ encoder m (numberIn 0 f)))
 
 module _ (net : List ℕ) (cs : List Call) (i : ℕ) where
-  -- the whole Load f was executed here among the first n calls, and no frame such as P since
-  pub record Loaded (P : Frame → Type 0) (f : Frame) (n : ℕ) : Type 0 where
-    pub by : ℕ
-    pub earlier : by < n
-    pub executed : Executed net cs i by f
-    pub load : WholeLoad f
-    pub last : None net cs i P by n
+  -- the whole Load f was executed here, and no frame such as P since; it is the last of them that carried the number of bit k
+  abbrev pub Loaded : (Frame → Type 0) → Frame → ℕ → Type 0
+  Loaded = Any.Loaded servo needed net cs i
 
-  -- f is the last of them that carried the number of bit k, and no Hard Reset forgot it
   abbrev pub Given : ℕ → Frame → ℕ → Type 0
-  Given k f n = Has k f × Loaded (λ g. ((g .code ≡ 4) × Has k g) ⊎ (g .code ≡ 15)) f n
+  Given = Any.Given servo needed net cs i
 
-  -- call s started the Load f: by its own bit 7, or by a Start, and until then nothing dropped f or took its place
-  pub data Started (f : Frame) (s : ℕ) : Type 0 where
-    itself : Executed net cs i s f → WholeLoad f → Has 7 f → Started f s
-    byStart : (g : Frame) → Executed net cs i s g → IsStart g → Lacks 7 f → Loaded Drops f s → Started f s
+  -- call s started the Load f, which nothing had dropped; and since then Is holds of the servo before the start, the Load and the servo
+  abbrev pub Started : Frame → ℕ → Type 0
+  Started = Any.Started servo needed Drops net cs i
 
-  -- call s started a Load with these bits; after each call since, up to the first n, Is holds of the servo before the start, the Load and the servo
-  pub record Began (s n : ℕ) (Bits : Frame → Type 0) (Is : Servo → Frame → Servo → Type 0) : Type 0 where
-    pub load : Frame
-    pub started : Started load s
-    pub bits : Bits load
-    pub before : Servo
-    pub stood : Stands net cs i s before
-    pub earlier : s < n
-    pub since : Since net cs i s n (Is before load)
+  abbrev pub Began : ℕ → ℕ → (Frame → Type 0) → (Servo → Frame → Servo → Type 0) → Type 0
+  Began = Any.Began servo needed Drops net cs i
 
   -- with a velocity v and an acceleration a, each of the last Load up to the start that carried it
   abbrev pub Paced : ℕ → (Frame → Type 0) → (Frame → Frame → Servo → Frame → Servo → Type 0) → Type 0

@@ -15,8 +15,7 @@ use Rattle.net_rules.specs.Calls.{setUp}
 use Rattle.api_rules.specs.Promises.{ValidRecord}
 use Rattle.demands_history_rules.specs.Events.{taking, run}
 use Rattle.demands_history_rules.specs.Calls.{Call, AllHanded, leftBy}
-use Rattle.demands_rules.specs.Motion.{At}
-use Rattle.demands_rules.specs.Place.{Stands, Executed, Ticked}
+use Rattle.demands_rules.specs.ServoPlace.{At, Stands, Executed, Ticked}
 use Rattle.demands_rules.specs.Meaning.{gives, Holds}
 use Rattle.demands_rules.specs.Dip.{History, sending, tickAtCount, tickAt, pulsing, drivenAfter}
 

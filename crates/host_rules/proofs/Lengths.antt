@@ -40,4 +40,5 @@ lengths items =
     record {
       servo = omega (arith, ap (λ (b : ℕ). chosenSize b (sizesOf 0)) whole, chosen-by items 0 (sizesOf 0));
       inout = omega (arith, ap (λ (b : ℕ). chosenSize b (sizesOf 2)) whole, chosen-by items 0 (sizesOf 2));
+      stepper = omega (arith, ap (λ (b : ℕ). chosenSize b (sizesOf 3)) whole, chosen-by items 0 (sizesOf 3));
     }

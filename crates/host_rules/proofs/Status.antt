@@ -67,6 +67,6 @@ status st items sizes numbers f = record {
 
 pub taken : Taken
 unfolding statusOf
-taken kind st items numbers k f =
+taken kind st items numbers k e f =
     let r : ReadBack st items (sizesOf kind) numbers (report st items (sizesOf kind) numbers) = status st items (sizesOf kind) numbers f in
-    rw (numbers-of kind .1 k, eq-eqb (length (report st items (sizesOf kind) numbers)) (neededFor items (sizesOf kind)) (r .long), r .right, r .same)
+    rw (numbers-of kind .1 k, e, eq-eqb (length (report st items (sizesOf kind) numbers)) (neededFor items (sizesOf kind)) (r .long), r .right, r .same)

@@ -1,7 +1,7 @@
 -- Each number is given exactly when the table says so. Assumes nothing.
 use mathlib.Core.Path.{_≡_, refl, ap}
 use mathlib.Core.List.{List}
-use mathlib.Core.Bool.{Bool, true, false, cond, not, _||_}
+use mathlib.Core.Bool.{Bool, true, false, cond, not, _&&_, _||_}
 use mathlib.Core.Logic.{inl, inr, ⊎-elim}
 use Prim.Native.Nat.{ℕ, _+_, _-_, _%_, _<_, _≤_}
 use native.Mathlib.Omega.{arith}
@@ -14,7 +14,7 @@ use Rattle.line_receiver.specs.Frames.{written}
 use Rattle.host_rules.specs.declared.Reading.{Reading}
 use Rattle.host_rules.specs.declared.Answered.{Answered}
 use Rattle.host_rules.specs.declared.Written.{Written}
-use Rattle.types_rules.specs.Types.{known, sizesOf}
+use Rattle.types_rules.specs.Types.{known, sizesOf, showsOf}
 use Rattle.types_rules.specs.Promises.{ThereIs}
 use Rattle.types_rules.proofs.Promised.{numbers}
 use Rattle.host_rules.specs.Reading.{neededFor, summed, readingOf, refusal, statusOf}
@@ -54,6 +54,15 @@ unequal m n = (λ e. eqb-false m n (not-true (eqb m n) e), λ h. rw (ne-eqb m n 
 
 equal : (m n : ℕ) → Exactly (not (eqb m n) ≡ false) (m ≡ n)
 equal m n = (λ e. eqb-true m n (not-false (eqb m n) e), λ h. rw (eq-eqb m n h))
+
+-- two tests, of which the second compares
+unsuited : (t : Bool) (m n : ℕ) → Exactly (not (t && eqb m n) ≡ true) ((t ≡ true) × (m ≡ n) → ⊥)
+unsuited true m n = (λ e h. unequal m n .0 e (h .1), λ h. unequal m n .1 (λ e. h (refl, e)))
+unsuited false m n = (λ e h. clash (h .0) refl, λ h. refl)
+
+suited : (t : Bool) (m n : ℕ) → Exactly (not (t && eqb m n) ≡ false) ((t ≡ true) × (m ≡ n))
+suited true m n = (λ e. (refl, equal m n .0 e), λ h. equal m n .1 (h .1))
+suited false m n = (λ e. absurd (clash refl e), λ h. absurd (clash (h .0) refl))
 
 over : (a c : ℕ) (ds : List ℕ) → Exactly (unfit a c ds ≡ true) (Over a c ds)
 over a c ds = (
@@ -129,13 +138,14 @@ reader kind items reply =
     let x : ℕ = getD reply (length reply - 1) 0 in
     let s : ℕ = total (take (length reply - 1) reply) % 256 in
     let a : Bool = not (known kind) in
-    let b : Bool = not (eqb m n) in
+    let t : Bool = showsOf kind items in
+    let b : Bool = not (t && eqb m n) in
     let c : Bool = not (eqb x s) in
     record {
       twelve = via (first r a b c) (other kind);
-      eighteen = via (second r a b c) (two (there-is kind) (unequal m n));
-      nineteen = via (third r a b c) (three (there-is kind) (equal m n) (unequal x s));
-      done = via (none r a b c) (three (there-is kind) (equal m n) (equal x s));
+      eighteen = via (second r a b c) (two (there-is kind) (unsuited t m n));
+      nineteen = via (third r a b c) (three (there-is kind) (suited t m n) (unequal x s));
+      done = via (none r a b c) (three (there-is kind) (suited t m n) (equal x s));
       taken = given r a b c;
       blank = empty r a b c;
     }

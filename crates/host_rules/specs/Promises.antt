@@ -10,7 +10,7 @@ use Rattle.base_layout.specs.Bytes.{pasted}
 use Rattle.line_receiver.specs.Receive.{total, idle}
 use Rattle.line_receiver.specs.Frames.{written, clean, reads, ended}
 use Rattle.module_rules.specs.Report.{report, Fit}
-use Rattle.types_rules.specs.Types.{sizesOf}
+use Rattle.types_rules.specs.Types.{sizesOf, showsOf}
 use Rattle.types_rules.specs.Promises.{ThereIs}
 use Rattle.host_rules.specs.Reading.{neededFor, summed, readingOf, statusOf}
 use Rattle.host_rules.specs.Writing.{writtenOf, roomAfter}
@@ -33,10 +33,11 @@ Status =
     (status items : ℕ) (sizes numbers : List ℕ) → Fit sizes numbers
     → ReadBack status items sizes numbers (report status items sizes numbers)
 
--- 01 Numbers given back, last paragraph: the reader refuses no reply of a module of either type, and gives back what was put into it.
+-- 01 Numbers given back, last paragraph: the reader refuses no reply of a module of any type with items that it has, and gives back what was put
+-- into it.
 abbrev pub Taken : Type 0
 Taken =
-    (kind status items : ℕ) (numbers : List ℕ) → ThereIs kind → Fit (sizesOf kind) numbers
+    (kind status items : ℕ) (numbers : List ℕ) → ThereIs kind → showsOf kind items ≡ true → Fit (sizesOf kind) numbers
     → statusOf kind items (report status items (sizesOf kind) numbers)
     ≡ record { number = 0; reading = record { status = status; numbers = shown items numbers } }
 
@@ -44,9 +45,9 @@ Taken =
 abbrev pub Exactly : Type 0 → Type 0 → Type 0
 Exactly p q = (p → q) × (q → p)
 
--- 01 Numbers given back, 18: the length is what type and items require.
+-- 01 Numbers given back, 18, 02 P3: the type has these items, and the length is what type and items require.
 abbrev pub Long : ℕ → ℕ → List ℕ → Type 0
-Long kind items reply = length reply ≡ neededFor items (sizesOf kind)
+Long kind items reply = (showsOf kind items ≡ true) × (length reply ≡ neededFor items (sizesOf kind))
 
 -- 01 Numbers given back, 19: the last byte is the 8-bit sum of those before it.
 abbrev pub Right : List ℕ → Type 0
@@ -65,7 +66,7 @@ pub record Reader (kind items : ℕ) (reply : List ℕ) : Type 0 where
 abbrev pub counts : ℕ → ℕ → ℕ → ℕ
 counts items k bytes = bytes * (items / 2 ^ k % 2)
 
--- 01 Numbers given back, 18, and Servo, I/O module, Items: the length that type 0 or 2 and the items require, status byte and sum among it.
+-- 01 Numbers given back, 18, and Servo, I/O module, Items: the length that type 0, 2 or 3 and the items require, status byte and sum among it.
 pub record Required (items : ℕ) : Type 0 where
   pub servo : neededFor items (sizesOf 0)
       ≡ 2
@@ -79,6 +80,7 @@ pub record Required (items : ℕ) : Type 0 where
       + (counts items 1 1
       + (counts items 2 1
       + (counts items 3 1 + (counts items 4 4 + (counts items 5 2 + (counts items 6 2 + counts items 7 4)))))))
+  pub stepper : neededFor items (sizesOf 3) ≡ 2 + (counts items 0 4 + counts items 5 2)
 
 abbrev pub Lengths : Type 0
 Lengths = (items : ℕ) → Required items

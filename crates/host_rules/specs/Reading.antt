@@ -1,12 +1,12 @@
 -- The host's reader of replies: which bytes a reply must have, and what they say.
 use Prim.Native.Nat.{ℕ, _+_, _-_, _/_, _%_}
 use mathlib.Core.List.{List, [], _∷_}
-use mathlib.Core.Bool.{Bool, cond, not}
+use mathlib.Core.Bool.{Bool, cond, not, _&&_}
 use lib.ListN.{length, getD, take, drop, replicate}
 use lib.Dec.{eqb}
 use Rattle.base_layout.specs.Bytes.{ofLe}
 use Rattle.line_receiver.specs.Receive.{total}
-use Rattle.types_rules.specs.Types.{known, sizesOf}
+use Rattle.types_rules.specs.Types.{known, sizesOf, showsOf}
 use Rattle.host_rules.specs.declared.Reading.{Reading}
 use Rattle.host_rules.specs.declared.Answered.{Answered}
 
@@ -22,6 +22,10 @@ chosenSize b (k ∷ ks) = oneSize b k + chosenSize (b / 2) ks
 -- 01 Commands of both types: how many bytes a reply with these items has, the status byte and the sum included.
 abbrev pub neededFor : ℕ → List ℕ → ℕ
 neededFor b ks = 2 + chosenSize b ks
+
+-- 01 Numbers given back, 18, 02 P3: the type has these items, and the reply's length is what type and items require.
+abbrev pub suits : ℕ → ℕ → List ℕ → Bool
+suits kind items bs = showsOf kind items && eqb (length bs) (neededFor items (sizesOf kind))
 
 -- 01 Commands of both types: the last byte is the 8-bit sum of all bytes before it.
 unfoldable pub summed : List ℕ → Bool
@@ -45,6 +49,6 @@ refusal n = record { number = n; reading = record { status = 0; numbers = replic
 unfoldable pub statusOf : ℕ → ℕ → List ℕ → Answered
 statusOf kind items bs =
     cond (not (known kind)) (refusal 12)
-    (cond (not (eqb (length bs) (neededFor items (sizesOf kind)))) (refusal 18)
+    (cond (not (suits kind items bs)) (refusal 18)
     (cond (not (summed bs)) (refusal 19)
     (record { number = 0; reading = readingOf items (sizesOf kind) bs })))

@@ -84,7 +84,8 @@ pub fn take_status(kind: u32, items: u8, reply: &[u8]) -> Answered
         return refused(12);
     }
     let sizes = types_table::sizes_of(kind);
-    if reply.len() != needed(items, sizes) {
+    let long = reply.len() == needed(items, sizes);
+    if !(types_table::is_shown(kind, items) & long) {
         return refused(18);
     }
     if !is_summed(reply) {

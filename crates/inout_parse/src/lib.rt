@@ -73,6 +73,7 @@ pub fn request_of(f: Head, alone: bool, ds: &[u8]) -> Request
         Asked::Other => own_request(f.code, ds),
         Asked::Unknown => Request::Malformed(Fault::Unknown),
         Asked::Wants(n, s) => counted(n, ds, Request::Set(s)),
+        Asked::Chooses(_, s) => counted(1, ds, Request::Set(s)),
         Asked::Reset(n) => counted(n, ds, Request::Reset),
     }
 }

@@ -41,10 +41,11 @@ own-fine m code ds =
       synchInput = (refl, refl);
     })
 
-all-fine : (m : Io) (a : Asked) (code : ℕ) (ds : List ℕ) → Fine m (Any.joined a (own code ds))
+all-fine : (m : Io) (a : Asked) (code : ℕ) (ds : List ℕ) → Fine m (Any.joined (inout .shows) a (own code ds))
 all-fine m Both.Other code ds = own-fine m code ds
 all-fine m Both.Unknown code ds = (refl, refl)
 all-fine m (Both.Wants n s) code ds = (refl, refl)
+all-fine m (Both.Chooses b s) code ds = (refl, refl)
 all-fine m (Both.Reset n) code ds = (refl, refl)
 
 -- the tests that are left: damaged, unknown, miscounted

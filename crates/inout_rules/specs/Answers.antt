@@ -1,7 +1,7 @@
 -- What an I/O module tells the host and the board (document 01, "I/O module"), and the type as a whole.
 use Prim.Native.Nat.{ℕ, _%_, _/_}
 use mathlib.Core.List.{List, [], _∷_}
-use mathlib.Core.Bool.{Bool}
+use mathlib.Core.Bool.{Bool, true}
 use Rattle.line_receiver.specs.Frames.{Frame}
 use Rattle.module_rules.specs.Report.{causeBit}
 use Rattle.module_rules.specs.Rules as Any
@@ -64,6 +64,7 @@ inout = record {
   can = can;
   perform = perform;
   tick = ticked;
+  shows = λ b. true;
   status = status;
   sizes = sizes;
   numbers = numbers;

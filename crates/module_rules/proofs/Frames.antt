@@ -1,8 +1,8 @@
 -- Who a frame is for, who replies, and what the commands of every type store, by the frame's bytes. Assumes nothing.
 use mathlib.Core.Path.{_≡_, refl, ap, ap₂, _∙_}
 use mathlib.Core.Logic.{_⊎_, inl, inr, ⊎-elim, _↔_}
-use mathlib.Core.List.{List}
-use mathlib.Core.Bool.{Bool, true, false, _||_, false≢true}
+use mathlib.Core.List.{List, [], _∷_}
+use mathlib.Core.Bool.{Bool, true, false, cond, _||_, false≢true}
 use Prim.Native.Nat.{ℕ, _+_, _%_}
 use native.Mathlib.Omega.{arith}
 use borrow.Author.Tests.{eqb-true, eq-eqb, ne-eqb, lt-ltb, le-ltb}
@@ -13,7 +13,7 @@ use Rattle.module_rules.specs.declared.Station.{Station}
 use Rattle.module_rules.specs.declared.Setting.{Setting}
 use Rattle.module_rules.specs.declared.Setting.the-variants.{Assign, Define, Rate, Nothing}
 use Rattle.module_rules.specs.declared.Fault.{Fault}
-use Rattle.module_rules.specs.declared.Fault.the-variants.{Count}
+use Rattle.module_rules.specs.declared.Fault.the-variants.{Count, Value}
 use Rattle.module_rules.specs.Commands.{asked, assigned, applied, caused}
 use Rattle.module_rules.specs.Kind.{Kind}
 use Rattle.module_rules.specs.Rules.{malformed, set, faultCause, Rules, request, settled, execute}
@@ -68,6 +68,25 @@ module _ {M S C : Type 0} (T : Rules M S C) (p : Apart T) where
       set-once (Assign a b) m
       ∙ ap (λ (w : Address). T .withStation (record { address = w; cause = 0; items = T .station m .items; baud = T .station m .baud }) m) e
 
+  -- a frame that can't be read
+  pub unread : (x : Fault) (to code : ℕ) (ds : List ℕ) (alone : Bool) (m : M) → request T (undamaged to code ds) alone ≡ malformed x
+      → Becomes T m (execute T (undamaged to code ds) alone m) (caused (faultCause x) (T .station m))
+  unread x to code ds alone m q = becomes (settles T (undamaged to code ds) alone m refl q)
+
+  -- what Define Status and Read Status ask, by whether there is such an item byte
+  define-asks : (to b : ℕ) (alone t : Bool) → T .shows b ≡ t → request T (undamaged to 2 (b ∷ [])) alone ≡ cond t (set (Define b)) (malformed Value)
+  unfolding request asked
+  define-asks to b alone t e = rw e refl
+
+  read-asks : (to b : ℕ) (alone t : Bool) → T .shows b ≡ t → request T (undamaged to 3 (b ∷ [])) alone ≡ cond t (set Nothing) (malformed Value)
+  unfolding request asked
+  read-asks to b alone t e = rw e refl
+
+  not-shown : (to b code : ℕ) (alone : Bool) (m : M) → (code ≡ 2) ⊎ (code ≡ 3) → T .shows b ≡ false
+      → Becomes T m (execute T (undamaged to code (b ∷ [])) alone m) (caused 5 (T .station m))
+  not-shown to b code alone m (inl c) e = unread Value to code (b ∷ []) alone m (rw c (define-asks to b alone false e))
+  not-shown to b code alone m (inr c) e = unread Value to code (b ∷ []) alone m (rw c (read-asks to b alone false e))
+
   pub stored : Stored T
   unfolding execute request asked
   stored to alone m = record {
@@ -77,17 +96,13 @@ module _ {M S C : Type 0} (T : Rules M S C) (p : Apart T) where
     member = λ a b h l.
         let g : 128 + b % 128 ≡ b = omega arith in
         becomes (addressed a b m _ (ap₂ (λ (g : ℕ) (t : Bool). record { individual = a; group = g; leader = t; low = true }) g (le-ltb b 128 h)));
-    items = λ b. becomes (set-once (Define b) m);
+    items = λ b g. becomes (settles T (undamaged to 2 (b ∷ [])) alone m refl (define-asks to b alone true g) ∙ set-once (Define b) m);
     baud = λ b. becomes (set-once (Rate b) m);
     notAlone = λ ds. becomes refl;
-    readStatus = λ b. becomes (set-once Nothing m);
+    readStatus = λ b g. becomes (settles T (undamaged to 3 (b ∷ [])) alone m refl (read-asks to b alone true g) ∙ set-once Nothing m);
+    notShown = λ b code c g. not-shown to b code alone m c g;
     noOp = becomes (set-once Nothing m);
   }
-
-  -- a frame that can't be read
-  pub unread : (x : Fault) (to code : ℕ) (ds : List ℕ) (alone : Bool) (m : M) → request T (undamaged to code ds) alone ≡ malformed x
-      → Becomes T m (execute T (undamaged to code ds) alone m) (caused (faultCause x) (T .station m))
-  unread x to code ds alone m q = becomes (settles T (undamaged to code ds) alone m refl q)
 
   pub counts : Counts T
   unfolding request asked

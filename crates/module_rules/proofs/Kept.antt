@@ -1,13 +1,16 @@
 -- A module that a slot can hold stays one, whatever comes, for every type that owes what it owes. Assumes nothing.
+use mathlib.Core.Path.{_≡_}
 use mathlib.Core.List.{List}
 use mathlib.Core.Bool.{Bool, true, false, cond}
 use Prim.Native.Nat.{ℕ, _≤_}
 use native.Mathlib.Omega.{arith}
 use lib.ListN.{length, getD}
 use Rattle.line_receiver.specs.Frames.{Frame}
+use Rattle.module_rules.specs.declared.Station.{Station}
 use Rattle.module_rules.specs.declared.Setting.{Setting}
 use Rattle.module_rules.specs.declared.Fault.{Fault}
 use Rattle.module_rules.specs.declared.Setting.the-variants.{Assign, Define, Rate, Nothing}
+use Rattle.module_rules.specs.Commands.{applied}
 use Rattle.module_rules.specs.Slots.{Slots, Preserves}
 use Rattle.module_rules.specs.Rules.{Request, malformed, set, wants, Meaning, unknown, takes, faultCause, Rules, withCause, request, settled, execute, reply, kindOf}
 use Rattle.module_rules.specs.Owes.{Safe, Owes, replySize}
@@ -21,10 +24,16 @@ module _ {M S C : Type 0} (T : Rules M S C) (L : Slots M) (Good : S → Type 0) 
   Keeps q = (m : M) → L .fits m → L .fits (settled T q m)
 
   caused-held : (c : ℕ) → c ≤ 5 → (m : M) → L .fits m → L .fits (withCause T c m)
-  caused-held c h m t = o .withStation _ m (caused-fits c h (T .station m) (o .held m t)) t
+  caused-held c h m t = o .withStation _ m (caused-fits c h (T .station m) (o .held m t)) (o .shown m t) t
 
-  set-keeps : (z : Setting) → Sized z → Keeps (set z)
-  set-keeps z h m t = caused-held 0 (omega arith) _ (o .withStation _ m (applied-fits z h (T .station m) (o .held m t)) t)
+  -- a setting leaves the items, or puts an item byte that there is
+  Chosen : Setting → Type 0
+  Chosen z = (s : Station) → T .shows (s .items) ≡ true → T .shows (applied z s .items) ≡ true
+
+  set-keeps : (z : Setting) → Sized z → Chosen z → Keeps (set z)
+  unfolding Chosen
+  set-keeps z h g m t =
+      caused-held 0 (omega arith) _ (o .withStation _ m (applied-fits z h (T .station m) (o .held m t)) (g (T .station m) (o .shown m t)) t)
 
   fault-keeps : (x : Fault) → Keeps (malformed x)
   fault-keeps x m t = caused-held (faultCause x) (fault-small x) m t
@@ -39,17 +48,17 @@ module _ {M S C : Type 0} (T : Rules M S C) (L : Slots M) (Good : S → Type 0) 
   frame-keeps false q k m t = k m t
 
   pub preserves : Preserves (kindOf T) L Good
-  unfolding execute
+  unfolding execute Chosen
   preserves = record {
     execute = λ f alone m b t.
         frame-keeps (f .damaged) (request T f alone)
         (asks T Keeps f alone
         (record {
           malformed = fault-keeps;
-          assign = λ e. set-keeps (Assign (getD (f .content) 0 0) (getD (f .content) 1 0)) (b 0);
-          define = λ e. set-keeps (Define (getD (f .content) 0 0)) (b 0);
-          rate = λ e. set-keeps (Rate (getD (f .content) 0 0)) (b 0);
-          nothing = λ e. set-keeps Nothing tt;
+          assign = λ e. set-keeps (Assign (getD (f .content) 0 0) (getD (f .content) 1 0)) (b 0) (λ s g. g);
+          define = λ e g. set-keeps (Define (getD (f .content) 0 0)) (b 0) (λ s k. g);
+          rate = λ e. set-keeps (Rate (getD (f .content) 0 0)) (b 0) (λ s g. g);
+          nothing = λ e. set-keeps Nothing tt (λ s g. g);
           reset = λ e m t. caused-held 0 (omega arith) (T .renewed m) (o .renewed m t);
           own = own-keeps (f .content) (T .own (f .code) (f .content)) (o .own (f .code) (f .content) b);
         }))

@@ -1,7 +1,8 @@
 -- What a reply is, how long it is at most, and what Hard Reset leaves. Assumes nothing.
-use mathlib.Core.Path.{_≡_, refl, ap, _∙_}
+use mathlib.Core.Path.{_≡_, refl, sym, ap, _∙_}
 use mathlib.Core.Bool.{Bool, and-false}
-use borrow.Author.Tests.{eq-eqb, ne-eqb}
+use Prim.Native.Nat.{ℕ}
+use borrow.Author.Tests.{eq-eqb, ne-eqb, not-false}
 use lib.ListN.{length}
 use lib.Dec.{eqb}
 use Rattle.line_receiver.specs.Frames.{Frame}
@@ -9,10 +10,10 @@ use Rattle.module_rules.specs.declared.Station.{Station}
 use Rattle.module_rules.specs.Touch.{powerUp}
 use Rattle.module_rules.specs.Commands.{asked, caused}
 use Rattle.module_rules.specs.Report.{report, replyOf}
-use Rattle.module_rules.specs.Rules.{reset, Rules, request, execute, reply}
-use Rattle.module_rules.specs.Promises.{Apart, Resets, StatusFirst, Replied, Short}
+use Rattle.module_rules.specs.Rules.{reset, Rules, joined, request, execute, reply}
+use Rattle.module_rules.specs.Promises.{Apart, isOutOfRange, ReadShown, Resets, StatusFirst, Replied, Short}
 use Rattle.module_rules.proofs.Short.{reply-short}
-use Rattle.module_rules.proofs.Settled.{cause}
+use Rattle.module_rules.proofs.Settled.{cause, cause-tested}
 
 module _ {M S C : Type 0} (T : Rules M S C) where
   pub status-first : StatusFirst T
@@ -36,6 +37,12 @@ module _ {M S C : Type 0} (T : Rules M S C) where
   pub asks-reset : (f : Frame) (alone : Bool) → f .code ≡ 15 → length (f .content) ≡ 0 → request T f alone ≡ reset
   unfolding request asked
   asks-reset f alone c n = rw (c, n)
+
+  pub read-shown : Apart T → ReadShown T
+  unfolding asked
+  read-shown a f alone m c e =
+      let none = cause-tested T a f alone m .none .0 e in
+      not-false _ (ap (λ (code : ℕ). isOutOfRange T (joined (T .shows) (asked code alone (f .content)) (T .own (f .code) (f .content)))) (sym c) ∙ none .1 .1 .1 .0)
 
   pub resets : Apart T → Resets T
   resets a f alone m d c n =

@@ -33,10 +33,10 @@ Of P ds unknown = Unit {0}
 Of P ds (takes count good x) = length ds ≡ count → good ≡ true → P x
 
 -- P of each request that a code and data bytes can be, if P holds of what the type's own codes mean
-pub record Each {C : Type 0} (P : Request C → Type 0) (code : ℕ) (ds : List ℕ) (u : Meaning C) : Type 0 where
+pub record Each {C : Type 0} (P : Request C → Type 0) (shows : ℕ → Bool) (code : ℕ) (ds : List ℕ) (u : Meaning C) : Type 0 where
   pub malformed : (x : Fault) → P (malformed x)
   pub assign : code ≡ 1 → P (set (Assign (getD ds 0 0) (getD ds 1 0)))
-  pub define : code ≡ 2 → P (set (Define (getD ds 0 0)))
+  pub define : code ≡ 2 → shows (getD ds 0 0) ≡ true → P (set (Define (getD ds 0 0)))
   pub rate : code ≡ 10 → P (set (Rate (getD ds 0 0)))
   pub nothing : (code ≡ 3) ⊎ (code ≡ 14) → P (set Nothing)
   pub reset : code ≡ 15 → P reset
@@ -52,14 +52,14 @@ module _ {C : Type 0} (P : Request C → Type 0) (ds : List ℕ) where
   of-owned unknown h = tt
   of-owned (takes n good c) h = h
 
-  module _ (code : ℕ) (own : Meaning C) (e : Each P code ds own) where
-    pub joined-asks : (alone : Bool) → P (judged ds (joined (asked code alone ds) own))
+  module _ (shows : ℕ → Bool) (code : ℕ) (own : Meaning C) (e : Each P shows code ds own) where
+    pub joined-asks : (alone : Bool) → P (judged ds (joined shows (asked code alone ds) own))
     unfolding asked
     joined-asks alone =
-        let Q : Asked → Type 0 = λ a. Of P ds (joined a own) in
-        judges (e .malformed) (joined (asked code alone ds) own)
+        let Q : Asked → Type 0 = λ a. Of P ds (joined shows a own) in
+        judges (e .malformed) (joined shows (asked code alone ds) own)
         (pick Q (eqb code 1) _ _ (λ t n g. e .assign (eqb-true code 1 t))
-        (pick Q (eqb code 2) _ _ (λ t n g. e .define (eqb-true code 2 t))
+        (pick Q (eqb code 2) _ _ (λ t n g. e .define (eqb-true code 2 t) g)
         (pick Q (eqb code 3) _ _ (λ t n g. e .nothing (inl (eqb-true code 3 t)))
         (pick Q (eqb code 10) _ _ (λ t. pick Q alone _ _ (λ u. tt) (λ n g. e .rate (eqb-true code 10 t)))
         (pick Q (eqb code 14) _ _ (λ t n g. e .nothing (inr (eqb-true code 14 t)))
@@ -88,19 +88,20 @@ module _ {C : Type 0} where
   owned-sound unknown = tt
   owned-sound (takes n good c) = tt
 
-  joined-sound : (a : Asked) (u : Meaning C) → AllSound (joined a u)
-  joined-sound Both.Other u = owned-sound u
-  joined-sound Both.Unknown u = tt
-  joined-sound (Both.Wants n s) u = tt
-  joined-sound (Both.Reset n) u = tt
+  joined-sound : (shows : ℕ → Bool) (a : Asked) (u : Meaning C) → AllSound (joined shows a u)
+  joined-sound shows Both.Other u = owned-sound u
+  joined-sound shows Both.Unknown u = tt
+  joined-sound shows (Both.Wants n s) u = tt
+  joined-sound shows (Both.Chooses b s) u = tt
+  joined-sound shows (Both.Reset n) u = tt
 
 module _ {M S C : Type 0} (T : Rules M S C) where
   -- what holds of every request that a frame can make holds of the one that it makes
   pub asks : (P : Request C → Type 0) (f : Frame) (alone : Bool)
-      → Each P (f .code) (f .content) (T .own (f .code) (f .content))
+      → Each P (T .shows) (f .code) (f .content) (T .own (f .code) (f .content))
       → P (request T f alone)
   unfolding request
-  asks P f alone e = joined-asks P (f .content) (f .code) (T .own (f .code) (f .content)) e alone
+  asks P f alone e = joined-asks P (f .content) (T .shows) (f .code) (T .own (f .code) (f .content)) e alone
 
   -- a frame that is damaged or not, and what it asks
   abbrev after : Bool → Request C → M → M
@@ -202,7 +203,7 @@ module _ {M S C : Type 0} (T : Rules M S C) where
         let table : List Line = causeTable T f alone m in
         let own = T .own (f .code) (f .content) in
         let is : T .station (execute T f alone m) .cause ≡ first table =
-        all-found (f .damaged) (f .content) (meaning T f alone) m (joined-sound (asked (f .code) alone (f .content)) own) in
+        all-found (f .damaged) (f .content) (meaning T f alone) m (joined-sound (T .shows) (asked (f .code) alone (f .content)) own) in
         let numbered : Numbered table = (omega arith, (omega arith, (omega arith, (omega arith, (omega arith, tt))))) in
         let x = exactly table numbered in
         record {
@@ -248,7 +249,7 @@ module _ {M S C : Type 0} (T : Rules M S C) where
           (record {
             malformed = λ x m. caused-still (faultCause x) m;
             assign = λ e. absurd (n1 e);
-            define = λ e. set-still (Define (getD (f .content) 0 0)) (λ t. refl);
+            define = λ e g. set-still (Define (getD (f .content) 0 0)) (λ t. refl);
             rate = λ e. set-still (Rate (getD (f .content) 0 0)) (λ t. refl);
             nothing = λ e. set-still Nothing (λ t. refl);
             reset = λ e. absurd (n15 e);

@@ -9,15 +9,15 @@ use Rattle.module_rules.specs.declared.Station.{Station}
 use Rattle.module_rules.specs.declared.Setting.{Setting}
 use Rattle.module_rules.specs.declared.Setting.the-variants.{Assign, Define, Rate, Nothing}
 use Rattle.module_rules.specs.declared.Asked.{Asked}
-use Rattle.module_rules.specs.declared.Asked.the-variants.{Other, Unknown, Wants, Reset}
+use Rattle.module_rules.specs.declared.Asked.the-variants.{Other, Unknown, Wants, Chooses, Reset}
 
--- What a code asks, and how many data bytes it takes: 1 Set Address (2), 2 Define Status (1), 3 Read Status (1), 10 Set Baud (1, unknown
--- unless it is for a group), 14 No Op (0), 15 Hard Reset (0). Any other code is the module type's own.
+-- What a code asks, and how many data bytes it takes: 1 Set Address (2), 2 Define Status (1) and 3 Read Status (1), which choose items,
+-- 10 Set Baud (1, unknown unless it is for a group), 14 No Op (0), 15 Hard Reset (0). Any other code is the module type's own.
 unfoldable pub asked : ℕ → Bool → List ℕ → Asked
 asked code alone ds =
     cond (eqb code 1) (Wants 2 (Assign (getD ds 0 0) (getD ds 1 0)))
-    (cond (eqb code 2) (Wants 1 (Define (getD ds 0 0)))
-    (cond (eqb code 3) (Wants 1 Nothing)
+    (cond (eqb code 2) (Chooses (getD ds 0 0) (Define (getD ds 0 0)))
+    (cond (eqb code 3) (Chooses (getD ds 0 0) Nothing)
     (cond (eqb code 10) (cond alone Unknown (Wants 1 (Rate (getD ds 0 0))))
     (cond (eqb code 14) (Wants 0 Nothing)
     (cond (eqb code 15) (Reset 0)

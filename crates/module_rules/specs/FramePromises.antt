@@ -83,8 +83,9 @@ module _ {M S C : Type 0} (T : Rules M S C) where
           items = T .station m .items;
           baud = T .station m .baud;
         })
-    -- 2 Define Status
+    -- 2 Define Status, with an item byte that there is
     pub items : (b : ℕ)
+        → T .shows b ≡ true
         → Becomes m (execute T (undamaged to 2 (b ∷ [])) alone m)
         (record { address = T .station m .address; cause = 0; items = b; baud = T .station m .baud })
     -- 10 Set Baud, to a group only: individually it is unknown, with any data
@@ -92,10 +93,14 @@ module _ {M S C : Type 0} (T : Rules M S C) where
         → Becomes m (execute T (undamaged to 10 (b ∷ [])) false m)
         (record { address = T .station m .address; cause = 0; items = T .station m .items; baud = b })
     pub notAlone : (ds : List ℕ) → Becomes m (execute T (undamaged to 10 ds) true m) (caused 4 (T .station m))
-    -- 3 Read Status, 14 No Op
+    -- 3 Read Status, with an item byte that there is; of another, both are a bad value (02 P3)
     pub readStatus : (b : ℕ)
+        → T .shows b ≡ true
         → Becomes m (execute T (undamaged to 3 (b ∷ [])) alone m)
         (record { address = T .station m .address; cause = 0; items = T .station m .items; baud = T .station m .baud })
+    pub notShown : (b code : ℕ) → (code ≡ 2) ⊎ (code ≡ 3) → T .shows b ≡ false
+        → Becomes m (execute T (undamaged to code (b ∷ [])) alone m) (caused 5 (T .station m))
+    -- 14 No Op
     pub noOp : Becomes m (execute T (undamaged to 14 []) alone m)
         (record { address = T .station m .address; cause = 0; items = T .station m .items; baud = T .station m .baud })
 

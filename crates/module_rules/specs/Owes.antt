@@ -45,7 +45,8 @@ module _ {M S C : Type 0} (T : Rules M S C) (L : Slots M) (Good : S → Type 0) 
     -- what a slot can hold is never left
     pub power : L .fits (T .started)
     pub held : (m : M) → L .fits m → station .codec .fits (T .station m)
-    pub withStation : (s : Station) (m : M) → station .codec .fits s → L .fits m → L .fits (T .withStation s m)
+    pub shown : (m : M) → L .fits m → T .shows (T .station m .items) ≡ true
+    pub withStation : (s : Station) (m : M) → station .codec .fits s → T .shows (s .items) ≡ true → L .fits m → L .fits (T .withStation s m)
     pub renewed : (m : M) → L .fits m → L .fits (T .renewed m)
     pub own : (code : ℕ) (ds : List ℕ) → Bytes ds → Safe (T .own code ds)
     pub tick : (x : S) (m : M) → Good x → L .fits m → L .fits (T .tick x m)

@@ -151,6 +151,11 @@ module _ {M S C : Type 0} (T : Rules M S C) where
   abbrev pub Replied : Type 0
   Replied = (f : Frame) (m : M) → Replies f m
 
+  -- Read Status is executed only with an item byte that there is; so where the defined items are such, every reply's are (02 P3).
+  abbrev pub ReadShown : Type 0
+  ReadShown =
+      (f : Frame) (alone : Bool) (m : M) → f .code ≡ 3 → T .station (execute T f alone m) .cause ≡ 0 → T .shows (getD (f .content) 0 0) ≡ true
+
   -- A reply has at most two bytes more than all items together.
   abbrev pub Short : Type 0
   Short = (f : Frame) (m : M) → length (reply T f m) ≤ total (T .sizes) + 2

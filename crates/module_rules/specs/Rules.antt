@@ -72,6 +72,8 @@ pub record Rules (M S C : Type 0) : Type 0 where
   pub perform : C → M → M
   -- 02 P11: the module after a tick that hands it this sample
   pub tick : S → M → M
+  -- which item bytes there are: of another the value is out of range (02 P3)
+  pub shows : ℕ → Bool
   -- the status byte, the items' sizes and their numbers
   pub status : M → ℕ
   pub sizes : List ℕ
@@ -79,12 +81,13 @@ pub record Rules (M S C : Type 0) : Type 0 where
   -- what the board drives, in eight bytes
   pub outputs : M → List ℕ
 
--- the codes of every type come first; of their commands every value is good
-abbrev pub joined : {C : Type 0} → Asked → Meaning C → Meaning (Request C)
-joined Both.Other own = owned own
-joined Both.Unknown own = unknown
-joined (Both.Wants count s) own = takes count true (set s)
-joined (Both.Reset count) own = takes count true reset
+-- the codes of every type come first; of their commands every value is good, but for an item byte that there is not
+abbrev pub joined : {C : Type 0} → (ℕ → Bool) → Asked → Meaning C → Meaning (Request C)
+joined shows Both.Other own = owned own
+joined shows Both.Unknown own = unknown
+joined shows (Both.Wants count s) own = takes count true (set s)
+joined shows (Both.Chooses items s) own = takes 1 (shows items) (set s)
+joined shows (Both.Reset count) own = takes count true reset
 
 module _ {M S C : Type 0} (T : Rules M S C) where
   -- 01 Who is touched: the same module with another last cause: 0 executed, 1 damaged, 3 not now, or one of a fault
@@ -93,7 +96,7 @@ module _ {M S C : Type 0} (T : Rules M S C) where
 
   -- 01 Commands of both types: what a frame means and asks; alone says that it was for this module individually
   abbrev pub meaning : Frame → Bool → Meaning (Request C)
-  meaning f alone = joined (asked (f .code) alone (f .content)) (T .own (f .code) (f .content))
+  meaning f alone = joined (T .shows) (asked (f .code) alone (f .content)) (T .own (f .code) (f .content))
 
   unfoldable pub request : Frame → Bool → Request C
   request f alone = judged (f .content) (meaning f alone)

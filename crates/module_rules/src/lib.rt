@@ -66,11 +66,13 @@ pub enum Setting {
     Nothing,
 }
 
-// What a code asks, as far as every type knows it: what is another's, what is unknown here, or a command with the number of its data bytes.
+// What a code asks, as far as every type knows it: what is another's, what is unknown here, or a command with the number of its data bytes. One that
+// chooses items has one data byte, the item byte, which the type must know.
 pub enum Asked {
     Other,
     Unknown,
     Wants(usize, Setting),
+    Chooses(u8, Setting),
     Reset(usize),
 }
 

@@ -162,8 +162,11 @@ pub fn asked_by(code: u8, alone: bool, ds: &[u8]) -> Asked
             2,
             Setting::Assign(base_layout::byte_at(ds, 0), base_layout::byte_at(ds, 1)),
         ),
-        2 => Asked::Wants(1, Setting::Define(base_layout::byte_at(ds, 0))),
-        3 => Asked::Wants(1, Setting::Nothing),
+        2 => Asked::Chooses(
+            base_layout::byte_at(ds, 0),
+            Setting::Define(base_layout::byte_at(ds, 0)),
+        ),
+        3 => Asked::Chooses(base_layout::byte_at(ds, 0), Setting::Nothing),
         10 => {
             if alone {
                 return Asked::Unknown;

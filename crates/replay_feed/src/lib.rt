@@ -102,6 +102,7 @@ pub fn take_other(
         2 => take_sample(at, servo_rules::TYPE, body, samples, net, out),
         3 => take_sample(at, inout_rules::TYPE, body, samples, net, out),
         4 => take_tick(at, samples, net),
+        5 => take_sample(at, stepper_rules::TYPE, body, samples, net, out),
         _ => at.bad(out),
     }
 }

@@ -9,10 +9,16 @@ use Rattle.inout_rules.specs.Asks.{own}
 use Rattle.inout_rules.specs.Pins.{blend}
 use Rattle.servo_rules.specs.Tick.{ran, ticked}
 use Rattle.servo_rules.specs.Answers.{done, statusOf, numbersOf}
+use Rattle.stepper_rules.specs.Carried.{carriedIn, inRange}
+use Rattle.stepper_rules.specs.Asks as Steppers
+use Rattle.stepper_rules.specs.Asks.{loadMeant, parametersMeant}
+use Rattle.stepper_rules.specs.Ramp as Ramp
+use Rattle.stepper_rules.specs.Ramp.{changed, onward, moved}
+use Rattle.stepper_rules.specs.Perform.{loadOf, storing, loaded, startable, begun, start, parametersSet}
 use Rattle.net_rules.specs.Calls.{samplesIn}
 use Rattle.replay_print.specs.Text.{decimal, line, badLine}
 use Rattle.replay_file.specs.Records.{bodyLength, lineByte, measured, sampleRecord, netRecord, recordStep, replayed}
-use Rattle.replay_file.specs.Promises.{Examples, Bodies, Sampled, Latest, Bad}
+use Rattle.replay_file.specs.Promises.{Examples, Bodies, Sampled, Stepped, Latest, Bad}
 
 pub examples : Examples
 unfolding taken asked report replyOf byteStep own request execute reply blend done statusOf numbersOf decimal line badLine bodyLength lineByte netRecord recordStep replayed
@@ -26,8 +32,10 @@ bodies = record {
   servoSample = refl;
   ioSample = refl;
   tick = refl;
+  stepperSample = refl;
   servo = λ place power ad r0 r1 r2 r3. refl;
   inout = λ place i0 i1 ad1 ad2 ad3 c0 c1 c2 c3. refl;
+  stepper = λ place stop. refl;
 }
 
 pub bad : Bad
@@ -45,11 +53,19 @@ bad = record {
   high = refl;
   inputs = refl;
   most = refl;
+  notStepper = refl;
+  stopTwo = refl;
+  stopCut = refl;
+  stopOne = refl;
 }
 
 pub sampled : Sampled
 unfolding taken asked report replyOf byteStep request execute reply blend done statusOf numbersOf decimal line bodyLength lineByte netRecord recordStep replayed measured sampleRecord ticked ran samplesIn
 sampled = (refl, refl)
+
+pub stepped : Stepped
+unfolding taken asked report replyOf byteStep request execute reply Steppers.own loadMeant parametersMeant carriedIn inRange loaded storing loadOf startable start begun parametersSet Ramp.ticked onward changed moved decimal line bodyLength lineByte netRecord recordStep replayed measured sampleRecord samplesIn
+stepped = refl
 
 pub latest : Latest
 unfolding taken asked report replyOf byteStep request execute reply blend decimal line bodyLength lineByte netRecord recordStep replayed measured sampleRecord samplesIn

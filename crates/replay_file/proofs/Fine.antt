@@ -16,6 +16,7 @@ use Rattle.chain_rules.proofs.Timing.{length-timed}
 use Rattle.chain_rules.proofs.Along.{length-stepped}
 use Rattle.inout_rules.specs.Answers as Inouts
 use Rattle.servo_rules.specs.Answers as Servos
+use Rattle.stepper_rules.specs.Answers as Steppers
 use Rattle.types_rules.specs.Types.{Module, AnySample, kind, slots, known, powered, inRange, Good}
 use Rattle.types_rules.proofs.Laws.{lawful}
 use Rattle.types_rules.proofs.Kept.{preserves}
@@ -195,7 +196,9 @@ module _ (at : Place) (types samples net : List ℕ) (h : Held at types samples 
         (λ q. let two = rw (eqb-true k 2 q) at l in fine-sample Servos.typeNumber (omega arith) (omega arith) (omega arith))
         (λ q. by-cond (Fine at types samples net size) (eqb k 3) _ _
         (λ q. let three = rw (eqb-true k 3 q) at l in fine-sample Inouts.typeNumber (omega arith) (omega arith) (omega arith))
-        (λ q. by-cond (Fine at types samples net size) (eqb k 4) _ bad (λ q. fine-tick) (λ q. fine-bad))))
+        (λ q. by-cond (Fine at types samples net size) (eqb k 4) _ _ (λ q. fine-tick)
+        (λ q. by-cond (Fine at types samples net size) (eqb k 5) _ bad
+        (λ q. let five = rw (eqb-true k 5 q) at l in fine-sample Steppers.typeNumber (omega arith) (omega arith) (omega arith)) (λ q. fine-bad)))))
 
 -- before the first byte nothing is gathered
 pub begun : (types samples net : List ℕ) → Lent types samples net → Held start types samples net
@@ -254,7 +257,8 @@ types-kept k n list body types =
     by-cond P (eqb k 1) _ _ (λ q. by-cond P (leb (getD body 0 0) 1) _ bad (λ q. refl) (λ q. refl))
     (λ q. by-cond P (eqb k 2) _ _ (λ q. sample-types _ n list body types)
     (λ q. by-cond P (eqb k 3) _ _ (λ q. sample-types _ n list body types)
-    (λ q. by-cond P (eqb k 4) _ bad (λ q. refl) (λ q. refl))))
+    (λ q. by-cond P (eqb k 4) _ _ (λ q. refl)
+    (λ q. by-cond P (eqb k 5) _ bad (λ q. sample-types _ n list body types) (λ q. refl)))))
 
 -- a sample leaves the network as it was
 pub sample-net : (t : ℕ) (net list body : List ℕ) → valid slots net ≡ true → Bytes net → netAfter (sampleRecord t (netIn slots net) list body) net ≡ net

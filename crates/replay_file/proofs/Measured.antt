@@ -18,7 +18,7 @@ use Rattle.module_rules.specs.Slots.{measuredAt}
 use Rattle.chain_rules.specs.Chain.{Net, Step, byteStep}
 use Rattle.replay_print.specs.Text.{lines}
 use Rattle.replay_file.specs.declared.Place.{Place}
-use Rattle.types_rules.specs.Table.{ModuleType, servo, inout, sampleOf}
+use Rattle.types_rules.specs.Table.{ModuleType, servo, inout, stepper, sampleOf}
 use Rattle.types_rules.specs.Types.{Module, kind, known, typeIn, inRange}
 use Rattle.types_rules.specs.Promises.{ThereIs}
 use Rattle.types_rules.proofs.Promised.{numbers}
@@ -48,6 +48,7 @@ zeros-ranged t = at (typeIn t)
     at : (u : ModuleType) → every (sampleOf u .codec .tests measuredAt (t ∷ replicate 9 0)) ≡ true
     at servo = refl
     at inout = refl
+    at stepper = refl
 
 -- a known type is a byte
 known-small : (t : ℕ) → known t ≡ true → t < 256
@@ -55,7 +56,8 @@ known-small t h = at (numbers t .0 h)
   where
     at : ThereIs t → t < 256
     at (inl e) = omega arith
-    at (inr e) = omega arith
+    at (inr (inl e)) = omega arith
+    at (inr (inr e)) = omega arith
 
 zeros-small : (k : ℕ) → Bytes (replicate k 0)
 zeros-small zero i = omega arith

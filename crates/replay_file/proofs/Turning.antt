@@ -24,7 +24,8 @@ body-short k =
     by-cond P (eqb k 0) 1 _ (λ q. omega arith)
     (λ q. by-cond P (eqb k 1) 2 _ (λ q. omega arith)
     (λ q. by-cond P (eqb k 2) 7 _ (λ q. omega arith)
-    (λ q. by-cond P (eqb k 3) 10 0 (λ q. omega arith) (λ q. omega arith))))
+    (λ q. by-cond P (eqb k 3) 10 _ (λ q. omega arith)
+    (λ q. by-cond P (eqb k 5) 2 0 (λ q. omega arith) (λ q. omega arith)))))
 
 -- no bytes, a record that is not whole, a whole record
 pub turn-none : (s : Stage) (input : List ℕ) (last : Bool) → length input ≡ 0 → turnStep s input last ≡ cond last over wants

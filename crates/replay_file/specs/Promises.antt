@@ -3,7 +3,7 @@ use mathlib.Core.Path.{_≡_}
 use Prim.Native.Nat.{ℕ, _+_, _≤_}
 use mathlib.Core.List.{List, [], _∷_, _++_}
 use mathlib.Core.Bool.{Bool, true, false}
-use lib.ListN.{length, drop}
+use lib.ListN.{length, drop, replicate}
 use Rattle.base_layout.specs.Bytes.{Bytes}
 use Rattle.net_rules.specs.Record.{recordSize, chainMost}
 use Rattle.net_rules.specs.Calls.{listSize}
@@ -70,11 +70,13 @@ pub record Bodies : Type 0 where
   pub servoSample : bodyLength 2 ≡ 7
   pub ioSample : bodyLength 3 ≡ 10
   pub tick : bodyLength 4 ≡ 0
+  pub stepperSample : bodyLength 5 ≡ 2
   pub servo : (place power ad r0 r1 r2 r3 : ℕ)
       → measured 0 (place ∷ power ∷ ad ∷ r0 ∷ r1 ∷ r2 ∷ r3 ∷ []) ≡ 0 ∷ power ∷ ad ∷ r0 ∷ r1 ∷ r2 ∷ r3 ∷ 0 ∷ 0 ∷ 0 ∷ []
   pub inout : (place i0 i1 ad1 ad2 ad3 c0 c1 c2 c3 : ℕ)
       → measured 2 (place ∷ i0 ∷ i1 ∷ ad1 ∷ ad2 ∷ ad3 ∷ c0 ∷ c1 ∷ c2 ∷ c3 ∷ [])
       ≡ 2 ∷ i0 ∷ i1 ∷ ad1 ∷ ad2 ∷ ad3 ∷ c0 ∷ c1 ∷ c2 ∷ c3 ∷ []
+  pub stepper : (place stop : ℕ) → measured 3 (place ∷ stop ∷ []) ≡ 3 ∷ stop ∷ replicate 8 0
 
 -- records of line bytes, none of them marked
 abbrev pub onLine : List ℕ → List ℕ
@@ -93,6 +95,25 @@ Sampled =
     ++ (2 ∷ 1 ∷ 1 ∷ 0xAB ∷ 0x78 ∷ 0x56 ∷ 0x34 ∷ 0x12 ∷ 4 ∷ onLine (0xAA ∷ 0 ∷ 0x13 ∷ 3 ∷ 0x16 ∷ [])))
     ≡ (48 ∷ 32 ∷ 48 ∷ 48 ∷ 32 ∷ 48 ∷ 48 ∷ 10 ∷ [])
     ++ (49 ∷ 32 ∷ 49 ∷ 57 ∷ 32 ∷ 55 ∷ 56 ∷ 32 ∷ 53 ∷ 54 ∷ 32 ∷ 51 ∷ 52 ∷ 32 ∷ 49 ∷ 50 ∷ 32 ∷ 65 ∷ 66 ∷ 32 ∷ 68 ∷ 56 ∷ 10 ∷ []))
+
+-- 02 P3: a step-motor module with minimum 5 that starts toward speed 6 with T 1, is asked for its position after two ticks, and again after a tick with
+-- its stop input at 1. Printed are "0 00 00", "0 01 01", "0 01 0C 00 00 00 0D" and "0 00 0C 00 00 00 0C".
+abbrev pub askedPlace : List ℕ
+askedPlace = onLine (0xAA ∷ 0 ∷ 0x13 ∷ 1 ∷ 0x14 ∷ [])
+
+abbrev pub toldTwelve : ℕ → ℕ → List ℕ
+toldTwelve status sum =
+    (48 ∷ 32 ∷ 48 ∷ status ∷ 32 ∷ 48 ∷ 67 ∷ 32 ∷ 48 ∷ 48 ∷ 32 ∷ 48 ∷ 48 ∷ 32 ∷ 48 ∷ 48 ∷ [])
+    ++ (32 ∷ 48 ∷ sum ∷ 10 ∷ [])
+
+abbrev pub Stepped : Type 0
+Stepped =
+    replayed
+    (0 ∷ 3 ∷ onLine (0xAA ∷ 0 ∷ 0x56 ∷ 0 ∷ 5 ∷ 0 ∷ 0 ∷ 0 ∷ 0x5B ∷ [])
+    ++ (onLine (0xAA ∷ 0 ∷ 0x34 ∷ 0x86 ∷ 6 ∷ 1 ∷ 0xC1 ∷ [])
+    ++ (4 ∷ 4 ∷ askedPlace ++ (5 ∷ 0 ∷ 1 ∷ 4 ∷ askedPlace))))
+    ≡ (48 ∷ 32 ∷ 48 ∷ 48 ∷ 32 ∷ 48 ∷ 48 ∷ 10 ∷ [])
+    ++ ((48 ∷ 32 ∷ 48 ∷ 49 ∷ 32 ∷ 48 ∷ 49 ∷ 10 ∷ []) ++ (toldTwelve 49 68 ++ toldTwelve 48 67))
 
 -- 02 P11: an I/O module that is asked for its first A/D value: after two samples and a tick it shows the later one, and so it does after another tick; after
 -- a tick with no sample it shows 0, and a sample shows no sooner than its tick. Printed are "0 00 09 09", "0 00 00 00" and "0 00 00 00".
@@ -121,7 +142,7 @@ pub record Bad : Type 0 where
   pub first : replayed (4 ∷ []) ≡ badAt 0
   pub late : replayed (0 ∷ 2 ∷ 4 ∷ 0 ∷ 2 ∷ []) ≡ badAt 3
   pub type : replayed (0 ∷ 1 ∷ []) ≡ badAt 0
-  pub kind : replayed (0 ∷ 2 ∷ 5 ∷ []) ≡ badAt 2
+  pub kind : replayed (0 ∷ 2 ∷ 6 ∷ []) ≡ badAt 2
   -- a line byte that is cut, and one with mark 2
   pub cut : replayed (0 ∷ 2 ∷ 1 ∷ 0 ∷ []) ≡ badAt 2
   pub mark : replayed (0 ∷ 2 ∷ 1 ∷ 2 ∷ 0 ∷ []) ≡ badAt 2
@@ -133,3 +154,8 @@ pub record Bad : Type 0 where
   -- an I/O sample with inputs 4,096; with 4,095 it is taken
   pub inputs : replayed (0 ∷ 2 ∷ 3 ∷ 0 ∷ 0 ∷ 0x10 ∷ 0 ∷ 0 ∷ 0 ∷ 0 ∷ 0 ∷ 0 ∷ 0 ∷ []) ≡ badAt 2
   pub most : replayed (0 ∷ 2 ∷ 3 ∷ 0 ∷ 0xFF ∷ 0x0F ∷ 0 ∷ 0 ∷ 0 ∷ 0 ∷ 0 ∷ 0 ∷ 0 ∷ []) ≡ []
+  -- a step-motor sample for an I/O module, with a stop input of 2, and cut; with 1 it is taken (02 P3)
+  pub notStepper : replayed (0 ∷ 2 ∷ 5 ∷ 0 ∷ 1 ∷ []) ≡ badAt 2
+  pub stopTwo : replayed (0 ∷ 3 ∷ 5 ∷ 0 ∷ 2 ∷ []) ≡ badAt 2
+  pub stopCut : replayed (0 ∷ 3 ∷ 5 ∷ 0 ∷ []) ≡ badAt 2
+  pub stopOne : replayed (0 ∷ 3 ∷ 5 ∷ 0 ∷ 1 ∷ []) ≡ []

@@ -9,21 +9,23 @@ use Rattle.base_layout.specs.Bytes.{pasted}
 use Rattle.module_rules.specs.Slots.{sampleSize}
 use Rattle.inout_rules.specs.Answers as Inouts
 use Rattle.servo_rules.specs.Answers as Servos
+use Rattle.stepper_rules.specs.Answers as Steppers
 use Rattle.chain_rules.specs.Chain.{Net, Step, byteStep}
 use Rattle.types_rules.specs.Types.{Module, kind, known, inRange}
 use Rattle.net_rules.specs.Calls.{setUp, samplesFor, tickStep, byteOf, ofType}
 use Rattle.replay_print.specs.Text.{lines, badLine}
 use Rattle.net_rules.specs.Record.{chainMost}
 
--- 01 Replay file: how many bytes follow the kind byte: module 1, line byte 2, servo sample 7, I/O sample 10, tick none; an unknown kind is bad
--- whatever follows it.
+-- 01 Replay file: how many bytes follow the kind byte: module 1, line byte 2, servo sample 7, I/O sample 10, tick none, step-motor sample 2
+-- (02 P3); an unknown kind is bad whatever follows it.
 unfoldable pub bodyLength : ℕ → ℕ
 bodyLength k =
     cond (eqb k 0) 1
     (cond (eqb k 1) 2
     (cond (eqb k 2) 7
     (cond (eqb k 3) 10
-    0)))
+    (cond (eqb k 5) 2
+    0))))
 
 -- 01 Replay file: kind 0 only first. So a replay first gathers the types of its modules, and then it has a network and, as 02 P11 asks, the list of
 -- samples for its next tick.
@@ -71,7 +73,8 @@ netRecord k n list body =
     (cond (eqb k 2) (sampleRecord Servos.typeNumber n list body)
     (cond (eqb k 3) (sampleRecord Inouts.typeNumber n list body)
     (cond (eqb k 4) (goes (running (tickStep (samplesFor n list) n) list) [])
-    bad)))
+    (cond (eqb k 5) (sampleRecord Steppers.typeNumber n list body)
+    bad))))
 
 -- 01 Replay file: the network and the list that a record works on: none before any module, and newly set up when the last module is in.
 abbrev pub netOf : Stage → Option (Net Module × List ℕ)

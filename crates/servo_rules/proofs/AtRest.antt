@@ -5,6 +5,7 @@ use mathlib.Core.Bool.{Bool, true, true≢false}
 use Prim.Native.Nat.{ℕ, _^_, _<_}
 use lib.ListN.{getD}
 use lib.IntN.{pos}
+use Rattle.base_integers.specs.Bits.{isSet}
 use Rattle.line_receiver.specs.Frames.{Frame}
 use Rattle.module_rules.specs.Rules.{wants}
 use Rattle.module_rules.proofs.Settled.{cause}
@@ -17,7 +18,7 @@ use Rattle.servo_rules.specs.declared.Mode.the-variants.{Off, Pwm, Hold,
 use Rattle.servo_rules.specs.declared.Run.{Run}
 use Rattle.servo_rules.specs.declared.Sample.{Sample}
 use Rattle.servo_rules.specs.declared.Servo.{Servo}
-use Rattle.servo_rules.specs.Carried.{isSet, carriedIn}
+use Rattle.servo_rules.specs.Carried.{carriedIn}
 use Rattle.servo_rules.specs.State.{position, servoOff, idled, off}
 use Rattle.servo_rules.specs.Loads.{loaded, startsNow, toSpeed, start}
 use Rattle.servo_rules.specs.Perform.{shifted, resetPosition, holding, smooth, haltedBy, stopped, perform}

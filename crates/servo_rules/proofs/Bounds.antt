@@ -9,13 +9,13 @@ use borrow.Author.Tests.{eqb-true, leb-true, le-leb, ne-eqb}
 use lib.Count.{ones, ones-step}
 use lib.ListN.{getD}
 use lib.Dec.{eqb, leb}
-use Rattle.base_integers.specs.Bits.{bit}
+use Rattle.base_integers.specs.Bits.{bit, isSet}
 use Rattle.base_integers.proofs.Bits.{bit-half}
 use Rattle.base_layout.specs.Bytes.{ofLe, readAt, Bytes}
 use Rattle.base_layout.proofs.Laws.{ofLe-lt, bytes-read}
 use Rattle.base_layout.proofs.Every.{every-hold}
 use Rattle.servo_motion.specs.Profile.{fastest}
-use Rattle.servo_rules.specs.Carried.{isSet, carriedIn, inRange}
+use Rattle.servo_rules.specs.Carried.{carriedIn, inRange}
 use Rattle.servo_rules.specs.Asks.{gainsIn, gainsFit}
 use Rattle.servo_rules.specs.AskPromises.{LoadRange, GainRange, OneHalt, Fit}
 

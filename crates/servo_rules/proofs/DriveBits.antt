@@ -8,6 +8,7 @@ use borrow.Author.Tests.{eqb-true, eqb-false}
 use lib.ListN.{length, getD}
 use lib.Dec.{eqb}
 use lib.IntN.{natAbs}
+use Rattle.base_integers.specs.Bits.{isSet}
 use Rattle.base_layout.specs.Bytes.{ofLe, readAt}
 use Rattle.line_receiver.specs.Frames.{Frame}
 use Rattle.module_rules.specs.declared.Fault.the-variants.{Count, Value}
@@ -22,7 +23,6 @@ use Rattle.servo_rules.specs.declared.Order.the-variants.{ResetPosition,
 use Rattle.servo_rules.specs.declared.Sample.{Sample}
 use Rattle.servo_rules.specs.declared.Run.{Run}
 use Rattle.servo_rules.specs.declared.Servo.{Servo}
-use Rattle.servo_rules.specs.Carried.{isSet}
 use Rattle.servo_rules.specs.Asks.{haltOf, oneHalt, stopCount, stopMeant}
 use Rattle.servo_rules.specs.State.{positionAt, position, idled, off}
 use Rattle.servo_rules.specs.Loads.{loaded, startsNow, start}

@@ -5,6 +5,7 @@ use mathlib.Core.Bool.{Bool, true, false, cond, not, _||_}
 use Prim.Native.Nat.{ℕ}
 use lib.ListN.{length, getD}
 use lib.Dec.{eqb}
+use Rattle.base_integers.specs.Bits.{isSet}
 use Rattle.base_layout.specs.Bytes.{ofLe, readAt}
 use Rattle.line_receiver.specs.Frames.{Frame}
 use Rattle.module_rules.specs.Rules.{Request, malformed, set, reset, wants}
@@ -13,7 +14,7 @@ use Rattle.servo_rules.specs.declared.Halt.{Halt}
 use Rattle.servo_rules.specs.declared.Halt.the-variants.{Keep, Release, Abrupt, Smooth, Here}
 use Rattle.servo_rules.specs.declared.Order.{Order}
 use Rattle.servo_rules.specs.declared.Order.the-variants.{ResetPosition, LoadTrajectory, Start, SetGain, Stop, ClearBits}
-use Rattle.servo_rules.specs.Carried.{isSet, needed, carriedIn}
+use Rattle.servo_rules.specs.Carried.{needed, carriedIn}
 use Rattle.servo_rules.specs.Asks.{loadMeant, gainMeant, haltOf, oneHalt, stopCount, stopMeant}
 use Rattle.servo_rules.specs.Answers.{servo, request}
 use Rattle.servo_rules.proofs.Asks.{own-means}
@@ -49,7 +50,7 @@ unfolding loadMeant gainMeant stopMeant
 known f alone = asks servo (Known f) f alone (record {
   malformed = λ x. tt;
   assign = λ c. ap spared c;
-  define = λ c. ap spared c;
+  define = λ c g. ap spared c;
   rate = λ c. ap spared c;
   nothing = either;
   reset = λ c. c;

@@ -4,6 +4,7 @@ use mathlib.Core.List.{List}
 use mathlib.Core.Bool.{Bool, true, false, cond, not, _||_}
 use Prim.Native.Nat.{ℕ, _≤_, zero-le}
 use native.Mathlib.Omega.{arith}
+use Rattle.base_integers.specs.Bits.{isSet}
 use Rattle.base_layout.specs.Bytes.{ofLe}
 use Rattle.line_receiver.specs.Frames.{Frame}
 use Rattle.module_rules.specs.Rules.{wants, asking}
@@ -12,7 +13,7 @@ use Rattle.servo_motion.specs.Profile.{fastest}
 use Rattle.servo_rules.specs.declared.Carried.{Carried}
 use Rattle.servo_rules.specs.declared.Order.the-variants.{LoadTrajectory}
 use Rattle.servo_rules.specs.declared.Servo.{Servo}
-use Rattle.servo_rules.specs.Carried.{isSet, inRange}
+use Rattle.servo_rules.specs.Carried.{inRange}
 use Rattle.servo_rules.specs.Asks.{loadMeant}
 use Rattle.servo_rules.specs.Loads.{loadOf, ratesOf, loaded, startable, signedBy, start}
 use Rattle.servo_rules.specs.Perform.{can}

@@ -10,10 +10,10 @@ use lib.Count.{ones, ones-step, ones-le}
 use lib.Dec.{eqb}
 use lib.ListN.{length, getD, take, drop, length-append, take-append-drop, length-drop}
 use lib.Seq.{length-take-le, getD-at}
-use Rattle.base_integers.specs.Bits.{bit}
+use Rattle.base_integers.specs.Bits.{bit, isSet}
 use Rattle.base_layout.specs.Bytes.{ofLe, readAt}
 use Rattle.base_layout.proofs.Laws.{read-back}
-use Rattle.servo_rules.specs.Carried.{isSet, needed, carriedAt, carriedIn}
+use Rattle.servo_rules.specs.Carried.{needed, carriedAt, carriedIn}
 use Rattle.servo_rules.specs.BytePromises.{carrying, loadBytes, Fours, LoadParts, LoadCount}
 
 -- a bit is 0 or 1, and set or not accordingly

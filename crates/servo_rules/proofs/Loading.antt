@@ -1,8 +1,8 @@
 -- What a load stores, and that starts, stops and shifts keep the velocity and acceleration that were loaded. Assumes nothing.
 use mathlib.Core.Path.{_≡_, refl}
 use mathlib.Core.Bool.{or-true}
+use Rattle.base_integers.specs.Bits.{isSet}
 use Rattle.servo_rules.specs.declared.Settings.{Settings}
-use Rattle.servo_rules.specs.Carried.{isSet}
 use Rattle.servo_rules.specs.State.{dropped}
 use Rattle.servo_rules.specs.Loads.{wayOf, ratesOf, loaded, start}
 use Rattle.servo_rules.specs.Perform.{resetPosition, drops, stopped}

@@ -5,6 +5,7 @@ use mathlib.Core.Bool.{Bool, true, false, true≢false, false≢true}
 use Prim.Native.Nat.{ℕ}
 use native.Mathlib.Omega.{arith}
 use lib.IntN.{pos}
+use Rattle.base_integers.specs.Bits.{isSet}
 use Rattle.line_receiver.specs.Frames.{Frame}
 use Rattle.module_rules.specs.declared.Fault.{Fault}
 use Rattle.module_rules.specs.declared.Fault.the-variants.{Unknown, Count, Value}
@@ -23,7 +24,7 @@ use Rattle.servo_rules.specs.declared.Settings.{Settings}
 use Rattle.servo_rules.specs.declared.Run.{Run}
 use Rattle.servo_rules.specs.declared.Sample.{Sample}
 use Rattle.servo_rules.specs.declared.Servo.{Servo}
-use Rattle.servo_rules.specs.Carried.{isSet, carriedIn}
+use Rattle.servo_rules.specs.Carried.{carriedIn}
 use Rattle.servo_rules.specs.Asks.{oneHalt}
 use Rattle.servo_rules.specs.State.{positionAt, position, servoOff, idled, off}
 use Rattle.servo_rules.specs.Loads.{wayOf, loadOf, loaded, startsNow, toSpeed, toPlace, startedBy, start}

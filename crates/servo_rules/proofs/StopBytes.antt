@@ -10,7 +10,7 @@ use borrow.Author.Tests.{eqb-true, leb-true}
 use lib.Count.{ones, onesIn, ones-step}
 use lib.Dec.{eqb, leb}
 use lib.ListN.{length}
-use Rattle.base_integers.specs.Bits.{bit}
+use Rattle.base_integers.specs.Bits.{bit, isSet}
 use Rattle.base_integers.proofs.Bits.{bit-half}
 use Rattle.base_layout.specs.Bytes.{ofLe}
 use Rattle.base_layout.proofs.Every.{every-hold}
@@ -20,7 +20,6 @@ use Rattle.servo_rules.specs.declared.Halt.{Halt}
 use Rattle.servo_rules.specs.declared.Halt.the-variants.{Keep, Release, Abrupt, Smooth, Here}
 use Rattle.servo_rules.specs.declared.Order.{Order}
 use Rattle.servo_rules.specs.declared.Order.the-variants.{Stop}
-use Rattle.servo_rules.specs.Carried.{isSet}
 use Rattle.servo_rules.specs.Asks.{haltOf, oneHalt, stopCount, stopMeant}
 use Rattle.servo_rules.specs.BytePromises.{stopBit, behind, stopBytes, stopAsks, StopBytes}
 use Rattle.servo_rules.proofs.Keeping.{by-test}

@@ -112,6 +112,7 @@ servo = record {
   can = can;
   perform = perform;
   tick = ticked;
+  shows = λ b. true;
   status = status;
   sizes = sizes;
   numbers = numbers;

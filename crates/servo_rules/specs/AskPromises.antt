@@ -4,6 +4,7 @@ use Prim.Native.Nat.{ℕ, _^_, _<_, _≤_}
 use mathlib.Core.List.{List}
 use mathlib.Core.Bool.{Bool, true, false}
 use lib.ListN.{length, getD}
+use Rattle.base_integers.specs.Bits.{isSet}
 use Rattle.base_layout.specs.Bytes.{ofLe, readAt, Bytes}
 use Rattle.line_receiver.specs.Frames.{Frame}
 use Rattle.servo_filter.specs.declared.Gains.{Gains}
@@ -14,7 +15,7 @@ use Rattle.servo_rules.specs.declared.Order.the-variants.{ResetPosition,
 use Rattle.module_rules.specs.declared.Setting.the-variants.{Assign, Define, Rate, Nothing}
 use Rattle.module_rules.specs.declared.Fault.the-variants as Faults
 use Rattle.module_rules.specs.Rules.{Request, malformed, set, reset, wants, asking}
-use Rattle.servo_rules.specs.Carried.{isSet, needed, carriedIn, inRange}
+use Rattle.servo_rules.specs.Carried.{needed, carriedIn, inRange}
 use Rattle.servo_rules.specs.Asks.{loadMeant, gainsIn, tuningIn, gainsFit, gainMeant, haltOf, oneHalt, stopCount, stopMeant}
 use Rattle.servo_rules.specs.Answers.{request}
 

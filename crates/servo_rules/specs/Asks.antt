@@ -5,6 +5,7 @@ use mathlib.Core.Bool.{Bool, true, cond, _&&_}
 use lib.ListN.{getD}
 use lib.Count.{ones}
 use lib.Dec.{eqb, leb}
+use Rattle.base_integers.specs.Bits.{isSet}
 use Rattle.base_layout.specs.Bytes.{ofLe, readAt}
 use Rattle.module_rules.specs.Rules.{Request, malformed, set, reset, wants, Meaning, unknown, takes}
 use Rattle.servo_filter.specs.declared.Gains.{Gains}
@@ -15,7 +16,7 @@ use Rattle.servo_rules.specs.declared.Order.{Order}
 use Rattle.servo_rules.specs.declared.Order.the-variants.{ResetPosition, LoadTrajectory, Start, SetGain, Stop, ClearBits}
 use Rattle.servo_rules.specs.declared.Request as Code
 use Rattle.servo_rules.specs.declared.Request.the-variants as Codes
-use Rattle.servo_rules.specs.Carried.{isSet, needed, carriedIn, inRange}
+use Rattle.servo_rules.specs.Carried.{needed, carriedIn, inRange}
 
 -- the case of the code's request in the request of any type
 abbrev pub asksOf : Code.Request → Request Order

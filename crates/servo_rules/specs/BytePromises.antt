@@ -7,6 +7,7 @@ use mathlib.Core.List.{List, [], _∷_, _++_}
 use mathlib.Core.Bool.{Bool, true, false, cond, _||_}
 use lib.ListN.{length, getD}
 use lib.IntN.{ℤ, pos, negℤ}
+use Rattle.base_integers.specs.Bits.{isSet}
 use Rattle.base_layout.specs.Bytes.{ofLe}
 use Rattle.line_receiver.specs.Frames.{Frame}
 use Rattle.module_rules.specs.declared.Fault.the-variants as Faults
@@ -19,7 +20,7 @@ use Rattle.servo_rules.specs.declared.Mode.the-variants.{Pwm, Velocity, 
 use Rattle.servo_rules.specs.declared.Way.the-variants.{Pulse, Speed, Move}
 use Rattle.servo_rules.specs.declared.Rates.{Rates}
 use Rattle.servo_rules.specs.declared.Servo.{Servo}
-use Rattle.servo_rules.specs.Carried.{isSet, needed}
+use Rattle.servo_rules.specs.Carried.{needed}
 use Rattle.servo_rules.specs.Asks.{oneHalt, stopMeant}
 use Rattle.servo_rules.specs.Answers.{execute}
 

@@ -4,15 +4,11 @@ use mathlib.Core.List.{List}
 use mathlib.Core.Bool.{Bool, cond, not, _&&_, _||_}
 use lib.ListN.{getD}
 use lib.Count.{ones}
-use lib.Dec.{eqb, leb}
-use Rattle.base_integers.specs.Bits.{bit}
+use lib.Dec.{leb}
+use Rattle.base_integers.specs.Bits.{bit, isSet}
 use Rattle.base_layout.specs.Bytes.{ofLe, readAt}
 use Rattle.servo_motion.specs.Profile.{fastest}
 use Rattle.servo_rules.specs.declared.Carried.{Carried}
-
--- whether bit k of a byte is set
-abbrev pub isSet : ℕ → ℕ → Bool
-isSet k b = eqb (bit k b) 1
 
 -- how many data bytes a control byte asks for: itself, four for each of bits 0 to 2, one for bit 3
 abbrev pub needed : ℕ → ℕ

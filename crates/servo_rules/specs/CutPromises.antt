@@ -4,12 +4,12 @@ use mathlib.Core.Path.{_≡_}
 use mathlib.Core.Logic.{_⊎_}
 use mathlib.Core.Bool.{Bool, true, false}
 use lib.ListN.{getD}
+use Rattle.base_integers.specs.Bits.{isSet}
 use Rattle.line_receiver.specs.Frames.{Frame}
 use Rattle.servo_filter.specs.Filter.{blank}
 use Rattle.servo_rules.specs.declared.Way.the-variants.{Pulse}
 use Rattle.servo_rules.specs.declared.Sample.{Sample}
 use Rattle.servo_rules.specs.declared.Servo.{Servo}
-use Rattle.servo_rules.specs.Carried.{isSet}
 use Rattle.servo_rules.specs.State.{servoOff, started}
 use Rattle.servo_rules.specs.Tick.{ticked}
 use Rattle.servo_rules.specs.Answers.{execute}

@@ -4,6 +4,7 @@ use mathlib.Core.Logic.{_⊎_, _↔_}
 use Prim.Native.Nat.{ℕ, _^_, _<_}
 use mathlib.Core.Bool.{Bool, true, false}
 use lib.IntN.{pos}
+use Rattle.base_integers.specs.Bits.{isSet}
 use Rattle.base_integers.specs.Whole.{less}
 use Rattle.line_receiver.specs.Frames.{Frame}
 use Rattle.module_rules.specs.Rules.{wants}
@@ -18,7 +19,6 @@ use Rattle.servo_rules.specs.declared.Mode.the-variants.{Off, Pwm, Veloc
 use Rattle.servo_rules.specs.declared.Way.{Way}
 use Rattle.servo_rules.specs.declared.Way.the-variants.{Pulse, Speed, Move}
 use Rattle.servo_rules.specs.declared.Servo.{Servo}
-use Rattle.servo_rules.specs.Carried.{isSet}
 use Rattle.servo_rules.specs.State.{position, setpointAt, servoOff}
 use Rattle.servo_rules.specs.Loads.{wayOf, loadOf, loaded, startsNow, beginning, complete, startable, signedBy, start}
 use Rattle.servo_rules.specs.Perform.{resetPosition, stopped, can, perform}

@@ -3,6 +3,7 @@ use Prim.Native.Nat.{ℕ, _^_}
 use mathlib.Core.Bool.{Bool, true, cond, not, _&&_, _||_}
 use lib.Dec.{eqb, ltb}
 use lib.IntN.{ℤ, pos, negℤ}
+use Rattle.base_integers.specs.Bits.{isSet}
 use Rattle.base_integers.specs.Whole.{same, less}
 use Rattle.servo_motion.specs.declared.Profile.{Profile}
 use Rattle.servo_motion.specs.Setpoint.{whole}
@@ -17,7 +18,6 @@ use Rattle.servo_rules.specs.declared.Settings.{Settings}
 use Rattle.servo_rules.specs.declared.Drive.{Drive}
 use Rattle.servo_rules.specs.declared.Run.{Run}
 use Rattle.servo_rules.specs.declared.Servo.{Servo}
-use Rattle.servo_rules.specs.Carried.{isSet}
 use Rattle.servo_rules.specs.State.{position, setpointAt, ready, servoOff, withSettings, withRun, withLoad, dropped, running, driving, idled}
 
 -- 01 Load Trajectory: bit 4 clear is PWM, else bit 5 velocity mode, else a trapezoid

@@ -5,6 +5,7 @@ use Prim.Native.Nat.{_≤_, _<_}
 use mathlib.Core.Bool.{Bool, true, false}
 use lib.ListN.{getD}
 use lib.IntN.{ℤ, pos, natAbs}
+use Rattle.base_integers.specs.Bits.{isSet}
 use Rattle.base_integers.specs.Whole.{difference}
 use Rattle.line_receiver.specs.Frames.{Frame}
 use Rattle.module_rules.specs.Rules.{reset, wants}
@@ -15,7 +16,6 @@ use Rattle.servo_rules.specs.declared.Order.the-variants.{ClearBits}
 use Rattle.servo_rules.specs.declared.Sample.{Sample}
 use Rattle.servo_rules.specs.declared.Mode.the-variants.{Off, Pwm, Hold, Velocity, Trapezoid}
 use Rattle.servo_rules.specs.declared.Servo.{Servo}
-use Rattle.servo_rules.specs.Carried.{isSet}
 use Rattle.servo_rules.specs.State.{positionAt, position, servoOff, started, withLast, withRun, erring}
 use Rattle.servo_rules.specs.Perform.{perform}
 use Rattle.servo_rules.specs.Tick.{advanced, followedAt, ticked}

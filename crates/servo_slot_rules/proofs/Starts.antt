@@ -7,6 +7,7 @@ use native.Mathlib.Omega.{arith}
 use borrow.Author.Tests.{eqb-false, not-true}
 use lib.Dec.{eqb, ltb}
 use lib.IntN.{ℤ, pos, natAbs}
+use Rattle.base_integers.specs.Bits.{isSet}
 use Rattle.base_integers.specs.Whole.{less}
 use Rattle.base_integers.proofs.Same.{same-eq}
 use Rattle.base_layout.specs.Bytes.{Bytes}
@@ -23,7 +24,7 @@ use Rattle.servo_rules.specs.declared.Mode.the-variants.{Pwm}
 use Rattle.servo_rules.specs.declared.Settings.{Settings}
 use Rattle.servo_rules.specs.declared.Run.{Run}
 use Rattle.servo_rules.specs.declared.Servo.{Servo}
-use Rattle.servo_rules.specs.Carried.{isSet, carriedIn, inRange}
+use Rattle.servo_rules.specs.Carried.{carriedIn, inRange}
 use Rattle.servo_rules.specs.AskPromises.{LoadRanged}
 use Rattle.servo_rules.specs.State.{position, ready, idled}
 use Rattle.servo_rules.specs.Loads.{loadOf, ratesOf, loaded, startsNow, beginning, atRest, movable, completeBy, complete, startable, toSpeed, toPlace, startedBy, start}

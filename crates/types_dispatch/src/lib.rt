@@ -8,7 +8,7 @@ ghost use Rattle.module_rules.specs.Touch.{frameOf};
 ghost use Rattle.module_rules.specs.Kind.{executed, replied};
 ghost use Rattle.module_rules.specs.Slots.{slotSize, sampleSize};
 ghost use Rattle.module_rules.specs.Owes.{replySize};
-ghost use Rattle.types_rules.specs.Table.{servo, inout, measured};
+ghost use Rattle.types_rules.specs.Table.{servo, inout, stepper, measured};
 ghost use Rattle.types_rules.specs.Types.{kind, slots, powered, outputs, sampleIn, inRange};
 use module_rules::Head;
 use types_rules::Measured;
@@ -21,7 +21,10 @@ pub fn is_ok(s: &[u8]) -> bool
     if s[0] == servo_rules::TYPE {
         return servo_slot_list::is_ok(s);
     }
-    inout_slot::is_ok(s)
+    if s[0] == inout_rules::TYPE {
+        return inout_slot::is_ok(s);
+    }
+    stepper_slot::is_ok(s)
 }
 
 // A module of a type at power-up, put into a slot.
@@ -31,9 +34,13 @@ pub fn power_up(s: &mut [u8], t: u8)
 {
     if t == servo_rules::TYPE {
         servo_slot_put::put(s, servo_perform::power_up());
-    } else {
-        inout_slot::put(s, inout_perform::power_up());
+        return;
     }
+    if t == inout_rules::TYPE {
+        inout_slot::put(s, inout_perform::power_up());
+        return;
+    }
+    stepper_slot::put(s, stepper_perform::power_up());
 }
 
 // A frame that touches the module in a slot: the module after it, and its reply in the room from place from on; how many bytes that has.
@@ -46,7 +53,10 @@ pub fn touch(s: &mut [u8], f: Head, ds: &[u8], room: &mut [u8], from: usize) -> 
     if s[0] == servo_rules::TYPE {
         return servo_calls::touch(s, f, ds, room, from);
     }
-    inout_calls::touch(s, f, ds, room, from)
+    if s[0] == inout_rules::TYPE {
+        return inout_calls::touch(s, f, ds, room, from);
+    }
+    stepper_calls::touch(s, f, ds, room, from)
 }
 
 // The sample in ten bytes of a tick's list.
@@ -58,8 +68,12 @@ pub fn sample_in(s: &[u8]) -> Measured
         let x = servo_slot_read::sample_in(s, module_rules::MEASURED_AT);
         return Measured::Servo(x);
     }
-    let x = inout_slot::sample_in(s, module_rules::MEASURED_AT);
-    Measured::Io(x)
+    if s[0] == inout_rules::TYPE {
+        let x = inout_slot::sample_in(s, module_rules::MEASURED_AT);
+        return Measured::Io(x);
+    }
+    let x = stepper_slot::sample_in(s, module_rules::MEASURED_AT);
+    Measured::Stepper(x)
 }
 
 // Whether its fields are in range.
@@ -70,7 +84,10 @@ pub fn is_sample_ok(s: &[u8]) -> bool
     if s[0] == servo_rules::TYPE {
         return servo_slot_list::is_sample_ok(s);
     }
-    inout_slot::is_sample_ok(s)
+    if s[0] == inout_rules::TYPE {
+        return inout_slot::is_sample_ok(s);
+    }
+    stepper_slot::is_sample_ok(s)
 }
 
 // A tick with a servo's sample; a module of another type is left as it is.
@@ -88,8 +105,18 @@ fn tick_io(s: &mut [u8], x: inout_rules::Sample)
     requires { ⌜ (length (now s) ≡ slotSize) × (slots .ok (now s) ≡ true) ⌝ }
     ensures { λ _. ⌜ now (s .exit) ≡ pasted 0 (slots .enc (kind .tick (inout, x) (slots .dec (now (s .entry))))) (now (s .entry)) ⌝ }
 {
-    if s[0] != servo_rules::TYPE {
+    if s[0] == inout_rules::TYPE {
         inout_calls::tick(s, x);
+    }
+}
+
+// A tick with a step-motor module's sample.
+fn tick_stepper(s: &mut [u8], x: stepper_rules::Sample)
+    requires { ⌜ (length (now s) ≡ slotSize) × (slots .ok (now s) ≡ true) ⌝ }
+    ensures { λ _. ⌜ now (s .exit) ≡ pasted 0 (slots .enc (kind .tick (stepper, x) (slots .dec (now (s .entry))))) (now (s .entry)) ⌝ }
+{
+    if s[0] == stepper_rules::TYPE {
+        stepper_calls::tick(s, x);
     }
 }
 
@@ -101,6 +128,7 @@ pub fn tick(s: &mut [u8], x: Measured)
     match x {
         Measured::Servo(y) => tick_servo(s, y),
         Measured::Io(y) => tick_io(s, y),
+        Measured::Stepper(y) => tick_stepper(s, y),
     }
 }
 
@@ -112,5 +140,8 @@ pub fn outputs(s: &[u8]) -> [u8; 8]
     if s[0] == servo_rules::TYPE {
         return servo_calls::outputs(s);
     }
-    inout_calls::outputs(s)
+    if s[0] == inout_rules::TYPE {
+        return inout_calls::outputs(s);
+    }
+    stepper_calls::outputs(s)
 }

@@ -13,7 +13,7 @@ use Rattle.module_rules.specs.Kind.{replied}
 use Rattle.module_rules.specs.Owes.{replySize}
 use Rattle.module_rules.proofs.Kept.{reply-most}
 use Rattle.chain_rules.proofs.Along.{replied-short}
-use Rattle.types_rules.specs.Table.{ModuleType, servo, inout, Of, rulesOf, slotsOf}
+use Rattle.types_rules.specs.Table.{ModuleType, servo, inout, stepper, Of, rulesOf, slotsOf}
 use Rattle.types_rules.specs.Types.{Module, kind, typeIn, typeOfSlot, slots, typeOf, causeOf, GoodOf}
 use Rattle.types_rules.proofs.Owed.{owes}
 
@@ -21,6 +21,7 @@ use Rattle.types_rules.proofs.Owed.{owes}
 pub type-back : (t : ModuleType) → typeIn (rulesOf t .number) ≡ t
 type-back servo = refl
 type-back inout = refl
+type-back stepper = refl
 
 -- so does a slot that it was put into
 put-type : (t : ModuleType) (x : Of t) (s : List ℕ) → typeOfSlot (pasted 0 (slotsOf t .enc x) s) ≡ t

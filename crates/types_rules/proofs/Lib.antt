@@ -1,4 +1,5 @@
 pub mod Owed
+pub mod Given
 pub mod Laws
 pub mod Kept
 pub mod Promised

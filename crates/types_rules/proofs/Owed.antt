@@ -10,13 +10,17 @@ use Rattle.inout_slot_rules.proofs.Owed as Inout
 use Rattle.inout_slot_rules.proofs.Listed as InoutListed
 use Rattle.servo_slot_rules.proofs.Owed as Servos
 use Rattle.servo_slot_rules.proofs.Listed as ServoListed
+use Rattle.stepper_slot_rules.proofs.Owed as Steppers
+use Rattle.stepper_slot_rules.proofs.Listed as StepperListed
 use Rattle.types_rules.specs.Types.{GoodOf}
-use Rattle.types_rules.specs.Table.{ModuleType, servo, inout, rulesOf, slotsOf, LinesOf}
+use Rattle.types_rules.specs.Table.{ModuleType, servo, inout, stepper, rulesOf, slotsOf, LinesOf}
 
 pub owes : (t : ModuleType) → Owes (rulesOf t) (slotsOf t) (GoodOf t)
 owes servo = Servos.owes
 owes inout = Inout.owes
+owes stepper = Steppers.owes
 
 pub listed : (t : ModuleType) (s : List ℕ) → Bytes s → (slotsOf t .ok s ≡ true) ↔ LinesOf t s
 listed servo = ServoListed.listed
 listed inout = InoutListed.listed
+listed stepper = StepperListed.listed

@@ -1,5 +1,6 @@
 -- A module of a chain: a type of the table with that type's record. What the chain and the record need of it is said once, over the table.
 use Prim.Native.Nat.{ℕ}
+use mathlib.Core.Option.{Option, some, none}
 use mathlib.Core.List.{List, [], _∷_}
 use mathlib.Core.Bool.{Bool, cond, _||_}
 use lib.ListN.{getD}
@@ -8,7 +9,7 @@ use Rattle.module_rules.specs.Kind.{Kind}
 use Rattle.base_layout.specs.Every.{every}
 use Rattle.module_rules.specs.Slots.{Slots, measuredAt}
 use Rattle.module_rules.specs.Rules.{execute, reply}
-use Rattle.types_rules.specs.Table.{ModuleType, firstType, otherTypes, Of, SampleOf, rulesOf, slotsOf, sampleOf, given}
+use Rattle.types_rules.specs.Table.{ModuleType, firstType, otherTypes, Of, SampleOf, rulesOf, slotsOf, sampleOf, ownOf}
 
 abbrev pub Module : Type 0
 Module = (t : ModuleType) × Of t
@@ -16,12 +17,17 @@ Module = (t : ModuleType) × Of t
 abbrev pub AnySample : Type 0
 AnySample = (t : ModuleType) × SampleOf t
 
+-- a tick with a module's own sample; with none, since the sample was of another type, it changes nothing (no call does so: it is refused with 13)
+abbrev pub given : (t : ModuleType) → Option (SampleOf t) → Of t → Of t
+given t none m = m
+given t (some x) m = rulesOf t .tick x m
+
 abbrev pub kind : Kind Module AnySample
 kind = record {
   address = λ m. rulesOf (m .0) .station (m .1) .address;
   execute = λ f alone m. (m .0, execute (rulesOf (m .0)) f alone (m .1));
   reply = λ f m. reply (rulesOf (m .0)) f (m .1);
-  tick = λ x m. (m .0, given (x .0) (m .0) (x .1) (m .1));
+  tick = λ x m. (m .0, given (m .0) (ownOf (m .0) x) (m .1));
 }
 
 -- 01 Numbers given back, 12: the type numbers that there are
@@ -62,6 +68,10 @@ powered n = (typeIn n, rulesOf (typeIn n) .started)
 -- how many bytes each item of a number's type has
 abbrev pub sizesOf : ℕ → List ℕ
 sizesOf n = rulesOf (typeIn n) .sizes
+
+-- which item bytes there are of a number's type (02 P3)
+abbrev pub showsOf : ℕ → ℕ → Bool
+showsOf n items = rulesOf (typeIn n) .shows items
 
 -- what the board drives for a module, in eight bytes
 abbrev pub outputs : Module → List ℕ

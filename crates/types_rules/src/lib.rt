@@ -4,4 +4,5 @@
 pub enum Measured {
     Servo(servo_rules::Sample),
     Io(inout_rules::Sample),
+    Stepper(stepper_rules::Sample),
 }

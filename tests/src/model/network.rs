@@ -5,6 +5,7 @@ use super::line::{Frame, Receiver};
 use super::samples::{sample_at, Faults};
 use super::servo::Servo;
 use super::station::{Device, Station, Touch, EXECUTED};
+use super::stepper::Stepper;
 use crate::branches::{either, reach, Branch};
 use crate::calls::{Sample, BAD_FIELD, BAD_LIST, BAD_PLACE};
 use crate::slips::Slip;
@@ -15,6 +16,7 @@ use crate::slips::Slip;
 pub enum Module {
     Servo(Box<Servo>),
     Io(Box<Io>),
+    Stepper(Box<Stepper>),
 }
 
 /// What every type does, done to the module at hand.
@@ -23,6 +25,7 @@ macro_rules! each {
         match $module {
             Module::Servo($device) => $done,
             Module::Io($device) => $done,
+            Module::Stepper($device) => $done,
         }
     };
 }
@@ -37,6 +40,7 @@ impl Module {
         match module_type {
             Servo::TYPE => Some(Module::Servo(Box::new(Servo::power_up()))),
             Io::TYPE => Some(Module::Io(Box::new(Io::power_up()))),
+            Stepper::TYPE => Some(Module::Stepper(Box::new(Stepper::power_up()))),
             _ => None,
         }
     }
@@ -45,6 +49,7 @@ impl Module {
         match self {
             Module::Servo(_) => Servo::TYPE,
             Module::Io(_) => Io::TYPE,
+            Module::Stepper(_) => Stepper::TYPE,
         }
     }
 
@@ -57,6 +62,7 @@ impl Module {
         match self {
             Module::Servo(_) => Servo::count(code, data),
             Module::Io(_) => Io::count(code, data),
+            Module::Stepper(_) => Stepper::count(code, data),
         }
     }
 

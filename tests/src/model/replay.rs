@@ -3,7 +3,7 @@
 use super::network::{Ended, Module, Network};
 use super::station::EXECUTED;
 use crate::branches::{reach, Branch};
-use crate::calls::{io_sample, no_sample, servo_sample, Sample, MOST_MODULES};
+use crate::calls::{io_sample, no_sample, servo_sample, stepper_sample, Sample, MOST_MODULES};
 use crate::slips::Slip;
 
 /// A record of a replay file by its kind: a module's type, or an event. Whether it can be played is another matter.
@@ -17,12 +17,13 @@ pub enum Event {
     ServoSample { place: u8, power: u8, ad: u8, raw: u32 },
     IoSample { place: u8, inputs: u16, ad: [u8; 3], counter: u32 },
     Tick,
+    StepperSample { place: u8, stop: u8 },
 }
 
 impl Record {
     /// The record at the head of a file and its length, or nothing where its kind is unknown or it is cut short.
     pub fn first(file: &[u8]) -> Option<(Record, usize)> {
-        let body_length = [1, 2, 7, 10, 0];
+        let body_length = [1, 2, 7, 10, 0, 2];
         let kind = usize::from(*file.first()?);
         let length = 1 + body_length.get(kind).or_else(|| bad(Branch::ReplayKind))?;
         let four = |bytes: &[u8]| u32::from_le_bytes(bytes.try_into().expect("four bytes"));
@@ -34,6 +35,7 @@ impl Record {
                 let inputs = u16::from_le_bytes([low, high]);
                 Event::IoSample { place, inputs, ad: [ad1, ad2, ad3], counter: four(counter) }
             }
+            [5, place, stop] => Event::StepperSample { place, stop },
             _ => Event::Tick,
         };
         Some((Record::Event(event), length))
@@ -66,6 +68,27 @@ pub fn replay_with(file: &[u8], slip: Slip) -> String {
 fn bad<T>(branch: Branch) -> Option<T> {
     reach(branch);
     None
+}
+
+/// A sample of this type: for a place beyond the chain, out of range, or good.
+fn sample_as(module_type: u8) -> [Branch; 3] {
+    match module_type {
+        0 => [Branch::ReplayServoSampleBeyond, Branch::ReplayServoSamplePower, Branch::ReplayServoSample],
+        2 => [Branch::ReplayIoSampleBeyond, Branch::ReplayIoSampleInputs, Branch::ReplayIoSample],
+        _ => [Branch::ReplayStepperSampleBeyond, Branch::ReplayStepperSampleStop, Branch::ReplayStepperSample],
+    }
+}
+
+/// A sample of this type for a module of another.
+fn other_type_as(module_type: u8, module: &Module) -> Branch {
+    match (module_type, module) {
+        (0, Module::Io(_)) => Branch::ReplayServoSampleForIo,
+        (0, _) => Branch::ReplayServoSampleForStepper,
+        (2, Module::Servo(_)) => Branch::ReplayIoSampleForServo,
+        (2, _) => Branch::ReplayIoSampleForStepper,
+        (_, Module::Servo(_)) => Branch::ReplayStepperSampleForServo,
+        _ => Branch::ReplayStepperSampleForIo,
+    }
 }
 
 /// The latest sample of a place, all 0 until one comes.
@@ -129,24 +152,9 @@ impl Replay {
                 self.line_byte(mark == 1, byte);
                 Some(())
             }
-            Event::ServoSample { place, power, ad, raw } => {
-                let branches = [
-                    Branch::ReplayServoSampleBeyond,
-                    Branch::ReplayServoSampleForIo,
-                    Branch::ReplayServoSamplePower,
-                    Branch::ReplayServoSample,
-                ];
-                self.sample(place.into(), servo_sample(raw, power, ad), branches)
-            }
-            Event::IoSample { place, inputs, ad, counter } => {
-                let branches = [
-                    Branch::ReplayIoSampleBeyond,
-                    Branch::ReplayIoSampleForServo,
-                    Branch::ReplayIoSampleInputs,
-                    Branch::ReplayIoSample,
-                ];
-                self.sample(place.into(), io_sample(inputs, ad, counter), branches)
-            }
+            Event::ServoSample { place, power, ad, raw } => self.sample(place, servo_sample(raw, power, ad)),
+            Event::IoSample { place, inputs, ad, counter } => self.sample(place, io_sample(inputs, ad, counter)),
+            Event::StepperSample { place, stop } => self.sample(place, stepper_sample(stop)),
             Event::Tick => self.tick(),
         }
     }
@@ -182,11 +190,12 @@ impl Replay {
     }
 
     /// A sample is gathered for the next tick. A bad one is bad where it stands, be there a tick after it or not.
-    fn sample(&mut self, place: usize, sample: Sample, branches: [Branch; 4]) -> Option<()> {
-        let [beyond, other_type, out_of_range, good] = branches;
+    fn sample(&mut self, place: u8, sample: Sample) -> Option<()> {
+        let place = usize::from(place);
+        let [beyond, out_of_range, good] = sample_as(sample[0]);
         let fault = match self.modules.get(place) {
             None => Some(beyond),
-            Some(module) if module.module_type() != sample[0] => Some(other_type),
+            Some(module) if module.module_type() != sample[0] => Some(other_type_as(sample[0], module)),
             Some(module) if !module.in_range(&sample, Slip::None) => Some(out_of_range),
             Some(_) => None,
         };

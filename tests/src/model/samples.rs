@@ -1,7 +1,7 @@
 //! The list of samples that a tick takes: ten bytes for each place in chain order, and what may be wrong with them.
 
 use super::network::Module;
-use crate::branches::{either, reach, Branch};
+use crate::branches::{reach, Branch};
 use crate::calls::{Sample, BAD_FIELD, BAD_LIST, BAD_PLACE, BAD_TYPE, SAMPLE_LEN};
 use crate::slips::Slip;
 
@@ -96,12 +96,7 @@ impl Faults {
 
     fn note_types(&self, modules: &[Module], list: &[u8]) {
         for place in &self.types {
-            reach(match (&modules[*place], is_unknown(list, *place)) {
-                (Module::Servo(_), false) => Branch::SampleForIoAtServo,
-                (Module::Servo(_), true) => Branch::SampleUnknownAtServo,
-                (Module::Io(_), false) => Branch::SampleForServoAtIo,
-                (Module::Io(_), true) => Branch::SampleUnknownAtIo,
-            });
+            reach(wrong_type_as(&modules[*place], list[SAMPLE_LEN * place]));
         }
         note_ends(&self.types, modules.len(), Branch::SampleTypeFirst, Branch::SampleTypeLast);
         let (first, last) = (self.types[0], self.types[self.types.len() - 1]);
@@ -118,9 +113,28 @@ impl Faults {
 
     fn note_fields(&self, modules: &[Module]) {
         for place in &self.fields {
-            either(matches!(modules[*place], Module::Servo(_)), Branch::SamplePower, Branch::SampleInputs);
+            reach(match modules[*place] {
+                Module::Servo(_) => Branch::SamplePower,
+                Module::Io(_) => Branch::SampleInputs,
+                Module::Stepper(_) => Branch::SampleStop,
+            });
         }
         note_ends(&self.fields, modules.len(), Branch::SampleFieldFirst, Branch::SampleFieldLast);
+    }
+}
+
+/// A sample of another type than the module's.
+fn wrong_type_as(module: &Module, module_type: u8) -> Branch {
+    match (module, module_type) {
+        (Module::Servo(_), 2) => Branch::SampleForIoAtServo,
+        (Module::Servo(_), 3) => Branch::SampleForStepperAtServo,
+        (Module::Servo(_), _) => Branch::SampleUnknownAtServo,
+        (Module::Io(_), 0) => Branch::SampleForServoAtIo,
+        (Module::Io(_), 3) => Branch::SampleForStepperAtIo,
+        (Module::Io(_), _) => Branch::SampleUnknownAtIo,
+        (Module::Stepper(_), 0) => Branch::SampleForServoAtStepper,
+        (Module::Stepper(_), 2) => Branch::SampleForIoAtStepper,
+        (Module::Stepper(_), _) => Branch::SampleUnknownAtStepper,
     }
 }
 
@@ -149,5 +163,12 @@ fn note_taken(modules: &[Module], list: &[u8]) {
     let ios = || samples.iter().filter(|sample| sample[0] == 2);
     if ios().zip(ios().skip(1)).any(|(one, next)| one != next) {
         reach(Branch::SamplesOfIosDiffer);
+    }
+    let steppers = || samples.iter().filter(|sample| sample[0] == 3);
+    if steppers().any(|sample| sample[2..] != [0; 8]) {
+        reach(Branch::SampleRestOfStepperNotZero);
+    }
+    if steppers().zip(steppers().skip(1)).any(|(one, next)| one[1] != next[1]) {
+        reach(Branch::SamplesOfSteppersDiffer);
     }
 }

@@ -91,6 +91,22 @@ fn baud_alone(count: usize, slip: Slip) -> u8 {
     }
 }
 
+/// Whether a type has all items of a Define Status or Read Status; `Err` has the cause.
+fn choose_items(has: u8, code: u8, items: u8, slip: Slip) -> Result<(), u8> {
+    let others = items & !has;
+    if others == 0 {
+        reach(if code == 2 { Branch::DefineStatus } else { Branch::ReadStatus });
+        return Ok(());
+    }
+    either(code == 2, Branch::DefineStatusItems, Branch::ReadStatusItems);
+    match slip {
+        Slip::OtherItemsDefined if code == 2 => Ok(()),
+        Slip::OtherItemsRead if code == 3 => Ok(()),
+        Slip::OtherItemsAsCount => Err(WRONG_COUNT),
+        _ => Err(OUT_OF_RANGE),
+    }
+}
+
 /// A command of every type with another count than its own.
 fn wrong_count_as(code: u8) -> Branch {
     match code {
@@ -100,6 +116,18 @@ fn wrong_count_as(code: u8) -> Branch {
         10 => Branch::SetBaudCount,
         14 => Branch::NoOpCount,
         _ => Branch::HardResetCount,
+    }
+}
+
+/// The cause of another count than a command's own; the items that it chooses may be out of range besides.
+fn wrong_count(bad_items: bool, slip: Slip) -> u8 {
+    if bad_items {
+        reach(Branch::CountBeforeRangeItems);
+    }
+    if bad_items && slip == Slip::ItemsBeforeCount {
+        OUT_OF_RANGE
+    } else {
+        WRONG_COUNT
     }
 }
 
@@ -123,6 +151,8 @@ fn cause_as(damaged: bool, cause: u8) -> Branch {
 pub trait Device: Clone {
     const TYPE: u8;
     const VERSION: u8;
+    /// Status items that it has, by their bits.
+    const ITEMS: u8 = 0xFF;
     /// What the board measures for it.
     type Measured;
 
@@ -141,7 +171,7 @@ pub trait Device: Clone {
     fn status_bits(&self, slip: Slip) -> u8;
     /// What its ten bytes of a tick's list tell, or nothing where a field is out of range.
     fn measured(sample: &Sample, slip: Slip) -> Option<Self::Measured>;
-    /// Shows it until the next tick.
+    /// Shows it until the next tick, or acts on it if it is nothing to be shown.
     fn latch(&mut self, measured: Self::Measured);
     fn tick(&mut self, measured: Self::Measured, slip: Slip);
     /// What the board is to drive, in the eight bytes of the C call.
@@ -154,13 +184,9 @@ pub trait Device: Clone {
         }
         match (frame.code, data) {
             (1, [individual, group]) => self.station_mut().set_address(*individual, *group, slip),
-            (2, [items]) => {
-                reach(Branch::DefineStatus);
-                self.station_mut().items = *items;
-            }
-            (3, [items]) => {
-                reach(Branch::ReadStatus);
-                if slip == Slip::ReadStatusKept {
+            (code @ (2 | 3), [items]) => {
+                choose_items(Self::ITEMS, code, *items, slip)?;
+                if code == 2 || slip == Slip::ReadStatusKept {
                     self.station_mut().items = *items;
                 }
             }
@@ -178,9 +204,11 @@ pub trait Device: Clone {
                 reach(Branch::HardReset);
                 self.hard_reset(slip);
             }
-            (code @ (1 | 2 | 3 | 10 | 14 | 15), _) => {
+            (code @ (1 | 2 | 3 | 10 | 14 | 15), data) => {
                 reach(wrong_count_as(code));
-                return Err(WRONG_COUNT);
+                let items = data.first().copied().unwrap_or(0);
+                let bad_items = (code == 2 || code == 3) && items & !Self::ITEMS != 0;
+                return Err(wrong_count(bad_items, slip));
             }
             (code, data) => return self.command(code, data, slip),
         }

@@ -1,13 +1,15 @@
 -- `host_status::take_status` meets its contract. Assumes nothing.
-use mathlib.Core.Path.{_≡_, sym, ap, _∙_}
-use mathlib.Core.Bool.{true, false, not}
-use borrow.Author.Tests.{eq-eqb, ne-eqb}
+use mathlib.Core.Path.{_≡_, sym, ap, ap₂, _∙_}
+use mathlib.Core.Bool.{Bool, true, false, not, _&&_}
+use native.Mathlib.Omega.{arith}
+use borrow.Author.Tests.{eqb-true, not-false}
 use borrow.Author.Needs.{needs}
 use lib.ListN.{length}
+use lib.Dec.{eqb}
 use Rattle.types_rules.specs.Types.{known, typeIn, sizesOf}
 use Rattle.types_rules.proofs.Owed.{owes}
 use Rattle.module_rules.proofs.Items.{at-most-four}
-use Rattle.host_rules.specs.Reading.{neededFor, summed, statusOf}
+use Rattle.host_rules.specs.Reading.{neededFor, suits, summed, statusOf}
 use Rattle.host_status.proofs.take_status.Statement.{statement}
 use Rattle.host_status.proofs.take_status.Tie as tie
 
@@ -15,6 +17,14 @@ needed-is : (c : tie.After-needed) → c .needed .result
     ≡ neededFor (c .before .before .before .before .before .args .items) (sizesOf (c .before .before .before .before .before .args .kind))
 needed-is c =
     c .needed .ensures ∙ ap (neededFor (c .before .before .before .before .before .args .items)) (c .before .sizes-of .ensures)
+
+-- items and length suit the type
+suits-is : (c : tie.After-is-shown)
+    → (c .is-shown .result && eqb (length (c .before .before .before .before .before .before .args .reply .now)) (c .before .needed .result))
+    ≡ suits (c .before .before .before .before .before .before .args .kind) (c .before .before .before .before .before .before .args .items) (c .before .before .before .before .before .before .args .reply .now)
+suits-is c =
+    ap₂ (λ (a b : Bool). a && b) (c .is-shown .ensures)
+    (ap (eqb (length (c .before .before .before .before .before .before .args .reply .now))) (needed-is (c .before)))
 
 returns : tie.Need-returns
 unfolding statusOf
@@ -29,35 +39,45 @@ there c = ap not (sym (c .before .is-known .ensures)) ∙ c .if1 .left
 returns-2 : tie.Need-returns-2
 unfolding statusOf
 returns-2 c =
-    let a = c .before .before .before .before .before .before .before .args in
-    let n : (length (a .reply .now) ≡ neededFor (a .items) (sizesOf (a .kind))) → ⊥ = λ e. c .before .if2 .taken (e ∙ sym (needed-is (c .before .before))) in
-    rw (c .refused2 .ensures, there (c .before .before .before .before), ne-eqb (length (a .reply .now)) (neededFor (a .items) (sizesOf (a .kind))) n)
+    let n = ap not (sym (suits-is (c .before .before))) ∙ c .before .if2 .taken in
+    rw (c .refused2 .ensures, there (c .before .before .before .before .before), n)
 
 returns-3 : tie.Need-returns-3
 unfolding statusOf
 returns-3 c =
     let e = c .before .before .before in
-    let a = e .before .before .before .before .before .before .args in
-    let n = eq-eqb (length (a .reply .now)) (neededFor (a .items) (sizesOf (a .kind))) (e .if2 .left ∙ needed-is (e .before)) in
+    let a = e .before .before .before .before .before .before .before .args in
+    let n = ap not (sym (suits-is (e .before))) ∙ e .if2 .left in
     let s : not (summed (a .reply .now)) ≡ true = ap not (sym (c .before .before .is-summed .ensures)) ∙ c .before .if3 .taken in
-    rw (c .refused3 .ensures, there (e .before .before .before), n, s)
+    rw (c .refused3 .ensures, there (e .before .before .before .before), n, s)
+
+-- the length is what was asked for
+long-is : (s t : Bool) → not (s && t) ≡ false → t ≡ true
+long-is true t e = not-false t e
+long-is false t e = let z : true ≡ false = e in cc
+
+is-summed-requires : tie.Need-is-summed-requires
+is-summed-requires c κs =
+    let l : length (c .before .before .before .before .before .before .before .args .reply .now) ≡ c .before .before .needed .result = eqb-true _ _ (long-is (c .before .is-shown .result) _ (c .if2 .left)) in
+    omega (arith, l, c .before .before .needed .ensures)
 
 read-requires : tie.Need-read-requires
 read-requires c κs =
     let e = c .before .before in
-    let z = e .before .before .sizes-of .ensures in (
-      e .if2 .left ∙ e .before .needed .ensures,
-      λ i. rw z (at-most-four (sizesOf (e .before .before .before .before .before .before .args .kind)) (owes (typeIn (e .before .before .before .before .before .before .args .kind)) .four) i),
+    let z = e .before .before .before .sizes-of .ensures in
+    let a = e .before .before .before .before .before .before .before .args in (
+      eqb-true _ _ (long-is (e .before .is-shown .result) _ (e .if2 .left)) ∙ e .before .before .needed .ensures,
+      λ i. rw z (at-most-four (sizesOf (a .kind)) (owes (typeIn (a .kind)) .four) i),
     )
 
 returns-4 : tie.Need-returns-4
 unfolding statusOf
 returns-4 c =
     let e = c .before .before .before in
-    let a = e .before .before .before .before .before .before .args in
-    let n = eq-eqb (length (a .reply .now)) (neededFor (a .items) (sizesOf (a .kind))) (e .if2 .left ∙ needed-is (e .before)) in
+    let a = e .before .before .before .before .before .before .before .args in
+    let n = ap not (sym (suits-is (e .before))) ∙ e .if2 .left in
     let s : not (summed (a .reply .now)) ≡ false = ap not (sym (c .before .before .is-summed .ensures)) ∙ c .before .if3 .left in
-    rw (c .read .ensures, e .before .before .sizes-of .ensures, there (e .before .before .before), n, s)
+    rw (c .read .ensures, e .before .before .before .sizes-of .ensures, there (e .before .before .before .before), n, s)
 
 pub take-status-spec : {M : Type 1} → statement M
 take-status-spec =
@@ -69,8 +89,9 @@ take-status-spec =
     (λ c κs. search needs)
     (λ c κs. search needs)
     (λ c κs. search needs)
-    returns-2
     (λ c κs. search needs)
+    returns-2
+    is-summed-requires
     (λ c κs. search needs)
     returns-3
     read-requires

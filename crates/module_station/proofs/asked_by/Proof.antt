@@ -15,15 +15,15 @@ returns-2 c = rw (c .before .before .match .keys1, c .byte-at2 .ensures, c .befo
 
 returns-3 : tie.Need-returns-3
 unfolding asked
-returns-3 c = rw (c .before .match .keys2, c .byte-at3 .ensures)
+returns-3 c = rw (c .before .before .match .keys2, c .byte-at4 .ensures, c .before .byte-at3 .ensures)
 
 returns-4 : tie.Need-returns-4
 unfolding asked
-returns-4 c = rw (c .match .keys3)
+returns-4 c = rw (c .before .match .keys3, c .byte-at5 .ensures)
 
 returns-5 : tie.Need-returns-5
 unfolding asked
-returns-5 c = rw (c .before .before .match .keys4, c .before .if1 .left, c .byte-at4 .ensures)
+returns-5 c = rw (c .before .before .match .keys4, c .before .if1 .left, c .byte-at6 .ensures)
 
 returns-6 : tie.Need-returns-6
 unfolding asked
@@ -41,6 +41,8 @@ pub asked-by-spec : {M : Type 1} → statement M
 asked-by-spec =
     tie.close
     (tie.spec
+    (λ c κs. search needs)
+    (λ c κs. search needs)
     (λ c κs. search needs)
     (λ c κs. search needs)
     (λ c κs. search needs)

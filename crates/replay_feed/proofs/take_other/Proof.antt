@@ -42,6 +42,13 @@ take-sample-requires-2 c κs =
     let l = rw (c .before .before .before .match .keys3) at (s .pre .1 .0) in
     (s .pre .0, (omega (arith, l), omega (arith, l), s .pre .1 .1, s .pre .1 .2))
 
+take-sample-requires-3 : tie.Need-take-sample-requires-3
+unfolding bodyLength
+take-sample-requires-3 c κs =
+    let s = c .before .before .before .before .before .before .before .before in
+    let l = rw (c .before .before .before .match .keys5) at (s .pre .1 .0) in
+    (s .pre .0, (omega (arith, l), omega (arith, l), s .pre .1 .1, s .pre .1 .2))
+
 returns : tie.Need-returns
 unfolding netRecord bodyLength
 returns c =
@@ -99,11 +106,26 @@ returns-4 c =
     rw (c .before .before .before .before .before .match .keys4) (e .0, (sym (list-same (10 * a .at .count) (a .samples .now) (within s)), (e .1, sym (pasted-none 0 (a .out .now)))))
 
 returns-5 : tie.Need-returns-5
-unfolding netRecord turned samplesAfter netAfter textAfter
+unfolding netRecord bodyLength
 returns-5 c =
+    let s = c .before .before .before .before .before .before .before .before .before .before .before .before .before in
+    let a = s .args in
+    let e = c .before .before .before .before .take-sample3 .ensures in
+    let m = c .before .before .before .before .before .before .before .before .match .keys5 in
+    let l : length (a .body .now) ≡ 2 = rw m at (s .pre .1 .0) in
+    let bytes : Bytes (a .net .now) = λ i. omega (arith, c .before .before .before .before .before .before .before .before .before .before .slice-known2 .given i) in
+    let r = sampleRecord 3 (netIn slots (a .net .now)) (take (10 * a .at .count) (a .samples .now)) (a .body .now) in
+    rw m (
+      e .0 ∙ ap (λ (k : ℕ). turned (1 + k) r (a .at)) l,
+      (e .1 .0, (sym (sample-net _ (a .net .now) _ (a .body .now) (s .pre .0 .0) bytes), e .1 .1)),
+    )
+
+returns-6 : tie.Need-returns-6
+unfolding netRecord turned samplesAfter netAfter textAfter
+returns-6 c =
     let e = c .before .before .bad .ensures in
     let n = c .before .before .before .before .match .rest in
-    rw (ne-eqb _ _ (n .0 .0 .0 .1), ne-eqb _ _ (n .0 .0 .1), ne-eqb _ _ (n .0 .1), ne-eqb _ _ (n .1)) (e .0, (refl, (refl, e .1)))
+    rw (ne-eqb _ _ (n .0 .0 .0 .0 .1), ne-eqb _ _ (n .0 .0 .0 .1), ne-eqb _ _ (n .0 .0 .1), ne-eqb _ _ (n .0 .1), ne-eqb _ _ (n .1)) (e .0, (refl, (refl, e .1)))
 
 pub take-other-spec : {M : Type 1} → statement M
 take-other-spec =
@@ -113,6 +135,7 @@ take-other-spec =
     take-sample-requires
     take-sample-requires-2
     (λ c κs. search needs)
+    take-sample-requires-3
     (λ c κs. search needs)
     (λ c. search needs)
     (λ c. search needs)
@@ -129,4 +152,8 @@ take-other-spec =
     (λ c. search needs)
     returns-4
     (λ c. search needs)
-    returns-5)
+    (λ c. search needs)
+    (λ c. search needs)
+    returns-5
+    (λ c. search needs)
+    returns-6)

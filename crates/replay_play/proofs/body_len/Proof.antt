@@ -22,7 +22,11 @@ returns-4 c = rw (c .match .keys4)
 
 returns-5 : tie.Need-returns-5
 unfolding bodyLength
-returns-5 c = let n = c .match .rest in rw (ne-eqb _ _ (n .0 .0 .0 .1), ne-eqb _ _ (n .0 .0 .1), ne-eqb _ _ (n .0 .1), ne-eqb _ _ (n .1))
+returns-5 c = rw (c .match .keys5)
+
+returns-6 : tie.Need-returns-6
+unfolding bodyLength
+returns-6 c = let n = c .match .rest in rw (ne-eqb _ _ (n .0 .0 .0 .0 .1), ne-eqb _ _ (n .0 .0 .0 .1), ne-eqb _ _ (n .0 .0 .1), ne-eqb _ _ (n .0 .1), ne-eqb _ _ (n .1))
 
 pub body-len-spec : {M : Type 1} → statement M
-body-len-spec = tie.close (tie.spec returns returns-2 returns-3 returns-4 returns-5)
+body-len-spec = tie.close (tie.spec returns returns-2 returns-3 returns-4 returns-5 returns-6)

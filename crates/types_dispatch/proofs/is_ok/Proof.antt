@@ -1,7 +1,7 @@
 -- `types_dispatch::is_ok` meets its contract. Assumes nothing.
 use mathlib.Core.Path.{sym, ap, _∙_}
 use lib.ListN.{getD}
-use Rattle.types_rules.specs.Table.{ModuleType, servo, slotsOf}
+use Rattle.types_rules.specs.Table.{ModuleType, servo, inout, slotsOf}
 use Rattle.types_rules.proofs.Dispatch.{type-at, type-last}
 use borrow.Author.Needs.{needs}
 use Rattle.types_dispatch.proofs.is_ok.Statement.{statement}
@@ -14,9 +14,14 @@ returns c =
 
 returns-2 : tie.Need-returns-2
 returns-2 c =
-    let s = c .before .before .before .before .args .s .now in
-    c .is-ok2 .ensures ∙ sym (ap (λ (t : ModuleType). slotsOf t .ok s) (type-last (getD s 0 0) (c .before .if1 .left)))
+    let s = c .before .before .before .before .before .before .args .s .now in
+    c .is-ok2 .ensures ∙ sym (ap (λ (t : ModuleType). slotsOf t .ok s) (type-at (getD s 0 0) inout (c .before .if2 .taken)))
+
+returns-3 : tie.Need-returns-3
+returns-3 c =
+    let s = c .before .before .before .before .before .before .args .s .now in
+    c .is-ok3 .ensures ∙ sym (ap (λ (t : ModuleType). slotsOf t .ok s) (type-last (getD s 0 0) (c .before .before .before .if1 .left) (c .before .if2 .left)))
 
 pub is-ok-spec : {M : Type 1} → statement M
 is-ok-spec =
-    tie.close (tie.spec (λ c. search needs) (λ c κs. search needs) returns (λ c κs. search needs) returns-2)
+    tie.close (tie.spec (λ c. search needs) (λ c κs. search needs) returns (λ c. search needs) (λ c κs. search needs) returns-2 (λ c κs. search needs) returns-3)

@@ -1,10 +1,9 @@
 -- `types_dispatch::outputs` meets its contract. Assumes nothing.
-use mathlib.Core.Path.{sym, ap, subst, _∙_}
+use mathlib.Core.Path.{_≡_, sym, ap, subst, _∙_}
 use mathlib.Core.Bool.{true}
-use mathlib.Core.Path.{_≡_}
 use native.Mathlib.Omega.{arith}
 use lib.ListN.{getD}
-use Rattle.types_rules.specs.Table.{ModuleType, servo, rulesOf, slotsOf}
+use Rattle.types_rules.specs.Table.{ModuleType, servo, inout, rulesOf, slotsOf}
 use Rattle.types_rules.proofs.Dispatch.{type-at, type-last}
 use borrow.Author.Needs.{needs}
 use Rattle.types_dispatch.proofs.outputs.Statement.{statement}
@@ -23,9 +22,14 @@ returns c =
 
 returns-2 : tie.Need-returns-2
 returns-2 c =
-    let s = c .before .before .before .before .args .s .now in
-    c .outputs2 .ensures ∙ sym (ap (λ (t : ModuleType). rulesOf t .outputs (slotsOf t .dec s)) (type-last (getD s 0 0) (c .before .if1 .left)))
+    let s = c .before .before .before .before .before .before .args .s .now in
+    c .outputs2 .ensures ∙ sym (ap (λ (t : ModuleType). rulesOf t .outputs (slotsOf t .dec s)) (type-at (getD s 0 0) inout (c .before .if2 .taken)))
+
+returns-3 : tie.Need-returns-3
+returns-3 c =
+    let s = c .before .before .before .before .before .before .args .s .now in
+    c .outputs3 .ensures ∙ sym (ap (λ (t : ModuleType). rulesOf t .outputs (slotsOf t .dec s)) (type-last (getD s 0 0) (c .before .before .before .if1 .left) (c .before .if2 .left)))
 
 pub outputs-spec : {M : Type 1} → statement M
 outputs-spec =
-    tie.close (tie.spec (λ c. search needs) outputs-requires returns (λ c κs. search needs) returns-2)
+    tie.close (tie.spec (λ c. search needs) outputs-requires returns (λ c. search needs) (λ c κs. search needs) returns-2 (λ c κs. search needs) returns-3)

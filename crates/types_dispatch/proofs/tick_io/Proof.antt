@@ -1,10 +1,10 @@
 -- `types_dispatch::tick_io` meets its contract. Assumes nothing.
-use mathlib.Core.Path.{_≡_, refl, subst}
+use mathlib.Core.Path.{_≡_, subst}
 use mathlib.Core.Bool.{true}
 use native.Mathlib.Omega.{arith}
 use lib.ListN.{getD}
-use Rattle.types_rules.specs.Table.{ModuleType, servo, inout, slotsOf}
-use Rattle.types_rules.proofs.Dispatch.{type-at, type-last, ticked, unticked}
+use Rattle.types_rules.specs.Table.{ModuleType, inout, slotsOf}
+use Rattle.types_rules.proofs.Dispatch.{type-at, ticked, unticked}
 use borrow.Author.Needs.{needs}
 use Rattle.types_dispatch.proofs.tick_io.Statement.{statement}
 use Rattle.types_dispatch.proofs.tick_io.Tie as tie
@@ -13,19 +13,18 @@ tick-requires : tie.Need-tick-requires
 tick-requires c κs =
     let a = c .before .before .before .before in
     let s = a .args .s .now in
-    (omega (arith, a .pre .0), subst (λ (t : ModuleType). slotsOf t .ok s ≡ true) (type-last (getD s 0 0) (c .before .if1 .taken)) (a .pre .1))
+    (omega (arith, a .pre .0), subst (λ (t : ModuleType). slotsOf t .ok s ≡ true) (type-at (getD s 0 0) inout (c .before .if1 .taken)) (a .pre .1))
 
 returns : tie.Need-returns
 returns c =
     let b = c .before .before .before .before in
     let a = b .before .before .before .args in
-    ticked (a .s .now) inout (type-last (getD (a .s .now) 0 0) (b .if1 .taken)) inout (a .x) (c .before .before .tick .ensures)
+    ticked (a .s .now) inout (type-at (getD (a .s .now) 0 0) inout (b .if1 .taken)) (a .x) (c .before .before .tick .ensures)
 
 returns-2 : tie.Need-returns-2
 returns-2 c =
     let a = c .before .before .before in
-    let s = a .args .s .now in
-    unticked s servo (type-at (getD s 0 0) servo (c .if1 .left)) inout (a .args .x) refl (a .pre .0) (λ i. omega (arith, c .before .before .slice-known .given i)) (a .pre .1)
+    unticked (a .args .s .now) (inout, a .args .x) (c .if1 .left) (a .pre .0) (λ i. omega (arith, c .before .before .slice-known .given i)) (a .pre .1)
 
 pub tick-io-spec : {M : Type 1} → statement M
 tick-io-spec =

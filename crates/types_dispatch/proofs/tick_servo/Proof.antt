@@ -1,10 +1,10 @@
 -- `types_dispatch::tick_servo` meets its contract. Assumes nothing.
-use mathlib.Core.Path.{_≡_, refl, subst}
+use mathlib.Core.Path.{_≡_, subst}
 use mathlib.Core.Bool.{true}
 use native.Mathlib.Omega.{arith}
 use lib.ListN.{getD}
-use Rattle.types_rules.specs.Table.{ModuleType, servo, inout, slotsOf}
-use Rattle.types_rules.proofs.Dispatch.{type-at, type-last, ticked, unticked}
+use Rattle.types_rules.specs.Table.{ModuleType, servo, slotsOf}
+use Rattle.types_rules.proofs.Dispatch.{type-at, ticked, unticked}
 use borrow.Author.Needs.{needs}
 use Rattle.types_dispatch.proofs.tick_servo.Statement.{statement}
 use Rattle.types_dispatch.proofs.tick_servo.Tie as tie
@@ -19,13 +19,12 @@ returns : tie.Need-returns
 returns c =
     let b = c .before .before .before .before in
     let a = b .before .before .before .args in
-    ticked (a .s .now) servo (type-at (getD (a .s .now) 0 0) servo (b .if1 .taken)) servo (a .x) (c .before .before .tick .ensures)
+    ticked (a .s .now) servo (type-at (getD (a .s .now) 0 0) servo (b .if1 .taken)) (a .x) (c .before .before .tick .ensures)
 
 returns-2 : tie.Need-returns-2
 returns-2 c =
     let a = c .before .before .before in
-    let s = a .args .s .now in
-    unticked s inout (type-last (getD s 0 0) (c .if1 .left)) servo (a .args .x) refl (a .pre .0) (λ i. omega (arith, c .before .before .slice-known .given i)) (a .pre .1)
+    unticked (a .args .s .now) (servo, a .args .x) (c .if1 .left) (a .pre .0) (λ i. omega (arith, c .before .before .slice-known .given i)) (a .pre .1)
 
 pub tick-servo-spec : {M : Type 1} → statement M
 tick-servo-spec =

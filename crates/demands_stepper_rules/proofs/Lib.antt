@@ -1,0 +1,5 @@
+pub mod Starting
+pub mod Motion
+pub mod Question
+mod Sending
+pub mod Sent

@@ -1,0 +1,9 @@
+pub mod Asks
+pub mod Known
+pub mod Apart
+pub mod Ramping
+pub mod Ticking
+pub mod LoadBytes
+pub mod Frames
+pub mod Doing
+pub mod Loading
