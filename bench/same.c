@@ -906,7 +906,7 @@ static void spoil_record(void)
     }
 }
 
-/* A module that has become one of the other type, or new, has measured nothing. */
+/* A module that has become one of another type, or new, has measured nothing. */
 static void list_for_spoiled(void)
 {
     for (int place = 0; place < plain->chain; place++) {
