@@ -7,7 +7,8 @@ ghost use Rattle.base_layout.specs.Bytes.{pasted};
 ghost use Rattle.base_layout.specs.Every.{every};
 ghost use Rattle.base_layout.proofs.Shape.{number};
 ghost use Rattle.module_rules.specs.Slots.{sampleSize, measuredAt};
-ghost use Rattle.stepper_slot_rules.specs.Slot.{sample, settings, load, motion, resting, running, steady, settingsAt, loadAt, motionAt, positionAt, stepperSize, encodeOf, decodeOf, okOf};
+ghost use Rattle.stepper_slot_rules.specs.Slot.{sample, settings, load, motion, settingsAt, loadAt, motionAt, positionAt, stepperSize, encodeOf, decodeOf, okOf};
+ghost use Rattle.stepper_slot_rules.specs.Parts.{frontTests, restTests, moveTests, stopTest, runTest};
 use stepper_rules::Load;
 use stepper_rules::Motion;
 use stepper_rules::Sample;
@@ -141,55 +142,88 @@ pub fn put(s: &mut [u8], m: Stepper)
     put_run(s, m.motion, m.position);
 }
 
-// Without a speed all else of what runs is 0, too.
-fn is_resting(p: Motion) -> bool
-    ensures { λ r. ⌜ r ≡ resting p ⌝ }
+// Whether what is asked at rest and moving holds: type, station, items that there are, flags and the load's speed. Flags stand together, so that the
+// compiled code tests them as one.
+fn is_front_ok(s: &[u8]) -> bool
+    requires { ⌜ stepperSize ≤ length (now s) ⌝ }
+    ensures { λ r. ⌜ r ≡ every (frontTests (now (s .entry))) ⌝ }
 {
-    !p.backward & (p.goal == 0) & (p.time == 0) & (p.ticks == 0) & !p.stopping
+    (s[0] == stepper_rules::TYPE)
+        & (s[module_rules::LEADER_AT] <= 1)
+        & (s[module_rules::LOW_AT] <= 1)
+        & (s[stepper_slot_rules::AMPLIFIER_AT] <= 1)
+        & (s[stepper_slot_rules::WAITS_AT] <= 1)
+        & (s[stepper_slot_rules::LOAD_BACKWARD_AT] <= 1)
+        & (s[stepper_slot_rules::BACKWARD_AT] <= 1)
+        & (s[module_rules::CAUSE_AT] <= module_rules::CAUSE_MOST)
+        & (s[stepper_slot_rules::LOAD_SPEED_AT] <= stepper_rules::FASTEST)
+        & stepper_parse::is_shown(s[module_rules::ITEMS_AT])
 }
 
-fn is_running(minimum: u8, p: Motion) -> bool
-    ensures { λ r. ⌜ r ≡ running minimum p ⌝ }
+// At rest all else of what runs is 0, too.
+fn is_resting(s: &[u8]) -> bool
+    requires { ⌜ stepperSize ≤ length (now s) ⌝ }
+    ensures { λ r. ⌜ r ≡ every (restTests (now (s .entry))) ⌝ }
 {
+    (s[stepper_slot_rules::MINIMUM_AT] <= stepper_rules::FASTEST)
+        & (s[stepper_slot_rules::BACKWARD_AT] == 0)
+        & (s[stepper_slot_rules::GOAL_AT] == 0)
+        & (s[stepper_slot_rules::TIME_AT] == 0)
+        & (s[stepper_slot_rules::TICKS_AT] == 0)
+        & (s[stepper_slot_rules::STOPPING_AT] == 0)
+}
+
+fn is_running(s: &[u8]) -> bool
+    requires { ⌜ stepperSize ≤ length (now s) ⌝ }
+    ensures { λ r. ⌜ r ≡ every (moveTests (now (s .entry))) ⌝ }
+{
+    let minimum = s[stepper_slot_rules::MINIMUM_AT];
+    let speed = s[stepper_slot_rules::SPEED_AT];
+    let goal = s[stepper_slot_rules::GOAL_AT];
     (1 <= minimum)
-        & (minimum <= p.speed)
-        & (minimum <= p.goal)
-        & (p.ticks < p.time)
-        & (!p.stopping | (p.goal == minimum))
+        & (minimum <= speed)
+        & (speed <= stepper_rules::FASTEST)
+        & (minimum <= goal)
+        & (goal <= stepper_rules::FASTEST)
+        & (s[stepper_slot_rules::TICKS_AT] < s[stepper_slot_rules::TIME_AT])
 }
 
-fn is_steady(minimum: u8, p: Motion) -> bool
-    ensures { λ r. ⌜ r ≡ steady minimum p ⌝ }
+// A smooth stop goes to the minimum.
+fn is_stop_ok(stopping: u8, goal: u8, minimum: u8) -> bool
+    ensures { λ r. ⌜ r ≡ stopTest stopping goal minimum ⌝ }
 {
-    if p.speed == 0 {
-        return is_resting(p);
+    if stopping == 0 {
+        return true;
     }
-    is_running(minimum, p)
+    (stopping == 1) & (goal == minimum)
 }
 
-// Whether a slot holds a valid step-motor module: its type byte, its station with items that there are, flags, speeds of at most 250, and what runs,
-// which is all 0 at rest and within the rules where it moves.
+fn is_run_ok(s: &[u8]) -> bool
+    requires { ⌜ stepperSize ≤ length (now s) ⌝ }
+    ensures { λ r. ⌜ r ≡ runTest (now (s .entry)) ⌝ }
+{
+    if s[stepper_slot_rules::SPEED_AT] == 0 {
+        return is_resting(s);
+    }
+    if is_running(s) {
+        return is_stop_ok(
+            s[stepper_slot_rules::STOPPING_AT],
+            s[stepper_slot_rules::GOAL_AT],
+            s[stepper_slot_rules::MINIMUM_AT],
+        );
+    }
+    false
+}
+
+// Whether a slot holds a valid step-motor module.
 pub fn is_ok(s: &[u8]) -> bool
     requires { ⌜ stepperSize ≤ length (now s) ⌝ }
     ensures { λ r. ⌜ r ≡ okOf (now (s .entry)) ⌝ }
 {
-    let p = motion_in(s);
-    let minimum = s[stepper_slot_rules::MINIMUM_AT];
-    let items = s[module_rules::ITEMS_AT];
-    (s[0] == stepper_rules::TYPE)
-        & (s[module_rules::LEADER_AT] <= 1)
-        & (s[module_rules::LOW_AT] <= 1)
-        & (s[module_rules::CAUSE_AT] <= module_rules::CAUSE_MOST)
-        & (s[stepper_slot_rules::AMPLIFIER_AT] <= 1)
-        & (minimum <= stepper_rules::FASTEST)
-        & (s[stepper_slot_rules::WAITS_AT] <= 1)
-        & (s[stepper_slot_rules::LOAD_BACKWARD_AT] <= 1)
-        & (s[stepper_slot_rules::LOAD_SPEED_AT] <= stepper_rules::FASTEST)
-        & (p.speed <= stepper_rules::FASTEST)
-        & (s[stepper_slot_rules::BACKWARD_AT] <= 1)
-        & (p.goal <= stepper_rules::FASTEST)
-        & (s[stepper_slot_rules::STOPPING_AT] <= 1)
-        & ((items / 2 % 16 == 0) & (items / 64 == 0) & is_steady(minimum, p))
+    if is_front_ok(s) {
+        return is_run_ok(s);
+    }
+    false
 }
 
 // Whether the sample in ten bytes of a tick's list has all its fields in range: the stop input is 0 or 1.

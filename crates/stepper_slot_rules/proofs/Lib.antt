@@ -6,3 +6,4 @@ pub mod Replaced
 pub mod Owed
 pub mod Within
 pub mod Listed
+pub mod Tested

@@ -19,7 +19,7 @@ use Rattle.stepper_slot_rules.proofs.Good.{good}
 
 -- the facts of a list of tests, one after another
 infixr 40 _and_
-_and_ : {A B : Type 0} → A → B → A × B
+pub _and_ : {A B : Type 0} → A → B → A × B
 a and b = (a, b)
 
 -- ---- what runs

@@ -43,7 +43,7 @@ movingTests minimum p =
     ∷ (not (p .stopping) || eqb (p .goal) minimum)
     ∷ []
 
-at-rest : {speed goal time ticks : ℕ} {backward stopping : Bool}
+pub at-rest : {speed goal time ticks : ℕ} {backward stopping : Bool}
     → speed ≡ 0 → backward ≡ false → goal ≡ 0 → time ≡ 0 → ticks ≡ 0 → stopping ≡ false
     → _≡_ {A = Motion} (record { speed = speed; backward = backward; goal = goal; time = time; ticks = ticks; stopping = stopping }) rest
 at-rest a b c d e f = rw (a, b, c, d, e, f)
