@@ -7,6 +7,7 @@ pub mod Making
 pub mod Placing
 pub mod InTime
 pub mod Since
+pub mod Stepping
 mod Sending
 pub mod Sent
 pub mod SettingOut

@@ -119,11 +119,6 @@ unfoldable pub after : ℕ → Profile → Profile
 after zero p = p
 after (suc n) p = after n (byTrapezoid p)
 
-pub after-tick : (n : ℕ) (p : Profile) → byTrapezoid (after n p) ≡ after (suc n) p
-unfolding after
-after-tick zero p = refl
-after-tick (suc n) p = after-tick n (byTrapezoid p)
-
 -- where it is then
 pub record Gone (b : Bool) (d v : ℕ) (p : Profile) (xs : List ℕ) (q : Profile) : Type 0 where
   pub setpoint : q .setpoint ≡ moved (p .setpoint) (signedBy b (total xs))

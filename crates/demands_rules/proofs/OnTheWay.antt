@@ -1,21 +1,16 @@
 -- QuickestOnTheLine: a servo through calls that do not disturb its move. Assumes nothing.
-use mathlib.Core.Path.{_≡_, refl, sym, ap, subst, _∙_}
-use mathlib.Core.Logic.{_⊎_, inl, inr, _↔_}
-use mathlib.Core.List.{List, [], _∷_}
+use mathlib.Core.Path.{_≡_, refl, sym, ap, ap₂, subst, _∙_}
+use mathlib.Core.Logic.{inl, inr, _↔_}
+use mathlib.Core.List.{List}
 use mathlib.Core.Bool.{Bool, true, false, true≢false}
 use mathlib.Core.Option.{some}
-use Prim.Native.Nat.{ℕ, zero, suc, _+_, _-_, _*_, _<_, _≤_}
+use Prim.Native.Nat.{ℕ, zero, suc, _-_, _*_, _<_, _≤_}
 use native.Mathlib.Omega.{arith}
-use borrow.Author.Tests.{eqb-true, eqb-false}
 use lib.IntN.{pos, natAbs}
 use lib.Signed.{ltZ}
-use lib.ListN.{getElem?, take}
-use lib.Seq.{take-length}
-use lib.Dec.{eqb}
 use Rattle.base_integers.specs.Bits.{bit}
 use Rattle.line_receiver.specs.Frames.{Frame, frameIn}
 use Rattle.module_rules.specs.Rules.{Request, malformed, set, reset, wants, settled}
-use Rattle.module_rules.proofs.Settled.{settles}
 use Rattle.servo_motion.specs.declared.Profile.{Profile}
 use Rattle.servo_motion.specs.Setpoint.{moved}
 use Rattle.servo_motion.specs.Profile.{left, byTrapezoid}
@@ -41,7 +36,6 @@ use Rattle.servo_rules.specs.Tick.{advancedBy, advanced, ticked}
 use Rattle.servo_rules.specs.Answers as Answers
 use Rattle.servo_rules.specs.Answers.{done, bitAt, status, request, withCause, execute}
 use Rattle.servo_rules.specs.LoadPromises.{Completes}
-use Rattle.servo_rules.specs.TickPromises.{followed}
 use Rattle.servo_rules.proofs.Known.{Known, known, BitOf, haltBits, halt-bits}
 use Rattle.servo_rules.proofs.Keeping.{by-test, either, distinct}
 use Rattle.servo_rules.proofs.Signs.{signed-size, signed-zero, signed-itself}
@@ -54,29 +48,28 @@ use Rattle.servo_slot_rules.specs.Promises.{Fits}
 use Rattle.servo_slot_rules.proofs.Good.{InMode, good}
 use Rattle.types_rules.specs.Table.{servo}
 use Rattle.types_rules.specs.Types.{slots}
-use Rattle.types_rules.proofs.Promised.{every-type}
 use Rattle.net_rules.specs.Record.{netIn}
-use Rattle.api_rules.specs.Table.{tickTable}
-use Rattle.api_rules.specs.Promises.{Passes, Refuses, ValidRecord}
-use Rattle.api_rules.proofs.Refused as Refused
-use Rattle.demands_history_rules.specs.Calls.{Call, byte, tick, AllHanded, leaves, leftBy}
-use Rattle.demands_history_rules.proofs.Calls.{passes?, call-kept}
+use Rattle.api_rules.specs.Promises.{ValidRecord}
+use Rattle.demands_history_rules.specs.Calls.{Call, byte, tick, leaves}
+use Rattle.demands_history_rules.proofs.Calls.{call-kept}
 use Rattle.demands_rules.specs.Motion.{LoadStarts, CallStarts}
-use Rattle.demands_rules.specs.Place.{after}
-use Rattle.demands_rules.specs.ServoPlace.{At, servoSampleAt, Stands, inTime}
+use Rattle.demands_rules.specs.Place.{ticksIn}
 use Rattle.demands_rules.specs.Loaded.{control}
 use Rattle.demands_rules.specs.Sent.{WholeLoad}
-use Rattle.demands_rules.specs.Quickest.{total, final, speedsFrom, ticksOf, ticksIn, Disturbs, Undisturbed, SetsOff, OnItsWay, QuickestOnTheLine}
+use Rattle.demands_rules.specs.Quickest.{total, final, speedsFrom, Disturbs, Follows, SetsOff, OnItsWay, QuickestOnTheLine}
 use Rattle.demands_rules.proofs.Making.{same-place, fits-at, Silent, Made, same, framed, timed, made}
 use Rattle.demands_rules.proofs.Motion.{load-started}
-use Rattle.demands_rules.proofs.Placing.{Only, calm, Carries, carried-on}
+use Rattle.demands_rules.proofs.Stepping.{stepped, Steps, went}
 use Rattle.demands_rules.proofs.Racing.{no-quicker, never-past}
-use Rattle.demands_rules.proofs.Mirroring.{Goes, can-stop, sets-off, after-tick, Gone, gone}
+use Rattle.demands_rules.proofs.Mirroring.{Goes, can-stop, sets-off, Gone, gone}
 use Rattle.demands_rules.proofs.Mirroring as Profiles
 
--- k runs as m does: the same profile in the same mode
+-- what runs of a servo: its profile, and the mode that it is in
+abbrev runOf : Servo → Profile × Mode
+runOf m = (m .run .profile, m .run .drive .mode)
+
 abbrev Same : Servo → Servo → Type 0
-Same m k = (k .run .profile ≡ m .run .profile) × (k .run .drive .mode ≡ m .run .drive .mode)
+Same m k = runOf k ≡ runOf m
 
 -- ---- a frame
 
@@ -86,11 +79,11 @@ module _ (f : Frame) (calm : Disturbs f → ⊥) (m : Servo) where
   unfolding carriedIn loaded
   load-keeps w =
       by-test (Same m) (startsNow (carriedIn (f .content))) (start (loaded (carriedIn (f .content)) m)) (loaded (carriedIn (f .content)) m)
-      (λ e. absurd (calm (inr (inl (w .0, e))))) (λ e. (refl, refl))
+      (λ e. absurd (calm (inr (inl (w .0, e))))) (λ e. refl)
 
   halts : f .code ≡ 7 → (h : Halt) (a : Bool) (x : ℕ) → BitOf h (haltBits (control f)) → Same m (stopped a h x m)
   unfolding stopped
-  halts c Keep a x b = (refl, refl)
+  halts c Keep a x b = refl
   halts c Release a x b = absurd (calm (inr (inr (inr (inr (c, inl b))))))
   halts c Abrupt a x b = absurd (calm (inr (inr (inr (inr (c, inr (inl b)))))))
   halts c Smooth a x b = absurd (calm (inr (inr (inr (inr (c, inr (inr (inl b))))))))
@@ -100,107 +93,44 @@ module _ (f : Frame) (calm : Disturbs f → ⊥) (m : Servo) where
   order-keeps ResetPosition k = absurd (calm (inl k))
   order-keeps (LoadTrajectory c) (w, e) = subst (λ (c : Carried). Same m (perform (LoadTrajectory c) m)) (sym e) (load-keeps w)
   order-keeps Start k = absurd (calm (inr (inr (inl (k .0)))))
-  order-keeps (SetGain t) k = (refl, refl)
+  order-keeps (SetGain t) k = refl
   order-keeps (Stop a h x) (c, e, y, l, b, w) = halts c h a x (subst (λ (h : Halt). BitOf h (haltBits (control f))) (sym e) (halt-bits (control f)))
-  order-keeps ClearBits k = (refl, refl)
+  order-keeps ClearBits k = refl
 
   settled-keeps : (q : Request Order) → Known f q → Same m (settled Answers.servo q m)
-  settled-keeps (malformed x) k = (refl, refl)
-  settled-keeps (set s) k = (refl, refl)
+  settled-keeps (malformed x) k = refl
+  settled-keeps (set s) k = refl
   settled-keeps reset k = absurd (calm (inr (inr (inr (inl k)))))
-  settled-keeps (wants c) k = either (Same m) (can c m) (withCause 0 (perform c m)) (withCause 3 m) (order-keeps c k) (refl, refl)
-
--- a frame that is not executed leaves all but the cause; one that is, and disturbs nothing, leaves what runs
-frame-keeps : (f : Frame) (alone : Bool) (m : Servo) → (f .damaged ≡ false → execute f alone m .station .cause ≡ 0 → Disturbs f → ⊥) → Same m (execute f alone m)
-frame-keeps f alone m calm = at (f .damaged) refl (eqb (execute f alone m .station .cause) 0) refl
-  where
-    at : (d : Bool) → f .damaged ≡ d → (t : Bool) → eqb (execute f alone m .station .cause) 0 ≡ t → Same m (execute f alone m)
-    at true d t e = subst (Same m) (sym (every-type servo .cause f alone m .damaged d)) (refl, refl)
-    at false d true e =
-        subst (Same m) (sym (settles Answers.servo f alone m d refl))
-        (settled-keeps f (calm d (eqb-true _ 0 e)) m (request f alone) (known f alone))
-    at false d false e = subst (Same m) (sym (every-type servo .cause f alone m .kept (eqb-false _ 0 e))) (refl, refl)
+  settled-keeps (wants c) k = either (Same m) (can c m) (withCause 0 (perform c m)) (withCause 3 m) (order-keeps c k) refl
 
 -- ---- time
 
+-- a trapezoid's step, and that it is one
+abbrev stepOf : Profile × Mode → Profile × Mode
+stepOf r = (byTrapezoid (r .0), r .1)
+
+abbrev Moving : Profile × Mode → Type 0
+Moving r = r .1 ≡ Trapezoid
+
 -- a tick at power 1 or 2 with the error within EL makes a trapezoid's step
-tick-steps : (x : Sample) (m : Servo) → m .run .drive .mode ≡ Trapezoid → (x .power ≡ 0 → ⊥) → natAbs (followed x m) ≤ m .settings .tuning .gains .el
-    → (ticked x m .run .profile ≡ byTrapezoid (m .run .profile)) × (ticked x m .run .drive .mode ≡ Trapezoid)
+tick-steps : (x : Sample) (m : Servo) → Moving (runOf m) → Follows x m → runOf (ticked x m) ≡ stepOf (runOf m)
 unfolding advanced
-tick-steps x m e p l =
+tick-steps x m e (p, l) =
     let r = ticks x m .runs p (ap servoOff e) l in
-    (r .profile ∙ ap (λ (k : Mode). advancedBy k (m .run .profile)) e, r .mode ∙ e)
+    ap₂ (λ (p : Profile) (d : Mode). (p, d)) (r .profile ∙ ap (λ (k : Mode). advancedBy k (m .run .profile)) e) (r .mode)
 
--- k runs as m would after n ticks
-abbrev Later : ℕ → Servo → Servo → Type 0
-Later n m k = (k .run .profile ≡ Profiles.after n (m .run .profile)) × (k .run .drive .mode ≡ m .run .drive .mode)
+trapezoid-steps : Steps servo runOf stepOf Disturbs Follows Moving
+trapezoid-steps = record {
+  caused = λ c m. refl;
+  asked = λ f alone m calm. settled-keeps f calm m (request f alone) (known f alone);
+  tick = tick-steps;
+  runs = λ r e. e;
+}
 
--- time makes a step of a tick that is done, and nothing of anything else
-time-steps : (net : List ℕ) (i : ℕ) (c : Call) (m : Servo) → m .run .drive .mode ≡ Trapezoid
-    → ((samples : List ℕ) → c ≡ tick samples → Passes (tickTable net samples)
-    → (servoSampleAt samples i .power ≡ 0 → ⊥) × (natAbs (followed (servoSampleAt samples i) m) ≤ m .settings .tuning .gains .el))
-    → Later (ticksOf net c) m (inTime net i c m)
-unfolding Profiles.after
-time-steps net i (byte mark x room) m e q = (refl, refl)
-time-steps net i (tick samples) m e q = at (passes? (tickTable net samples))
-  where
-    at : Passes (tickTable net samples) ⊎ Refuses (tickTable net samples) → Later (ticksOf net (tick samples)) m (inTime net i (tick samples) m)
-    at (inl p) =
-        let (w, l) = q samples refl p in
-        let (f, g) = tick-steps (servoSampleAt samples i) m e w l in
-        subst (λ (j : ℕ). Later j m (inTime net i (tick samples) m)) (Refused.done (tickTable net samples) 0 1 refl p)
-        (subst (Later 1 m) (Refused.done (tickTable net samples) m (ticked (servoSampleAt samples i) m) refl p) (f, g ∙ sym e))
-    at (inr r) =
-        subst (λ (j : ℕ). Later j m (inTime net i (tick samples) m)) (Refused.refused (tickTable net samples) 0 1 refl r)
-        (subst (Later 0 m) (Refused.refused (tickTable net samples) m (ticked (servoSampleAt samples i) m) refl r) (refl, refl))
-
--- ---- one call more, and any number
-
-after-sum : (j n : ℕ) (p : Profile) → Profiles.after j (Profiles.after n p) ≡ Profiles.after (j + n) p
-unfolding Profiles.after
-after-sum zero n p = ap (λ (k : ℕ). Profiles.after k p) (let e : n ≡ 0 + n = omega arith in e)
-after-sum (suc j) n p =
-    ap (Profiles.after j) (after-tick n p)
-    ∙ after-sum j (suc n) p
-    ∙ ap (λ (k : ℕ). Profiles.after k p) (let e : j + suc n ≡ suc j + n = omega arith in e)
-
-ticks-at : (cs : List Call) (net : List ℕ) (n : ℕ) (c : Call) → getElem? cs n ≡ some c
-    → ticksIn net (take (suc n) cs) ≡ ticksOf (leftBy (take n cs) net) c + ticksIn net (take n cs)
-ticks-at [] net n c e = let z : _≡_ {A = Bool} true false = cc in absurd (true≢false z)
-ticks-at (d ∷ cs) net zero c e = let z : d ≡ c = cc in ap (λ (c : Call). ticksOf net c + 0) z
-ticks-at (d ∷ cs) net (suc n) c e = let i = ticks-at cs (leaves net d) n c e in omega arith
-
-module _ (net : List ℕ) (cs : List Call) (i : ℕ) (s : Servo) (v : ValidRecord net) (h : AllHanded cs) (at : At net i s)
-    (runs : s .run .drive .mode ≡ Trapezoid) (u : Undisturbed net cs i) where
-  -- what call n makes of time
-  by-time : (n : ℕ) (c : Call) (m : Servo) → getElem? cs n ≡ some c → Stands net cs i n m → m .run .drive .mode ≡ Trapezoid
-      → Later (ticksOf (after net cs i n) c) m (inTime (after net cs i n) i c m)
-  by-time n c m g st e =
-      time-steps (after net cs i n) i c m e
-      (λ samples z p. u .ticks n _ m (record { samples = samples; call = g ∙ ap some z; done = p; own = refl }) st)
-
-  -- a call leaves what time makes of the servo, or a frame that does not disturb it
-  call-steps : (n : ℕ) (c : Call) (m k : Servo) → getElem? cs n ≡ some c → Stands net cs i n m → m .run .drive .mode ≡ Trapezoid
-      → Only servo net cs i (suc n) k → Made servo (after net cs i n) i m c k → Later (ticksOf (after net cs i n) c) m k
-  unfolding Profiles.after
-  call-steps n _ _ k g st e o (framed mark x room d goes a t) =
-      frame-keeps (frameIn (netIn slots (after net cs i n) .receiver) d) _ _ (calm servo net cs i n mark x room Disturbs d k g goes t a o (u .frames n))
-  call-steps n _ m _ g st e o (same c y q) = subst (Later (ticksOf (after net cs i n) c) m) q (by-time n c m g st e)
-  call-steps n _ m _ g st e o (timed samples p q) = subst (Later (ticksOf (after net cs i n) (tick samples)) m) q (by-time n (tick samples) m g st e)
-
-  -- the servo after n calls
-  goes : Carries servo net cs i (λ n k. Later (ticksIn net (take n cs)) s k)
-  goes n c m k g w st b st′ o (p, d) =
-      let j : ℕ = ticksOf (after net cs i n) c in
-      let (q, f) = call-steps n c m k g st (d ∙ runs) o b in
-      (q ∙ ap (Profiles.after j) p ∙ after-sum j _ _ ∙ ap (λ (j : ℕ). Profiles.after j (s .run .profile)) (sym (ticks-at cs net n c g)), f ∙ d)
-
-  -- and after all of them
-  went : (k : Servo) → At (leftBy cs net) i k → Later (ticksIn net cs) s k
-  unfolding Profiles.after
-  went k e =
-      subst (λ (ds : List Call). Later (ticksIn net ds) s k) (take-length cs)
-      (carried-on servo net cs i (λ n k. Later (ticksIn net (take n cs)) s k) v h goes s at (refl, refl) k e)
+steps-are : (n : ℕ) (r : Profile × Mode) → stepped stepOf n r ≡ (Profiles.after n (r .0), r .1)
+unfolding stepped Profiles.after
+steps-are zero r = refl
+steps-are (suc n) r = steps-are n (stepOf r)
 
 -- ---- where it is then
 
@@ -304,8 +234,10 @@ quickest-on-the-line net c cs i m s k v hc h e l es t u ek =
     let ranged = good s f .sane .profile in
     let (still, fast) = started in
     let off : SetsOff p = record { still = still; force = r .force; fast = fast; near = near (p .goal) (p .setpoint) .0 (r .near) } in
-    let (q, d) = went (leaves net c) cs i s w h es t u k ek in
-    (off, on-its-way p (ticksIn (leaves net c) cs) off (sets-off p ranged r still) k q (d ∙ t))
+    let n : ℕ = ticksIn (leaves net c) cs in
+    let q : runOf k ≡ (Profiles.after n p, s .run .drive .mode) =
+    went servo runOf stepOf Disturbs Follows Moving trapezoid-steps (leaves net c) cs i s w h es t u k ek ∙ steps-are n (runOf s) in
+    (off, on-its-way p n off (sets-off p ranged r still) k (ap (λ (r : Profile × Mode). r .0) q) (ap (λ (r : Profile × Mode). r .1) q ∙ t))
   where
     started : (s .run .profile .speed ≡ pos 0) × (0 < s .run .profile .top)
     started =

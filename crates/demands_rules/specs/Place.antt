@@ -1,7 +1,7 @@
--- One place of a record through any calls, whatever module type t stands there: the module after the first n of them, the frames that it executed and
--- the samples that ticks handed it. (Of a servo: ServoPlace.antt.)
+-- One place of a record through any calls, whatever module type t stands there: the module after the first n of them, the frames that it executed, the
+-- samples that ticks handed it, and what leaves it undisturbed. (Of a servo: ServoPlace.antt.)
 use mathlib.Core.Path.{_≡_}
-use Prim.Native.Nat.{ℕ, suc, _<_, _≤_}
+use Prim.Native.Nat.{ℕ, suc, _+_, _<_, _≤_}
 use mathlib.Core.List.{List, [], _∷_}
 use mathlib.Core.Bool.{true, false}
 use mathlib.Core.Option.{some}
@@ -79,3 +79,18 @@ inTime t net i (tick samples) m = unless (tickTable net samples) m (rulesOf t .t
 abbrev pub throughTime : (t : ModuleType) → List ℕ → ℕ → List Call → Of t → Of t
 throughTime t net i [] m = m
 throughTime t net i (c ∷ cs) m = throughTime t (leaves net c) i cs (inTime t net i c m)
+
+-- how many ticks a call makes of a record, and how many a list of calls does: a refused tick is none (02 P11)
+abbrev pub ticksOf : List ℕ → Call → ℕ
+ticksOf net (byte mark x room) = 0
+ticksOf net (tick samples) = unless (tickTable net samples) 0 1
+
+abbrev pub ticksIn : List ℕ → List Call → ℕ
+ticksIn net [] = 0
+ticksIn net (c ∷ cs) = ticksOf net c + ticksIn (leaves net c) cs
+
+-- Undisturbed: through these calls no frame such as D is executed at place i, and each tick hands the module there a sample such as G. Polls, frames
+-- that are refused or for others, ticks that are refused and everything else may come.
+pub record UndisturbedBy (t : ModuleType) (D : Frame → Type 0) (G : SampleOf t → Of t → Type 0) (net : List ℕ) (cs : List Call) (i : ℕ) : Type 0 where
+  pub frames : (j : ℕ) (f : Frame) → Executed t net cs i j f → D f → ⊥
+  pub ticks : (j : ℕ) (x : SampleOf t) (m : Of t) → Ticked t net cs i j x → Stands t net cs i j m → G x m

@@ -22,12 +22,12 @@ use Rattle.servo_rules.specs.State.{setpointAt}
 use Rattle.servo_rules.specs.Loads.{signedBy}
 use Rattle.servo_rules.specs.Answers.{status}
 use Rattle.servo_rules.specs.TickPromises.{followed}
-use Rattle.api_rules.specs.Table.{tickTable}
-use Rattle.api_rules.specs.Calls.{unless}
+use Rattle.types_rules.specs.Table.{servo}
 use Rattle.api_rules.specs.Promises.{ValidRecord}
-use Rattle.demands_history_rules.specs.Calls.{Call, byte, tick, Handed, AllHanded, leaves, leftBy}
+use Rattle.demands_history_rules.specs.Calls.{Call, Handed, AllHanded, leaves, leftBy}
 use Rattle.demands_rules.specs.Motion.{LoadStarts, CallStarts}
-use Rattle.demands_rules.specs.ServoPlace.{At, Stands, Executed, Ticked}
+use Rattle.demands_rules.specs.Place.{ticksIn, UndisturbedBy}
+use Rattle.demands_rules.specs.ServoPlace.{At}
 use Rattle.demands_rules.specs.Loaded.{Has}
 use Rattle.demands_rules.specs.Sent.{Halts}
 
@@ -123,25 +123,17 @@ Mirrored =
 
 -- ---- a servo on the line
 
--- how many ticks a call makes of a record, and how many a list of calls does: a refused tick is none (02 P11)
-abbrev pub ticksOf : List ℕ → Call → ℕ
-ticksOf net (byte mark x room) = 0
-ticksOf net (tick samples) = unless (tickTable net samples) 0 1
-
-abbrev pub ticksIn : List ℕ → List Call → ℕ
-ticksIn net [] = 0
-ticksIn net (c ∷ cs) = ticksOf net c + ticksIn (leaves net c) cs
-
 -- what disturbs a move where it is executed: Reset Position, a Load that starts now, Start, Hard Reset, a Stop with one of bits 1 to 4
 abbrev pub Disturbs : Frame → Type 0
 Disturbs f = (f .code ≡ 0) ⊎ (((f .code ≡ 4) × Has 7 f) ⊎ ((f .code ≡ 5) ⊎ ((f .code ≡ 15) ⊎ Halts f)))
 
--- Undisturbed: through these calls no such frame is executed at place i, and each tick hands it power 1 or 2 and finds a following error within EL.
--- Polls, loads that wait, frames that are refused or for others, ticks that are refused and everything else may come.
-pub record Undisturbed (net : List ℕ) (cs : List Call) (i : ℕ) : Type 0 where
-  pub frames : (j : ℕ) (f : Frame) → Executed net cs i j f → Disturbs f → ⊥
-  pub ticks : (j : ℕ) (x : Sample) (m : Servo) → Ticked net cs i j x → Stands net cs i j m
-      → (x .power ≡ 0 → ⊥) × (natAbs (followed x m) ≤ m .settings .tuning .gains .el)
+-- Undisturbed: no such frame is executed at place i, and each tick hands it power 1 or 2 and finds a following error within EL. Polls, loads that wait
+-- and everything else may come.
+abbrev pub Follows : Sample → Servo → Type 0
+Follows x m = (x .power ≡ 0 → ⊥) × (natAbs (followed x m) ≤ m .settings .tuning .gains .el)
+
+abbrev pub Undisturbed : List ℕ → List Call → ℕ → Type 0
+Undisturbed = UndisturbedBy servo Disturbs Follows
 
 -- what a started trapezoid begins with: at rest, with some acceleration and velocity, and a goal less than half the range away
 pub record SetsOff (p : Profile) : Type 0 where

@@ -3,3 +3,4 @@ pub mod Motion
 pub mod Question
 mod Sending
 pub mod Sent
+pub mod Ramping

@@ -1,3 +1,4 @@
 pub mod Motion
 pub mod Question
 pub mod Sent
+pub mod Ramp

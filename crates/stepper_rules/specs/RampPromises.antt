@@ -39,30 +39,30 @@ NeverPast = (p : Motion) → Toward p
 abbrev pub OnlyTheLast : Type 0
 OnlyTheLast = (p : Motion) (k : ℕ) → Counting p → p .ticks + k < p .time → after k p ≡ paced (p .speed) (p .ticks + k) p
 
--- A ramp in closed form, k ticks on. A climb, and a fall to a lower goal: as many units as k ticks have T-th ones among them, up to the goal. The
--- goal is reached exactly at the T-th tick of its last unit, and kept.
-pub record Climbs (p : Motion) (k : ℕ) : Type 0 where
-  pub speed : after k p .speed ≡ lesser (p .speed + (p .ticks + k) / p .time) (p .goal)
-  pub arrives : (after k p .speed ≡ p .goal) ↔ ((p .goal - p .speed) * p .time ≤ p .ticks + k)
+-- A ramp in closed form: q is p, k ticks on. A climb, and a fall to a lower goal: as many units as k ticks have T-th ones among them, up to the goal.
+-- The goal is reached exactly at the T-th tick of its last unit, and kept.
+pub record Climbs (p : Motion) (k : ℕ) (q : Motion) : Type 0 where
+  pub speed : q .speed ≡ lesser (p .speed + (p .ticks + k) / p .time) (p .goal)
+  pub arrives : (q .speed ≡ p .goal) ↔ ((p .goal - p .speed) * p .time ≤ p .ticks + k)
 
 abbrev pub Climb : Type 0
-Climb = (p : Motion) (k : ℕ) → Counting p → p .stopping ≡ false → p .speed ≤ p .goal → Climbs p k
+Climb = (p : Motion) (k : ℕ) → Counting p → p .stopping ≡ false → p .speed ≤ p .goal → Climbs p k (after k p)
 
-pub record Falls (p : Motion) (k : ℕ) : Type 0 where
-  pub speed : after k p .speed ≡ greater (p .speed - (p .ticks + k) / p .time) (p .goal)
-  pub arrives : (after k p .speed ≡ p .goal) ↔ ((p .speed - p .goal) * p .time ≤ p .ticks + k)
+pub record Falls (p : Motion) (k : ℕ) (q : Motion) : Type 0 where
+  pub speed : q .speed ≡ greater (p .speed - (p .ticks + k) / p .time) (p .goal)
+  pub arrives : (q .speed ≡ p .goal) ↔ ((p .speed - p .goal) * p .time ≤ p .ticks + k)
 
 abbrev pub Fall : Type 0
-Fall = (p : Motion) (k : ℕ) → Counting p → p .stopping ≡ false → 0 < p .goal → p .goal ≤ p .speed → Falls p k
+Fall = (p : Motion) (k : ℕ) → Counting p → p .stopping ≡ false → 0 < p .goal → p .goal ≤ p .speed → Falls p k (after k p)
 
 -- A smooth stop, whose goal is the minimum: unit by unit down to it, and one T later to rest; exactly then, and for good.
-pub record Slows (p : Motion) (k : ℕ) : Type 0 where
-  pub speed : after k p .speed ≡ cond (ltb (p .ticks + k) ((suc (p .speed) - p .goal) * p .time)) (p .speed - (p .ticks + k) / p .time) 0
-  pub ends : (after k p .speed ≡ 0) ↔ ((suc (p .speed) - p .goal) * p .time ≤ p .ticks + k)
-  pub atRest : (suc (p .speed) - p .goal) * p .time ≤ p .ticks + k → after k p ≡ rest
+pub record Slows (p : Motion) (k : ℕ) (q : Motion) : Type 0 where
+  pub speed : q .speed ≡ cond (ltb (p .ticks + k) ((suc (p .speed) - p .goal) * p .time)) (p .speed - (p .ticks + k) / p .time) 0
+  pub ends : (q .speed ≡ 0) ↔ ((suc (p .speed) - p .goal) * p .time ≤ p .ticks + k)
+  pub atRest : (suc (p .speed) - p .goal) * p .time ≤ p .ticks + k → q ≡ rest
 
 abbrev pub SlowDown : Type 0
-SlowDown = (p : Motion) (k : ℕ) → Counting p → p .stopping ≡ true → 0 < p .goal → p .goal ≤ p .speed → Slows p k
+SlowDown = (p : Motion) (k : ℕ) → Counting p → p .stopping ≡ true → 0 < p .goal → p .goal ≤ p .speed → Slows p k (after k p)
 
 -- At rest ticks change nothing.
 abbrev pub StaysAtRest : Type 0

@@ -14,7 +14,7 @@ use Rattle.base_layout.proofs.Every.{every-hold, hold-every}
 use Rattle.stepper_rules.specs.declared.Motion.{Motion}
 use Rattle.stepper_rules.specs.State.{rest}
 use Rattle.stepper_rules.proofs.Frames.{item-bits}
-use Rattle.stepper_slot_rules.specs.Slot.{settingsAt, loadAt, motionAt, decodeOf, okOf}
+use Rattle.stepper_slot_rules.specs.Slot.{settingsAt, motionAt, decodeOf, okOf}
 use Rattle.stepper_slot_rules.specs.Parts.{frontTests, restTests, moveTests, stopTest, runTest, tested}
 use Rattle.stepper_slot_rules.specs.Promises.{Moving, Lines}
 use Rattle.stepper_slot_rules.proofs.Steady.{at-rest}

@@ -1,5 +1,5 @@
 -- `stepper_slot::is_ok` meets its contract. Assumes nothing.
-use mathlib.Core.Path.{_≡_, sym, ap, _∙_}
+use mathlib.Core.Path.{sym, ap, _∙_}
 use mathlib.Core.Bool.{Bool, _&&_}
 use native.Mathlib.Omega.{arith}
 use Rattle.stepper_slot_rules.specs.Parts.{runTest}
