@@ -225,6 +225,45 @@ fn every_ramp_has_its_closed_form() {
     }
 }
 
+/// One before each tick: polls, loads that wait, Set Parameters, Stops with neither bit, and frames that are not executed.
+const LEAVE_A_RAMP: [(u8, &[u8]); 15] = [
+    (3, &[0x21]),
+    (2, &[0x20]),
+    (14, &[]),
+    (6, &[0, 200, 0, 0, 0]),
+    (7, &[1]),
+    (7, &[0]),
+    (4, &[WAITS, 200, 9]),
+    (4, &[WAITS | BACKWARD, 200, 9]),
+    (5, &[]),
+    (4, &[NOW | BACKWARD, 9, 1]),
+    (4, &[NOW, 251, 1]),
+    (7, &[0x0C]),
+    (5, &[1]),
+    (15, &[0]),
+    (0, &[]),
+];
+
+#[test]
+fn ramp_goes_on_through_frames_that_do_not_disturb_it() {
+    let (minimum, goal, time) = (5, 12, 3);
+    let mut stepper = Stepper::started(minimum, NOW, goal, time);
+    for n in 1..=60 {
+        let (code, data) = LEAVE_A_RAMP[n % LEAVE_A_RAMP.len()];
+        stepper.reply(code, data);
+        assert_ne!(Library.tick(&mut stepper.net, &stepper_sample(2)), DONE, "a refused tick is none");
+        assert_eq!(stepper.speeds(1), [climbed(minimum, goal, time, n)], "code {code}, data {data:X?}");
+    }
+    stepper.stops(SMOOTH);
+    let rest_after = usize::from(goal - minimum + 1) * usize::from(time);
+    for n in 1..=rest_after {
+        let (code, data) = LEAVE_A_RAMP[n % LEAVE_A_RAMP.len()];
+        stepper.reply(code, data);
+        let speed = if n < rest_after { i32::from(goal) - (n / usize::from(time)) as i32 } else { 0 };
+        assert_eq!(stepper.speeds(1), [speed], "code {code}, data {data:X?}, {n} ticks after the stop");
+    }
+}
+
 #[test]
 fn goal_below_the_minimum_is_the_minimum() {
     for speed in [1, 8, 9] {
