@@ -89,8 +89,8 @@ abbrev pub ticksIn : List ℕ → List Call → ℕ
 ticksIn net [] = 0
 ticksIn net (c ∷ cs) = ticksOf net c + ticksIn (leaves net c) cs
 
--- Undisturbed: through these calls no frame such as D is executed at place i, and each tick hands the module there a sample such as G. Polls, frames
--- that are refused or for others, ticks that are refused and everything else may come.
+-- Undisturbed: through these calls no frame such as D is executed at place i, and at each tick the sample that it hands the module there, and that
+-- module, are such as G. Frames of other kinds, frames that are refused or for others and ticks that are refused may come.
 pub record UndisturbedBy (t : ModuleType) (D : Frame → Type 0) (G : SampleOf t → Of t → Type 0) (net : List ℕ) (cs : List Call) (i : ℕ) : Type 0 where
   pub frames : (j : ℕ) (f : Frame) → Executed t net cs i j f → D f → ⊥
   pub ticks : (j : ℕ) (x : SampleOf t) (m : Of t) → Ticked t net cs i j x → Stands t net cs i j m → G x m

@@ -127,11 +127,12 @@ Mirrored =
 abbrev pub Disturbs : Frame → Type 0
 Disturbs f = (f .code ≡ 0) ⊎ (((f .code ≡ 4) × Has 7 f) ⊎ ((f .code ≡ 5) ⊎ ((f .code ≡ 15) ⊎ Halts f)))
 
--- Undisturbed: no such frame is executed at place i, and each tick hands it power 1 or 2 and finds a following error within EL. Polls, loads that wait
--- and everything else may come.
+-- a tick that a move goes on with: it hands the servo power 1 or 2 and finds a following error within EL
 abbrev pub Follows : Sample → Servo → Type 0
 Follows x m = (x .power ≡ 0 → ⊥) × (natAbs (followed x m) ≤ m .settings .tuning .gains .el)
 
+-- Undisturbed: through these calls no such frame is executed at place i, and each tick there is such a one. Polls, loads that wait, frames that are
+-- refused or for others, ticks that are refused and everything else may come.
 abbrev pub Undisturbed : List ℕ → List Call → ℕ → Type 0
 Undisturbed = UndisturbedBy servo Disturbs Follows
 
