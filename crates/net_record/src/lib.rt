@@ -35,10 +35,13 @@ pub fn is_valid(net: &[u8]) -> bool
         return false;
     }
     let n = net[net_rules::COUNT_AT] as usize;
-    if (1 <= n) & (n <= net_rules::CHAIN_MOST) {
-        return net_receiver::is_receiver_ok(net) & is_each_ok(net, n);
+    if !((1 <= n) & (n <= net_rules::CHAIN_MOST)) {
+        return false;
     }
-    false
+    if !net_receiver::is_receiver_ok(net) {
+        return false;
+    }
+    is_each_ok(net, n)
 }
 
 // Whether the module at a place is of this type, which its slot's first byte tells; beyond the chain there is none.

@@ -18,13 +18,17 @@ pub fn is_ok(s: &[u8]) -> bool
     requires { ⌜ length (now s) ≡ slotSize ⌝ }
     ensures { λ r. ⌜ r ≡ slots .ok (now (s .entry)) ⌝ }
 {
-    if s[0] == servo_rules::TYPE {
+    let t = s[0];
+    if t == servo_rules::TYPE {
         return servo_slot_list::is_ok(s);
     }
-    if s[0] == inout_rules::TYPE {
+    if t == inout_rules::TYPE {
         return inout_slot::is_ok(s);
     }
-    stepper_slot::is_ok(s)
+    if t == stepper_rules::TYPE {
+        return stepper_slot::is_ok(s);
+    }
+    false
 }
 
 // A module of a type at power-up, put into a slot.

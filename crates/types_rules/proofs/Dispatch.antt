@@ -1,7 +1,7 @@
 -- What a call of a slot's own type gives is what the table says of the slot. Assumes nothing.
-use mathlib.Core.Path.{_≡_, sym, ap, ap₂, subst⁻¹, _∙_}
+use mathlib.Core.Path.{_≡_, refl, sym, ap, ap₂, subst⁻¹, _∙_}
 use mathlib.Core.List.{List}
-use mathlib.Core.Bool.{Bool, true, cond}
+use mathlib.Core.Bool.{Bool, true, false, cond}
 use mathlib.Core.Option.{Option}
 use Prim.Native.Nat.{ℕ}
 use borrow.Author.Tests.{ne-eqb}
@@ -23,6 +23,14 @@ type-at n t e = ap typeIn e ∙ type-back t
 
 pub type-last : (n : ℕ) → (n ≡ rulesOf servo .number → ⊥) → (n ≡ rulesOf inout .number → ⊥) → typeIn n ≡ stepper
 type-last n h i = ap₂ (λ (a b : Bool). cond a servo (cond b inout stepper)) (ne-eqb n 0 h) (ne-eqb n 2 i)
+
+-- a slot whose first byte is no type's number is not valid
+pub no-type : (s : List ℕ) → ((t : ModuleType) → getD s 0 0 ≡ rulesOf t .number → ⊥) → false ≡ slots .ok s
+no-type s h = at (slots .ok s) refl
+  where
+    at : (b : Bool) → slots .ok s ≡ b → false ≡ b
+    at true e = absurd (h (typeOfSlot s) (owes (typeOfSlot s) .typed s e))
+    at false e = refl
 
 module _ (s : List ℕ) (t : ModuleType) (e : typeOfSlot s ≡ t) where
   pub touched : (f : Frame) (room : List ℕ) (from : ℕ) {r : ℕ} {s′ room′ : List ℕ}
