@@ -15,7 +15,7 @@ use Rattle.stepper_rules.specs.declared.Motion.{Motion}
 use Rattle.stepper_rules.specs.State.{rest}
 use Rattle.stepper_rules.proofs.Frames.{item-bits}
 use Rattle.stepper_slot_rules.specs.Slot.{settingsAt, motionAt, decodeOf, okOf}
-use Rattle.stepper_slot_rules.specs.Parts.{frontTests, restTests, moveTests, stopTest, runTest, tested}
+use Rattle.stepper_slot_rules.specs.Parts.{frontTests, restTests, moveTests, stopIn, runTest}
 use Rattle.stepper_slot_rules.specs.Promises.{Moving, Lines}
 use Rattle.stepper_slot_rules.proofs.Steady.{at-rest}
 use Rattle.stepper_slot_rules.proofs.Listed.{_and_, listed}
@@ -46,6 +46,13 @@ module _ (s : List ℕ) where
   abbrev stopping : ℕ
   stopping = getD s (motionAt + 5) 0
 
+  -- the tests of the code; those of what runs, by whether the speed is 0
+  abbrev runBy : Bool → Bool
+  runBy b = cond b (every (restTests s)) (every (moveTests s) && stopIn s)
+
+  abbrev tested : Bool
+  tested = every (frontTests s) && runTest s
+
   -- what the list asks of what runs
   abbrev Runs : Type 0
   Runs = (minimum ≤ 250) × ((stopping ≤ 1) × ((decodeOf s .motion ≡ rest) ⊎ Moving (decodeOf s .settings .minimum) (decodeOf s .motion)))
@@ -73,7 +80,7 @@ module _ (s : List ℕ) where
       let o = eqb-true stopping 1 (h .0) in
       (omega arith, λ w. eqb-true _ _ (h .1 .0))
 
-  moves : every (moveTests s) ≡ true → stopTest stopping goal minimum ≡ true → Runs
+  moves : every (moveTests s) ≡ true → stopIn s ≡ true → Runs
   unfolding decodeOf
   moves e t =
       let h = every-hold (moveTests s) e in
@@ -96,7 +103,7 @@ module _ (s : List ℕ) where
         ),
       )
 
-  there : tested s ≡ true → Lines s
+  there : tested ≡ true → Lines s
   unfolding decodeOf
   there e =
       let h = every-hold (every (frontTests s) ∷ runTest s ∷ []) e in
@@ -118,9 +125,9 @@ module _ (s : List ℕ) where
         motion = r .1 .1;
       }
     where
-      runs : (b : Bool) → eqb speed 0 ≡ b → cond b (every (restTests s)) (every (moveTests s) && stopTest stopping goal minimum) ≡ true → Runs
+      runs : (b : Bool) → eqb speed 0 ≡ b → runBy b ≡ true → Runs
       runs true v e = still (eqb-true _ _ v) e
-      runs false v e = let h = every-hold (every (moveTests s) ∷ stopTest stopping goal minimum ∷ []) e in moves (h .0) (h .1 .0)
+      runs false v e = let h = every-hold (every (moveTests s) ∷ stopIn s ∷ []) e in moves (h .0) (h .1 .0)
 
   stops : (b : Bool) → eqb stopping 0 ≡ b → stopping ≤ 1 → (eqb stopping 1 ≡ true → goal ≡ minimum) → (b || (eqb stopping 1 && eqb goal minimum)) ≡ true
   stops true z k h = refl
@@ -129,7 +136,7 @@ module _ (s : List ℕ) where
       let o = eq-eqb stopping 1 (omega arith) in
       hold-every (eqb stopping 1 ∷ eqb goal minimum ∷ []) (o, (eq-eqb _ _ (h o), tt))
 
-  back : Lines s → tested s ≡ true
+  back : Lines s → tested ≡ true
   unfolding decodeOf
   back l = hold-every (every (frontTests s) ∷ runTest s ∷ []) (front, (runs (l .motion), tt))
     where
@@ -148,12 +155,9 @@ module _ (s : List ℕ) where
           and item-bits _ .1 (l .items)
           and tt)
 
-      turn : Bool → Bool
-      turn b = cond b (every (restTests s)) (every (moveTests s) && stopTest stopping goal minimum)
-
       runs : (decodeOf s .motion ≡ rest) ⊎ Moving (decodeOf s .settings .minimum) (decodeOf s .motion) → runTest s ≡ true
       runs (inl e) =
-          ap turn (eq-eqb speed 0 (ap (λ (p : Motion). p .speed) e))
+          ap runBy (eq-eqb speed 0 (ap (λ (p : Motion). p .speed) e))
           ∙ hold-every (restTests s)
           (le-leb _ _ (l .minimum)
           and cleared _ (l .backward) (ap (λ (p : Motion). p .backward) e)
@@ -163,8 +167,8 @@ module _ (s : List ℕ) where
           and cleared _ (l .stopping) (ap (λ (p : Motion). p .stopping) e)
           and tt)
       runs (inr h) =
-          ap turn (ne-eqb speed 0 (λ z. omega (arith, h .known, h .speed)))
-          ∙ hold-every (every (moveTests s) ∷ stopTest stopping goal minimum ∷ [])
+          ap runBy (ne-eqb speed 0 (λ z. omega (arith, h .known, h .speed)))
+          ∙ hold-every (every (moveTests s) ∷ stopIn s ∷ [])
           (hold-every (moveTests s)
           (le-leb _ _ (h .known)
           and le-leb _ _ (h .speed)
@@ -176,14 +180,12 @@ module _ (s : List ℕ) where
           and stops (eqb stopping 0) refl (l .stopping) (h .slowing)
           and tt)
 
-  tested-is : Bytes s → tested s ≡ okOf s
-  tested-is b = same-test (tested s) (okOf s) (λ e. listed s b .1 (there e)) (λ e. back (listed s b .0 e))
+  tested-is : Bytes s → tested ≡ okOf s
+  tested-is b = same-test tested (okOf s) (λ e. listed s b .1 (there e)) (λ e. back (listed s b .0 e))
 
   -- as the code makes them, one part after another
-  pub moving-is : {running : Bool} → (speed ≡ 0 → ⊥) → running ≡ every (moveTests s) → (running && stopTest stopping goal minimum) ≡ runTest s
-  moving-is n e =
-      ap (λ (b : Bool). b && stopTest stopping goal minimum) e
-      ∙ sym (ap (λ (b : Bool). cond b (every (restTests s)) (every (moveTests s) && stopTest stopping goal minimum)) (ne-eqb speed 0 n))
+  pub moving-is : {running : Bool} → (speed ≡ 0 → ⊥) → running ≡ every (moveTests s) → (running && stopIn s) ≡ runTest s
+  moving-is n e = ap (λ (b : Bool). b && stopIn s) e ∙ sym (ap runBy (ne-eqb speed 0 n))
 
   pub ok-is : {front : Bool} → Bytes s → front ≡ every (frontTests s) → (front && runTest s) ≡ okOf s
   ok-is b e = ap (λ (f : Bool). f && runTest s) e ∙ tested-is b

@@ -49,14 +49,12 @@ moveTests s =
     ∷ ltb (getD s (motionAt + 4) 0) (getD s (motionAt + 3) 0)
     ∷ []
 
--- moving: a flag that is 0, or is 1 with the goal at the minimum
+-- moving: a flag that is 0, or is 1 with the goal at the minimum; and so by the slot's bytes
 abbrev pub stopTest : ℕ → ℕ → ℕ → Bool
 stopTest stopping goal minimum = eqb stopping 0 || (eqb stopping 1 && eqb goal minimum)
 
-abbrev pub runTest : List ℕ → Bool
-runTest s =
-    cond (eqb (getD s motionAt 0) 0) (every (restTests s))
-    (every (moveTests s) && stopTest (getD s (motionAt + 5) 0) (getD s (motionAt + 2) 0) (getD s (settingsAt + 1) 0))
+abbrev pub stopIn : List ℕ → Bool
+stopIn s = stopTest (getD s (motionAt + 5) 0) (getD s (motionAt + 2) 0) (getD s (settingsAt + 1) 0)
 
-abbrev pub tested : List ℕ → Bool
-tested s = every (frontTests s) && runTest s
+abbrev pub runTest : List ℕ → Bool
+runTest s = cond (eqb (getD s motionAt 0) 0) (every (restTests s)) (every (moveTests s) && stopIn s)

@@ -1,10 +1,7 @@
 -- `stepper_slot::is_run_ok` meets its contract. Assumes nothing.
 use mathlib.Core.Path.{sym, ap, _∙_}
 use mathlib.Core.Bool.{Bool, _&&_}
-use Prim.Native.Nat.{_+_}
-use lib.ListN.{getD}
-use Rattle.stepper_slot_rules.specs.Slot.{settingsAt, motionAt}
-use Rattle.stepper_slot_rules.specs.Parts.{stopTest}
+use Rattle.stepper_slot_rules.specs.Parts.{stopIn}
 use Rattle.stepper_slot_rules.proofs.Tested.{moving-is}
 use borrow.Author.Needs.{needs}
 use Rattle.stepper_slot.proofs.is_run_ok.Statement.{statement}
@@ -19,14 +16,14 @@ returns-2 c =
     let other = then .before .before in
     let s = other .before .before .before .args .s .now in
     c .is-stop-ok .ensures
-    ∙ ap (λ (b : Bool). b && stopTest (getD s (motionAt + 5) 0) (getD s (motionAt + 2) 0) (getD s (settingsAt + 1) 0)) (sym (then .if2 .taken))
+    ∙ ap (λ (b : Bool). b && stopIn s) (sym (then .if2 .taken))
     ∙ moving-is s (other .if1 .left) (then .before .is-running .ensures)
 
 returns-3 : tie.Need-returns-3
 returns-3 c =
     let other = c .before .before in
     let s = other .before .before .before .args .s .now in
-    ap (λ (b : Bool). b && stopTest (getD s (motionAt + 5) 0) (getD s (motionAt + 2) 0) (getD s (settingsAt + 1) 0)) (sym (c .if2 .left))
+    ap (λ (b : Bool). b && stopIn s) (sym (c .if2 .left))
     ∙ moving-is s (other .if1 .left) (c .before .is-running .ensures)
 
 pub is-run-ok-spec : {M : Type 1} → statement M
