@@ -17,6 +17,7 @@ static const struct move usual = {2002, 4 * COUNT, COUNT / 4};
 static const struct move slowest = {2002, FASTEST, 1};        /* 11,454 terms where it brakes */
 static const struct move steepest = {2559, FASTEST, FASTEST}; /* 27 halvings there, the most that there are */
 
+static const uint8_t none[1]; /* the data of a command that has none */
 static uint8_t room[NMC_ROOM_LEN];
 static uint8_t last_byte;
 static size_t replied; /* how many bytes the frame draws that it ends */
@@ -73,7 +74,7 @@ static void put_nothing_measured(uint8_t type, size_t place)
 {
     switch (type) {
     case NMC_TYPE_SERVO:
-        nmc_put_servo_sample(samples, place, 0, 0, 0);
+        nmc_put_servo_sample(samples, place, 0, 0, 0, 0);
         break;
     case NMC_TYPE_IO:
         nmc_put_io_sample(samples, place, 0, 0, 0, 0, 0);
@@ -108,10 +109,10 @@ static void ready_servos(const struct implementation *at)
     const uint8_t gains[15] = {100, 0, 50, 0, 10, 0, 0xE8, 3, 0xFF, 0, 0xFF, 0x3F, 1, 0, 1};
     address_all(at, NMC_TYPE_SERVO, NMC_MOST_MODULES);
     for (size_t place = 0; place < NMC_MOST_MODULES; place++)
-        nmc_put_servo_sample(samples, place, 0, 1, 0);
+        nmc_put_servo_sample(samples, place, 0, 1, 0, 0);
     tick_once(at);
     send(at, GROUP, 6, gains, sizeof gains);
-    send(at, GROUP, 11, NULL, 0);
+    send(at, GROUP, 11, none, 0);
 }
 
 static void put32(uint8_t *at, uint32_t x)
@@ -205,6 +206,14 @@ static void prepare_moving(const struct implementation *at)
 {
     start_all(at, TRAPEZOID, &usual);
     tick_times(at, 30); /* 16 ticks of ramp, then top speed */
+}
+
+/* All watch limit 1, which does not change. */
+static void prepare_homing(const struct implementation *at)
+{
+    const uint8_t control = 0x21;
+    prepare_moving(at);
+    need(send(at, GROUP, 9, &control, 1) == 2 * NMC_MOST_MODULES && room[0] & 0x80);
 }
 
 static void prepare_velocity(const struct implementation *at)
@@ -352,6 +361,7 @@ const struct bench_case cases[] = {
     {"byte, frame for a group of 32 I/O", "byte", prepare_for_all_io, take_last, RECEIVER_BACK, 1000},
     {"byte, frame for a group of 32 steppers", "byte", prepare_for_all_steppers, take_last, RECEIVER_BACK, 1000},
     {"tick, 32 servos, trapezoid at top speed", "tick", prepare_moving, tick_once, NOTHING_BACK, 400},
+    {"tick, 32 servos homing, trapezoid, top speed", "tick", prepare_homing, tick_once, NOTHING_BACK, 400},
     {"tick, 32 servos, trapezoid begins to brake", "tick", prepare_braking, tick_once, NETWORK_BACK, 400},
     {"tick, 32 servos brake, A 1, V 83,886,080", "tick", prepare_braking_slowest, tick_once, NETWORK_BACK, 400},
     {"tick, 32 servos brake, A = V = 83,886,080", "tick", prepare_braking_steepest, tick_once, NETWORK_BACK, 400},

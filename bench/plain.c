@@ -1,6 +1,6 @@
 /*
- * Document 01 with P1, P3, P4, P5 and P11 of 02 in plain C11. It shares nothing
- * with the library, so that the two can be held against each other.
+ * Document 01 with P1, P3, P4, P5, P8 and P11 of 02 in plain C11. It shares
+ * nothing with the library, so that the two can be held against each other.
  */
 #include "plain.h"
 
@@ -22,6 +22,7 @@ enum {
 enum { SERVO = 0, IO = 2, STEPPER = 3 };
 enum { HEADER = 0xAA, ITEMS = 8, READING_LEN = 33, OUTPUTS_LEN = 8, TWELVE_BITS = 0xFFF };
 enum { POWER_LOW, POWER_GOOD, POWER_HIGH };
+enum { BOTH_LIMITS = 0x03 };
 enum { FASTEST = 83886080, MOST_GAIN = 32767, MOST_ERROR = 16383, MOST_OUTPUT = 255, MOST_STEPS = 250 };
 
 /* Those that refuse are tested in the order DAMAGED, UNKNOWN, WRONG_COUNT, OUT_OF_RANGE, NOT_NOW. */
@@ -40,6 +41,7 @@ enum code {
     START = 5,
     SET_GAIN = 6,
     STOP = 7,
+    SET_HOMING = 9,
     CLEAR_BITS = 11,
     /* I/O module */
     SET_DIRECTION = 0,
@@ -82,6 +84,15 @@ enum stop_bit {
     STOP_SMOOTH = 0x08,
     STOP_HERE = 0x10,
     STOP_KINDS = 0x1E
+};
+
+/* An input is watched by the bit that it has in a sample. */
+enum homing_bit {
+    HOMING_WATCHES = BOTH_LIMITS,
+    HOMING_OFF = 0x04,
+    HOMING_ABRUPT = 0x10,
+    HOMING_SMOOTH = 0x20,
+    HOMING_STOPS = 0x34
 };
 
 static const uint8_t servo_sizes[ITEMS] = {4, 1, 2, 1, 4, 2, 2, 1};
@@ -216,6 +227,90 @@ static void power_up_servo(struct plain_servo *s)
     s->error = 1;
 }
 
+static bool is_ready(const struct plain_servo *s)
+{
+    return s->latched.power == POWER_GOOD && !s->error;
+}
+
+static void hold(struct plain_servo *s, uint32_t at)
+{
+    s->mode = PLAIN_HOLDING;
+    s->setpoint = at;
+    s->fraction = 0;
+    s->speed = 0;
+    s->integral = 0;
+    s->previous_error = 0;
+    s->pwm = 0;
+}
+
+static void stop_smoothly(struct plain_servo *s)
+{
+    if (servo_is_off(s)) {
+        idle_servo(s, PLAIN_OFF, 0);
+    } else {
+        s->mode = PLAIN_VELOCITY;
+        s->goal_speed = 0;
+    }
+}
+
+/* Holding asks for good power and no error. */
+static bool can_stop(const struct plain_servo *s, uint8_t kind)
+{
+    return !(kind & (STOP_ABRUPT | STOP_HERE)) || is_ready(s);
+}
+
+/* What one of Stop's kinds does, or none of them; at is where it holds. */
+static void act_stop(struct plain_servo *s, uint8_t kind, uint32_t at)
+{
+    if (kind == STOP_OFF)
+        idle_servo(s, PLAIN_OFF, 0);
+    else if (kind == STOP_SMOOTH)
+        stop_smoothly(s);
+    else if (kind)
+        hold(s, at);
+    if (kind)
+        s->load.waits = 0;
+}
+
+/* ---- homing */
+
+static bool is_homing_byte(uint8_t control)
+{
+    uint8_t stops = control & HOMING_STOPS;
+    return control & HOMING_WATCHES && !(control & ~(HOMING_WATCHES | HOMING_STOPS)) && !(stops & (stops - 1));
+}
+
+/* While it goes on, the watched inputs are latched as they were here: what they were need not be kept. */
+static enum cause set_homing(struct plain_servo *s, uint8_t control)
+{
+    if (!is_homing_byte(control))
+        return OUT_OF_RANGE;
+    s->homing = control;
+    return EXECUTED;
+}
+
+static uint8_t homing_stop(uint8_t control)
+{
+    return control & HOMING_OFF      ? STOP_OFF
+           : control & HOMING_ABRUPT ? STOP_ABRUPT
+           : control & HOMING_SMOOTH ? STOP_SMOOTH
+                                     : 0;
+}
+
+/* Home is where a watched input changes; the stop acts as Stop does, and not at all where Stop could not. */
+static void find_home(struct plain_servo *s, uint8_t inputs_before)
+{
+    if (!(s->homing & HOMING_WATCHES & (s->latched.inputs ^ inputs_before)))
+        return;
+    uint8_t kind = homing_stop(s->homing);
+    s->home = position(s);
+    s->homing = 0;
+    if (can_stop(s, kind))
+        act_stop(s, kind, s->home);
+}
+
+/* ---- the servo's filter and tick */
+
 static void filter(struct plain_servo *s)
 {
     const struct plain_gains *g = &s->gains;
@@ -239,22 +334,19 @@ static void filter(struct plain_servo *s)
 
 static void tick_servo(struct plain_servo *s, const uint8_t *sample)
 {
+    uint8_t inputs_before = s->latched.inputs;
     s->last_position = position(s);
-    s->latched = (struct plain_servo_sample){.power = sample[1], .ad = sample[2], .raw = get32(sample + 3)};
-    if (s->latched.power == POWER_LOW) {
-        /* the amplifier bit stays, so the enable line comes back with power */
+    s->latched = (struct plain_servo_sample){
+        .power = sample[1], .ad = sample[2], .raw = get32(sample + 3), .inputs = sample[7]};
+    if (s->latched.power == POWER_LOW) /* the amplifier bit stays, so the enable line comes back with power */
         idle_servo(s, PLAIN_OFF, 0);
-    } else if (s->mode == PLAIN_PWM) {
+    find_home(s, inputs_before);
+    if (s->mode == PLAIN_PWM) {
         s->output = s->latched.power == POWER_GOOD ? (int32_t)held(s->pwm, s->gains.ol) : 0;
     } else if (s->mode != PLAIN_OFF) {
         advance(s);
         filter(s);
     }
-}
-
-static bool is_ready(const struct plain_servo *s)
-{
-    return s->latched.power == POWER_GOOD && !s->error;
 }
 
 static bool can_start(const struct plain_servo *s, const struct plain_load *load,
@@ -383,6 +475,7 @@ static enum cause reset_position(struct plain_servo *s)
     s->last_position -= here;
     s->setpoint -= here;
     s->goal -= here;
+    s->home -= here;
     s->load.waits = 0;
     return EXECUTED;
 }
@@ -404,27 +497,6 @@ static enum cause set_gain(struct plain_servo *s, const uint8_t *data)
     return EXECUTED;
 }
 
-static void hold(struct plain_servo *s, uint32_t at)
-{
-    s->mode = PLAIN_HOLDING;
-    s->setpoint = at;
-    s->fraction = 0;
-    s->speed = 0;
-    s->integral = 0;
-    s->previous_error = 0;
-    s->pwm = 0;
-}
-
-static void stop_smoothly(struct plain_servo *s)
-{
-    if (servo_is_off(s)) {
-        idle_servo(s, PLAIN_OFF, 0);
-    } else {
-        s->mode = PLAIN_VELOCITY;
-        s->goal_speed = 0;
-    }
-}
-
 static enum cause stop(struct plain_servo *s, const struct frame *f)
 {
     if (f->count == 0)
@@ -434,19 +506,10 @@ static enum cause stop(struct plain_servo *s, const struct frame *f)
         return WRONG_COUNT;
     if (control & 0xE0 || kind & (kind - 1))
         return OUT_OF_RANGE;
-    if (kind & (STOP_ABRUPT | STOP_HERE) && !is_ready(s))
+    if (!can_stop(s, kind))
         return NOT_NOW;
     s->amplifier = control & STOP_AMPLIFIER;
-    if (kind == STOP_OFF)
-        idle_servo(s, PLAIN_OFF, 0);
-    else if (kind == STOP_ABRUPT)
-        hold(s, position(s));
-    else if (kind == STOP_SMOOTH)
-        stop_smoothly(s);
-    else if (kind == STOP_HERE)
-        hold(s, get32(f->data + 1));
-    if (kind)
-        s->load.waits = 0;
+    act_stop(s, kind, kind == STOP_HERE ? get32(f->data + 1) : position(s));
     return EXECUTED;
 }
 
@@ -463,6 +526,8 @@ static enum cause servo_command(struct plain_servo *s, const struct frame *f)
         return f->count == 15 ? set_gain(s, f->data) : WRONG_COUNT;
     case STOP:
         return stop(s, f);
+    case SET_HOMING:
+        return f->count == 1 ? set_homing(s, f->data[0]) : WRONG_COUNT;
     case CLEAR_BITS:
         if (f->count != 0)
             return WRONG_COUNT;
@@ -484,7 +549,8 @@ static bool move_done(const struct plain_servo *s)
 
 static uint8_t servo_status(const struct plain_servo *s)
 {
-    return (uint8_t)(move_done(s) | s->cut << 2 | (s->latched.power == POWER_GOOD) << 3 | s->error << 4);
+    return (uint8_t)(move_done(s) | s->cut << 2 | (s->latched.power == POWER_GOOD) << 3 | s->error << 4 |
+                     s->latched.inputs << 5 | (s->homing != 0) << 7);
 }
 
 static void servo_items(const struct plain_servo *s, uint32_t items[ITEMS])
@@ -493,7 +559,7 @@ static void servo_items(const struct plain_servo *s, uint32_t items[ITEMS])
     items[1] = s->latched.ad;
     items[2] = position(s) - s->last_position;
     items[3] = 0;
-    items[4] = 0;
+    items[4] = s->home;
     items[5] = 10 << 8 | SERVO;
     items[6] = (uint32_t)s->previous_error;
     items[7] = 0;
@@ -995,11 +1061,12 @@ static bool load_holds(const struct plain_load *l, const struct plain_rates *r)
 
 static bool ranges_hold(const struct plain_servo *s)
 {
-    return s->latched.power <= POWER_HIGH && within(s->speed, FASTEST) && within(s->goal_speed, FASTEST) &&
-           s->acceleration <= FASTEST && s->top_speed <= FASTEST &&
+    return s->latched.power <= POWER_HIGH && s->latched.inputs <= BOTH_LIMITS && within(s->speed, FASTEST) &&
+           within(s->goal_speed, FASTEST) && s->acceleration <= FASTEST && s->top_speed <= FASTEST &&
            within(s->integral, MOST_GAIN) && within(s->previous_error, MOST_ERROR) &&
            s->mode <= PLAIN_TRAPEZOID && within(s->pwm, MOST_OUTPUT) &&
-           within(s->output, MOST_OUTPUT) && s->error <= 1 && s->amplifier <= 1 && s->cut <= 1;
+           within(s->output, MOST_OUTPUT) && s->error <= 1 && s->amplifier <= 1 && s->cut <= 1 &&
+           (s->homing == 0 || is_homing_byte(s->homing));
 }
 
 /* A trapezoid runs toward a goal that is not half the range away and can still stop within the distance left. */
@@ -1143,7 +1210,7 @@ static bool in_range(uint8_t type, const uint8_t *sample)
 {
     if (type == IO)
         return get16(sample + 1) <= TWELVE_BITS;
-    return sample[1] <= (type == SERVO ? POWER_HIGH : 1);
+    return type == SERVO ? sample[1] <= POWER_HIGH && sample[7] <= BOTH_LIMITS : sample[1] <= 1;
 }
 
 /* Every type is tested before any field. */

@@ -1,5 +1,5 @@
 /*
- * Document 01 with P1, P3, P4, P5 and P11 of 02 in plain C, to measure the
+ * Document 01 with P1, P3, P4, P5, P8 and P11 of 02 in plain C, to measure the
  * library against: the same calls and the same answers on a network of typed
  * structs.
  * plain.c is compiled twice: as it stands (plain_...) it believes the network
@@ -50,6 +50,7 @@ struct plain_io {
 struct plain_servo_sample {
     uint32_t raw;
     uint8_t power, ad;
+    uint8_t inputs; /* bit 0 limit 1, bit 1 limit 2 */
 };
 
 struct plain_gains {
@@ -83,6 +84,8 @@ struct plain_servo {
     uint16_t fraction; /* and 65,536ths of one */
     uint8_t mode;
     plain_flag error, amplifier, cut; /* cut: there was more to put out than OL in the last filter tick */
+    uint8_t homing; /* the byte of Set Homing until it finds its switch, else 0 */
+    uint32_t home;  /* where it found the last one */
     int32_t speed, goal_speed;
     uint32_t goal, acceleration, top_speed; /* of the profile last started */
     int32_t integral, previous_error;

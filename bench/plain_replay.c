@@ -7,7 +7,7 @@
 
 enum { MODULE, LINE_BYTE, SERVO_SAMPLE, IO_SAMPLE, TICK, STEPPER_SAMPLE, KINDS };
 
-static const uint8_t body_len[KINDS] = {1, 2, 7, 10, 0, 2};
+static const uint8_t body_len[KINDS] = {1, 2, 8, 10, 0, 2};
 
 /* Of the module for which a kind has a sample. */
 static const uint8_t type_of[KINDS] = {[SERVO_SAMPLE] = 0, [IO_SAMPLE] = 2, [STEPPER_SAMPLE] = 3};
@@ -61,7 +61,7 @@ static bool in_range(uint8_t kind, const uint8_t *b)
 {
     if (kind == IO_SAMPLE)
         return b[2] < 16;
-    return b[1] <= (kind == SERVO_SAMPLE ? 2 : 1);
+    return kind == SERVO_SAMPLE ? b[1] <= 2 && b[7] <= 3 : b[1] <= 1;
 }
 
 /* A sample's record has its place, and then what stands behind the type in a tick's list. */

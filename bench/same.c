@@ -2,10 +2,9 @@
  * Holds plain C to the library, so that what is measured against it is the
  * same document: over long histories, led to where modules hear and execute,
  * both builds and the library must give the same numbers, replies, causes and
- * outputs, latch the same samples, servos must remember the same and steppers
- * keep the same; a tick whose list is spoiled must change nothing; and over
- * spoiled records the library and the build that checks must refuse the same
- * ones.
+ * outputs, latch the same samples, and servos and steppers keep the same; a
+ * tick whose list is spoiled must change nothing; and over spoiled records the
+ * library and the build that checks must refuse the same ones.
  */
 #include "plain.h"
 #include "three.h"
@@ -15,8 +14,10 @@
 #include <stdlib.h>
 #include <string.h>
 
-enum { HISTORIES = 1750, STEPS = 500, FASTEST = 83886080, SLOTS_AT = 20, SLOT_LEN = (NMC_NET_LEN - SLOTS_AT) / NMC_MOST_MODULES };
-enum { CAUSE_AT = 5, ITEMS_AT = 6, LATCHED_AT = 8, INTEGRAL_AT = 81, PREVIOUS_AT = 85, CUT_AT = 100, SERVO_LEN = 101 };
+enum { HISTORIES = 3200, STEPS = 500, FASTEST = 83886080, SLOTS_AT = 20, SLOT_LEN = (NMC_NET_LEN - SLOTS_AT) / NMC_MOST_MODULES };
+enum { CAUSE_AT = 5, ITEMS_AT = 6, LATCHED_AT = 8, INPUTS_AT = 14, SETPOINT_AT = 58 };
+enum { SERVO_SPEED_AT = 62, SERVO_GOAL_AT = 66, INTEGRAL_AT = 82, PREVIOUS_AT = 86, MODE_AT = 90, PWM_AT = 91, ERROR_AT = 99 };
+enum { CUT_AT = 101, HOME_AT = 102, HOMING_AT = 106, SERVO_LEN = 107 };
 enum { MINIMUM_AT = 9, LOAD_AT = 18, SPEED_AT = 22, GOAL_AT = 24, TIME_AT = 25, COUNTER_AT = 26, STOPPING_AT = 27, STEPPER_LEN = 32 };
 enum { CAUSES = 6, NUMBERS = 21, LEAST_TIMES = 1000, MOST_STEPS = 250 };
 
@@ -84,9 +85,62 @@ static const char *const ways_of_stepping[WAYS_OF_STEPPING] = {
 };
 static unsigned long times_of_stepping[WAYS_OF_STEPPING];
 
+/* Where homing finds its switch: each of its stops in each mode. */
+enum { MODES = PLAIN_TRAPEZOID + 1, STOPS = 4 };
+static const uint8_t homing_stops[STOPS] = {0, 0x04, 0x10, 0x20};
+static const char *const modes[MODES] = {"off", "PWM", "holding", "velocity mode", "a trapezoid"};
+static unsigned long times_found[MODES][STOPS];
+
+/* What histories must come to with homing besides. */
+enum homing {
+    BOTH_CHANGE,
+    UNWATCHED_CHANGES,
+    STOPS_IN_MOTION,
+    SLOWS_DOWN,
+    TURNS_ON,
+    SKIPPED_FOR_POWER,
+    SKIPPED_FOR_ERROR,
+    POWER_FAILS,
+    LOAD_DROPPED,
+    LOAD_LEFT,
+    ERROR_TRIPS,
+    STILL_CUT,
+    SET_AGAIN,
+    SET_BADLY,
+    STOP_LEAVES_IT,
+    RESET_ENDS_IT,
+    HOME_SHIFTED,
+    NO_HOME_SHIFTED,
+    WAYS_OF_HOMING
+};
+static const char *const ways_of_homing[WAYS_OF_HOMING] = {
+    [BOTH_CHANGE] = "both inputs watched and changed",
+    [UNWATCHED_CHANGES] = "an input changed that is not watched",
+    [STOPS_IN_MOTION] = "homing's abrupt stop in motion",
+    [SLOWS_DOWN] = "homing's smooth stop in motion",
+    [TURNS_ON] = "a servo turned on by homing",
+    [SKIPPED_FOR_POWER] = "homing's stop skipped for power",
+    [SKIPPED_FOR_ERROR] = "homing's stop skipped for the error bit",
+    [POWER_FAILS] = "found at power 0",
+    [LOAD_DROPPED] = "a load dropped by homing",
+    [LOAD_LEFT] = "a load left by homing",
+    [ERROR_TRIPS] = "found, and the error bit set in the same tick",
+    [STILL_CUT] = "found, and cut as before",
+    [SET_AGAIN] = "Set Homing while homing",
+    [SET_BADLY] = "Set Homing with a bad byte",
+    [STOP_LEAVES_IT] = "Stop while homing",
+    [RESET_ENDS_IT] = "Hard Reset while homing",
+    [HOME_SHIFTED] = "home shifted",
+    [NO_HOME_SHIFTED] = "home shifted before any was found",
+};
+static unsigned long times_of_homing[WAYS_OF_HOMING];
+
 /* The library's record and the structs, as three.c keeps them. */
 static uint8_t *record;
 static struct plain_network *plain, *checked;
+
+/* The data of a command that has none; no pointer may be null. */
+static const uint8_t none[1];
 
 /* What the board has measured last at each place: the list of the next tick. */
 static uint8_t samples[NMC_MOST_MODULES * NMC_SAMPLE_LEN];
@@ -154,12 +208,95 @@ static uint32_t number_at(const uint8_t *s, int at, int bytes)
     return x;
 }
 
+static struct plain_gains gains_in(const uint8_t *s)
+{
+    return (struct plain_gains){.kp = (uint16_t)number_at(s, 23, 2),
+                                .kd = (uint16_t)number_at(s, 25, 2),
+                                .ki = (uint16_t)number_at(s, 27, 2),
+                                .il = (uint16_t)number_at(s, 29, 2),
+                                .ol = s[31],
+                                .el = (uint16_t)number_at(s, 32, 2),
+                                .cl = s[34],
+                                .sm = s[35]};
+}
+
+static struct plain_load load_in(const uint8_t *s)
+{
+    return (struct plain_load){.waits = s[46],
+                               .way = s[47],
+                               .has_position = s[48],
+                               .position = number_at(s, 49, 4),
+                               .has_pwm = s[53],
+                               .pwm = s[54],
+                               .reverse = s[55]};
+}
+
+static struct plain_servo servo_in(const uint8_t *s)
+{
+    return (struct plain_servo){
+        .latched = {.power = s[8], .ad = s[9], .raw = number_at(s, 10, 4), .inputs = s[INPUTS_AT]},
+        .offset = number_at(s, 15, 4),
+        .last_position = number_at(s, 19, 4),
+        .gains = gains_in(s),
+        .rates = {number_at(s, 36, 4), number_at(s, 40, 4), s[44], s[45]},
+        .load = load_in(s),
+        .fraction = (uint16_t)number_at(s, 56, 2),
+        .setpoint = number_at(s, SETPOINT_AT, 4),
+        .speed = (int32_t)number_at(s, SERVO_SPEED_AT, 4),
+        .goal = number_at(s, SERVO_GOAL_AT, 4),
+        .goal_speed = (int32_t)number_at(s, 70, 4),
+        .acceleration = number_at(s, 74, 4),
+        .top_speed = number_at(s, 78, 4),
+        .integral = (int32_t)number_at(s, INTEGRAL_AT, 4),
+        .previous_error = (int32_t)number_at(s, PREVIOUS_AT, 4),
+        .mode = s[MODE_AT],
+        .pwm = (int32_t)number_at(s, PWM_AT, 4),
+        .output = (int32_t)number_at(s, 95, 4),
+        .error = s[ERROR_AT],
+        .amplifier = s[100],
+        .cut = s[CUT_AT],
+        .home = number_at(s, HOME_AT, 4),
+        .homing = s[HOMING_AT]};
+}
+
+static bool same_gains(const struct plain_gains *a, const struct plain_gains *b)
+{
+    return a->kp == b->kp && a->kd == b->kd && a->ki == b->ki && a->il == b->il && a->el == b->el &&
+           a->ol == b->ol && a->cl == b->cl && a->sm == b->sm;
+}
+
+static bool same_rates(const struct plain_rates *a, const struct plain_rates *b)
+{
+    return a->velocity == b->velocity && a->acceleration == b->acceleration &&
+           a->velocity_loaded == b->velocity_loaded && a->acceleration_loaded == b->acceleration_loaded;
+}
+
+/* What is left of a load that does not wait is nobody's. */
+static bool same_load(const struct plain_load *a, const struct plain_load *b)
+{
+    return a->waits == b->waits &&
+           (!a->waits || (a->way == b->way && a->has_position == b->has_position && a->position == b->position &&
+                          a->has_pwm == b->has_pwm && a->pwm == b->pwm && a->reverse == b->reverse));
+}
+
+static bool same_profile(const struct plain_servo *a, const struct plain_servo *b)
+{
+    return a->setpoint == b->setpoint && a->fraction == b->fraction && a->mode == b->mode && a->speed == b->speed &&
+           a->goal_speed == b->goal_speed && a->goal == b->goal && a->acceleration == b->acceleration &&
+           a->top_speed == b->top_speed;
+}
+
+/* Of a servo all is compared. */
 static bool servo_remembers(const struct plain_servo *s, const uint8_t *slot)
 {
-    return s->latched.power == slot[LATCHED_AT] && s->latched.ad == slot[LATCHED_AT + 1] &&
-           s->latched.raw == number_at(slot, LATCHED_AT + 2, 4) &&
-           (uint32_t)s->integral == number_at(slot, INTEGRAL_AT, 4) &&
-           (uint32_t)s->previous_error == number_at(slot, PREVIOUS_AT, 4) && s->cut == slot[CUT_AT];
+    const struct plain_servo kept = servo_in(slot);
+    return s->latched.power == kept.latched.power && s->latched.ad == kept.latched.ad &&
+           s->latched.raw == kept.latched.raw && s->latched.inputs == kept.latched.inputs &&
+           s->offset == kept.offset && s->last_position == kept.last_position && same_gains(&s->gains, &kept.gains) &&
+           same_rates(&s->rates, &kept.rates) && same_load(&s->load, &kept.load) && same_profile(s, &kept) &&
+           s->integral == kept.integral && s->previous_error == kept.previous_error && s->pwm == kept.pwm &&
+           s->output == kept.output && s->error == kept.error && s->amplifier == kept.amplifier &&
+           s->cut == kept.cut && s->home == kept.home && s->homing == kept.homing;
 }
 
 static bool io_remembers(const struct plain_io *io, const uint8_t *slot)
@@ -180,7 +317,7 @@ static struct plain_stepper stepper_in(const uint8_t *s)
                                   .position = number_at(s, 28, 4)};
 }
 
-/* Of a stepper all is compared: loads and motions are bytes without gaps between. */
+/* And of a stepper: its loads and motions are bytes without gaps between. */
 static bool stepper_remembers(const struct plain_stepper *s, const uint8_t *slot)
 {
     const struct plain_stepper kept = stepper_in(slot);
@@ -202,7 +339,7 @@ static bool remembers(const struct plain_module *m, const uint8_t *slot)
     }
 }
 
-/* Samples and what a filter remembers show later or never, and the cut bit in a reply that may not be asked for. */
+/* What a module keeps shows later or never, or in a reply that may not be asked for. */
 static void memories_of_all(void)
 {
     for (int place = 0; place < plain->chain; place++) {
@@ -274,6 +411,30 @@ static void count_stepping(const struct plain_stepper *before, const struct plai
     times_of_stepping[BACK_OVER_0] += before->steps.backward && after->position > before->position;
 }
 
+/* A tick of a servo that was homing. */
+static void count_homing(const struct plain_servo *before, const struct plain_servo *after)
+{
+    uint8_t watched = before->homing & 3, changed = before->latched.inputs ^ after->latched.inputs;
+    uint8_t stop = before->homing & 0x34, power = after->latched.power;
+    bool abrupt = stop == 0x10, stopped = after->mode == PLAIN_HOLDING;
+    times_of_homing[UNWATCHED_CHANGES] += watched && changed && !(watched & changed);
+    if (!(watched & changed))
+        return;
+    for (unsigned i = 0; i < STOPS; i++)
+        times_found[before->mode][i] += stop == homing_stops[i];
+    times_of_homing[BOTH_CHANGE] += watched == 3 && changed == 3;
+    times_of_homing[STOPS_IN_MOTION] += abrupt && stopped && before->speed;
+    times_of_homing[SLOWS_DOWN] += stop == 0x20 && abs(after->speed) < abs(before->speed) && after->mode;
+    times_of_homing[TURNS_ON] += abrupt && stopped && before->mode == PLAIN_OFF;
+    times_of_homing[SKIPPED_FOR_POWER] += abrupt && power == 2 && !before->error;
+    times_of_homing[SKIPPED_FOR_ERROR] += abrupt && power == 1 && before->error;
+    times_of_homing[POWER_FAILS] += power == 0 && before->mode;
+    times_of_homing[LOAD_DROPPED] += before->load.waits && !after->load.waits;
+    times_of_homing[LOAD_LEFT] += stop && after->load.waits;
+    times_of_homing[ERROR_TRIPS] += !before->error && after->error;
+    times_of_homing[STILL_CUT] += before->cut && after->cut;
+}
+
 static void tick_all(void)
 {
     static struct plain_module before[NMC_MOST_MODULES];
@@ -286,6 +447,7 @@ static void tick_all(void)
         if (m->type == NMC_TYPE_SERVO) {
             moving_ticks += m->as.servo.speed != 0;
             count_at_limit(before[place].as.servo.cut, &m->as.servo);
+            count_homing(&before[place].as.servo, &m->as.servo);
         } else if (m->type == NMC_TYPE_STEPPER) {
             count_stepping(&before[place].as.stepper, &m->as.stepper, samples[NMC_SAMPLE_LEN * place + 1]);
         }
@@ -436,6 +598,16 @@ static size_t some_stop(const struct plain_servo *s, uint8_t *data)
     return data[0] & 0x10 ? 5 : 1;
 }
 
+/* Mostly one of the twelve good bytes, often with the abrupt stop, which alone can be skipped; else one that is next to them. */
+static uint8_t some_homing(void)
+{
+    static const uint8_t stops[] = {0, 0x04, 0x10, 0x10, 0x20};
+    uint8_t watched = (uint8_t)(1 + below(3)), stop = stops[below(sizeof stops)], other = (uint8_t)(1u << below(8));
+    if (percent(80))
+        return watched | stop;
+    return percent(80) ? (watched | stop) ^ other : (uint8_t)throw_dice();
+}
+
 /* A speed of a stepper, mostly a low one, and what is next to its range. */
 static uint8_t some_steps(void)
 {
@@ -501,8 +673,13 @@ static size_t some_servo_data(const struct plain_servo *s, uint8_t code, uint8_t
         return some_load(s, data);
     case 6:
         return some_gains(s, data);
+    case 7:
+        return some_stop(s, data);
+    case 9:
+        data[0] = some_homing();
+        return 1;
     default:
-        return code == 7 ? some_stop(s, data) : 0;
+        return 0;
     }
 }
 
@@ -556,9 +733,22 @@ static void count_command(const struct plain_stepper *before, const struct plain
     times_of_stepping[MINIMUM_STAYS] += code == 6 && was->speed;
 }
 
+/* A frame at a servo, before which it may have been homing. */
+static void count_homing_frame(const struct plain_servo *before, const struct plain_module *m, uint8_t code)
+{
+    const struct plain_servo *after = &m->as.servo;
+    bool executed = m->station.cause == 0;
+    times_of_homing[SET_AGAIN] += code == 9 && before->homing && after->homing != before->homing;
+    times_of_homing[SET_BADLY] += code == 9 && m->station.cause == 5;
+    times_of_homing[STOP_LEAVES_IT] += code == 7 && executed && before->homing && after->homing;
+    times_of_homing[RESET_ENDS_IT] += code == 15 && before->homing && !after->homing;
+    times_of_homing[HOME_SHIFTED] += code == 0 && before->home && after->home != before->home;
+    times_of_homing[NO_HOME_SHIFTED] += code == 0 && !before->home && after->home;
+}
+
 static void send_some_frame(void)
 {
-    static const uint8_t codes[] = {0, 0, 1, 2, 2, 3, 3, 4, 4, 4, 4, 5, 5, 6, 7, 7, 8, 9, 10, 11, 11, 12, 13, 14, 14};
+    static const uint8_t codes[] = {0, 0, 1, 2, 2, 3, 3, 4, 4, 4, 4, 5, 5, 6, 7, 7, 7, 8, 9, 9, 10, 11, 11, 12, 13, 14, 14};
     const struct plain_module *m = &plain->modules[below(plain->chain)];
     uint8_t code = percent(1) ? 15 : codes[below(sizeof codes)];
     if (m->type == NMC_TYPE_STEPPER && percent(50))
@@ -576,6 +766,8 @@ static void send_some_frame(void)
     frames_with[m->station.cause]++;
     if (m->type == NMC_TYPE_SERVO && before.as.servo.cut)
         times_at_limit[m->as.servo.cut ? FRAME_LEAVES_CUT : FRAME_CLEARS_CUT]++;
+    if (m->type == NMC_TYPE_SERVO)
+        count_homing_frame(&before.as.servo, m, code);
     if (m->type == NMC_TYPE_STEPPER && m->station.cause == 0)
         count_command(&before.as.stepper, &m->as.stepper, code, data[0]);
 }
@@ -599,6 +791,26 @@ static uint32_t some_error(const struct plain_servo *s)
     return percent(50) ? error : 0 - error;
 }
 
+/* A servo's limit inputs as the board has them, in so many of a hundred times with a change. */
+static uint32_t some_inputs(uint32_t place, uint32_t changes)
+{
+    uint32_t inputs = samples[NMC_SAMPLE_LEN * place + 7], changed = 1 + below(3);
+    return percent(changes) ? inputs ^ changed : inputs;
+}
+
+/* A servo measures something near what it is to be at, or not. */
+static void put_some_servo_sample(uint32_t place, uint32_t power, uint32_t inputs)
+{
+    const struct plain_servo *s = &plain->modules[place].as.servo;
+    uint32_t error = percent(30) ? error_to_limit(s) : some_error(s);
+    uint32_t ahead = s->setpoint + (uint32_t)(s->speed / 65536);
+    uint32_t base = s->mode < PLAIN_HOLDING ? s->latched.raw - s->offset : ahead;
+    uint32_t raw = percent(99) ? base - error + s->offset : (uint32_t)throw_dice();
+    nmc_put_servo_sample(samples, place, raw, power, some_byte(), inputs);
+    if (percent(20)) /* bytes that are not looked at */
+        memset(samples + place * NMC_SAMPLE_LEN + 8, some_byte(), 2);
+}
+
 static void put_some_io_sample(uint32_t place)
 {
     uint32_t inputs = below(4096), counter = (uint32_t)throw_dice();
@@ -620,27 +832,58 @@ static void measure(void)
             memset(samples + place * NMC_SAMPLE_LEN + 2, some_byte(), 8);
         return;
     }
-    const struct plain_servo *s = &plain->modules[place].as.servo;
-    uint32_t error = percent(30) ? error_to_limit(s) : some_error(s);
-    uint32_t ahead = s->setpoint + (uint32_t)(s->speed / 65536);
-    uint32_t base = s->mode < PLAIN_HOLDING ? s->latched.raw - s->offset : ahead;
-    uint32_t power = percent(94) ? 1 : percent(84) ? 2 : 0;
-    uint32_t raw = percent(99) ? base - error + s->offset : (uint32_t)throw_dice();
-    nmc_put_servo_sample(samples, place, raw, power, some_byte());
-    if (percent(20)) /* bytes that are not looked at */
-        memset(samples + place * NMC_SAMPLE_LEN + 7, some_byte(), 3);
+    uint32_t power = percent(94) ? 1 : percent(84) ? 2 : 0, inputs = some_inputs(place, 20);
+    put_some_servo_sample(place, power, inputs);
 }
 
-/* A byte of a list by which its tick is refused, or nearly: a type, a power or a stop input, the upper byte of inputs. */
+/* A frame that may bring a servo to PWM, to holding, to a profile, or to a load that waits. */
+static void lead_on(const struct plain_module *m)
+{
+    const uint8_t stop = 0x05;
+    uint8_t load[15];
+    size_t len = some_load(&m->as.servo, load);
+    uint32_t kind = below(7);
+    if (kind == 0)
+        send_command(m->station.individual, 7, &stop, 1);
+    else if (kind == 1)
+        send_command(m->station.individual, 4, (const uint8_t[]){0x88, 100}, 2);
+    else
+        send_command(m->station.individual, 4, load, len);
+}
+
+/* A servo homes, whatever else it does; in the next tick an input has changed, and perhaps power has, or the count is far off. */
+static void find_home(void)
+{
+    uint32_t place = below(plain->chain);
+    const struct plain_module *m = &plain->modules[place];
+    if (m->type != NMC_TYPE_SERVO)
+        return;
+    if (percent(50))
+        send_command(m->station.individual, 11, none, 0);
+    for (uint32_t times = below(3); times > 0; times--)
+        lead_on(m);
+    uint8_t control = some_homing();
+    send_command(m->station.individual, 9, &control, 1);
+    uint32_t power = percent(50) ? 1 : below(3), inputs = some_inputs(place, 95), far = (uint32_t)throw_dice();
+    put_some_servo_sample(place, power, inputs);
+    if (percent(15))
+        put32(samples + NMC_SAMPLE_LEN * place + 3, far);
+    tick_all();
+}
+
+/* A byte of a list by which its tick is refused, or nearly: a type, power or stop input, limit inputs, upper byte of inputs. */
 static void spoil_sample(uint8_t *list)
 {
     static const uint8_t types[] = {0, 1, 2, 3, 4, 7, 0xFF};
     static const uint8_t powers[] = {1, 2, 3, 4, 0x80, 0xFF}, inputs[] = {15, 16, 17, 0x80, 0xFF};
+    static const uint8_t limits[] = {0, 1, 2, 3, 4, 5, 8, 0x80, 0xFF};
     uint8_t *sample = list + NMC_SAMPLE_LEN * below(plain->chain);
     if (percent(50))
         sample[0] = types[below(sizeof types)];
     else if (sample[0] == NMC_TYPE_IO)
         sample[2] = inputs[below(sizeof inputs)];
+    else if (sample[0] == NMC_TYPE_SERVO && percent(50))
+        sample[7] = limits[below(sizeof limits)];
     else
         sample[1] = powers[below(sizeof powers)];
 }
@@ -674,13 +917,14 @@ static void bring_up(void)
     const uint8_t parameters[5] = {0, (uint8_t)(1 + below(12)), 0, 0, 0};
     for (uint32_t place = 0; place < plain->chain; place++) {
         uint8_t addresses[2] = {(uint8_t)(place + 1), percent(50) ? 0x7F : 0xFF};
+        uint32_t raw = (uint32_t)throw_dice(), inputs = below(4);
         if (plain->modules[place].type == NMC_TYPE_SERVO)
-            nmc_put_servo_sample(samples, place, (uint32_t)throw_dice(), 1, 0);
+            nmc_put_servo_sample(samples, place, raw, 1, 0, inputs);
         send_command(0, 1, addresses, 2);
     }
     tick_all();
     send_command(0xFF, 6, gains, sizeof gains);
-    send_command(0xFF, 11, NULL, 0);
+    send_command(0xFF, 11, none, 0);
     send_command(0xFF, 6, parameters, sizeof parameters);
 }
 
@@ -689,11 +933,13 @@ static void follow(uint32_t ticks)
     while (ticks-- > 0) {
         for (uint32_t place = 0; place < plain->chain; place++) {
             const struct plain_servo *s = &plain->modules[place].as.servo;
-            if (plain->modules[place].type == NMC_TYPE_SERVO && s->mode >= PLAIN_HOLDING)
-                nmc_put_servo_sample(samples, place, s->setpoint + s->offset + below(3), 1, 0);
+            if (plain->modules[place].type != NMC_TYPE_SERVO || s->mode < PLAIN_HOLDING)
+                continue;
+            uint32_t raw = s->setpoint + s->offset + below(3), inputs = some_inputs(place, 5);
+            nmc_put_servo_sample(samples, place, raw, 1, 0, inputs);
         }
         tick_all();
-        send_command(0xFF, 14, NULL, 0);
+        send_command(0xFF, 14, none, 0);
     }
 }
 
@@ -728,11 +974,13 @@ static void take_step(void)
 {
     uint32_t kind = below(100), mark = below(4);
     uint8_t byte = some_byte();
-    if (kind < 45)
+    if (kind < 42)
         send_some_frame();
-    else if (kind < 63)
-        measure();
+    else if (kind < 50)
+        find_home();
     else if (kind < 65)
+        measure();
+    else if (kind < 67)
         try_spoiled_list();
     else if (kind < 85)
         tick_all();
@@ -765,54 +1013,6 @@ static struct plain_io io_in(const uint8_t *s)
                              .captured_counter = number_at(s, 30, 4)};
 }
 
-static struct plain_gains gains_in(const uint8_t *s)
-{
-    return (struct plain_gains){.kp = (uint16_t)number_at(s, 22, 2),
-                                .kd = (uint16_t)number_at(s, 24, 2),
-                                .ki = (uint16_t)number_at(s, 26, 2),
-                                .il = (uint16_t)number_at(s, 28, 2),
-                                .ol = s[30],
-                                .el = (uint16_t)number_at(s, 31, 2),
-                                .cl = s[33],
-                                .sm = s[34]};
-}
-
-static struct plain_load load_in(const uint8_t *s)
-{
-    return (struct plain_load){.waits = s[45],
-                               .way = s[46],
-                               .has_position = s[47],
-                               .position = number_at(s, 48, 4),
-                               .has_pwm = s[52],
-                               .pwm = s[53],
-                               .reverse = s[54]};
-}
-
-static struct plain_servo servo_in(const uint8_t *s)
-{
-    return (struct plain_servo){.latched = {.power = s[8], .ad = s[9], .raw = number_at(s, 10, 4)},
-                                .offset = number_at(s, 14, 4),
-                                .last_position = number_at(s, 18, 4),
-                                .gains = gains_in(s),
-                                .rates = {number_at(s, 35, 4), number_at(s, 39, 4), s[43], s[44]},
-                                .load = load_in(s),
-                                .fraction = (uint16_t)number_at(s, 55, 2),
-                                .setpoint = number_at(s, 57, 4),
-                                .speed = (int32_t)number_at(s, 61, 4),
-                                .goal = number_at(s, 65, 4),
-                                .goal_speed = (int32_t)number_at(s, 69, 4),
-                                .acceleration = number_at(s, 73, 4),
-                                .top_speed = number_at(s, 77, 4),
-                                .integral = (int32_t)number_at(s, INTEGRAL_AT, 4),
-                                .previous_error = (int32_t)number_at(s, PREVIOUS_AT, 4),
-                                .mode = s[89],
-                                .pwm = (int32_t)number_at(s, 90, 4),
-                                .output = (int32_t)number_at(s, 94, 4),
-                                .error = s[98],
-                                .amplifier = s[99],
-                                .cut = s[CUT_AT]};
-}
-
 static void network_in(const uint8_t *r, struct plain_network *net)
 {
     memset(net, 0, sizeof *net);
@@ -842,16 +1042,16 @@ static void swing(uint32_t place, uint8_t *slot)
     uint32_t sign = percent(50) ? 1 : 0 - UINT32_C(1);
     if (slot[0] != NMC_TYPE_SERVO)
         return;
-    memcpy(slot + 22, "\xFF\x7F\xFF\x7F\xFF\x7F\xFF\x7F\xFF\xFF\x3F", 11);
-    uint32_t raw = number_at(slot, 14, 4) + number_at(slot, 57, 4) - sign * (16383 - below(3));
-    nmc_put_servo_sample(samples, place, raw, 1, 0);
-    put32(slot + 61, 0);
+    memcpy(slot + 23, "\xFF\x7F\xFF\x7F\xFF\x7F\xFF\x7F\xFF\xFF\x3F", 11);
+    uint32_t raw = number_at(slot, 15, 4) + number_at(slot, SETPOINT_AT, 4) - sign * (16383 - below(3));
+    nmc_put_servo_sample(samples, place, raw, 1, 0, slot[INPUTS_AT] & 3);
+    put32(slot + SERVO_SPEED_AT, 0);
     put32(slot + INTEGRAL_AT, sign * (32767 - below(3)));
     put32(slot + PREVIOUS_AT, 0 - sign * (16383 - below(3)));
-    put32(slot + 90, 0);
+    put32(slot + PWM_AT, 0);
     slot[LATCHED_AT] = 1;
-    slot[89] = PLAIN_HOLDING;
-    slot[98] = 0;
+    slot[MODE_AT] = PLAIN_HOLDING;
+    slot[ERROR_AT] = 0;
 }
 
 /* A byte of a stepper put to an edge of what the list asks, or next to what another asks of it. */
@@ -877,20 +1077,33 @@ static void spoil_stepper(uint8_t *slot)
         memcpy(slot + LOAD_AT, "\0\0\x09\x01", 4); /* a load that does not wait */
 }
 
+/* A servo that homes by some byte, good or not, and often finds its switch in the next tick. */
+static void spoil_homing(uint8_t *slot)
+{
+    if (slot[0] != NMC_TYPE_SERVO)
+        return;
+    slot[HOMING_AT] = some_homing();
+    if (percent(60))
+        slot[INPUTS_AT] = (uint8_t)below(percent(20) ? 6 : 4);
+}
+
 /* A byte or a number of the record put to an edge of what the list asks, or next to what it was. */
 static void spoil_record(void)
 {
-    static const uint8_t words[] = {35, 39, 55, 57, 61, 65, 69, 73, 77, 81, 85, 90, 94};
+    static const uint8_t words[] = {36, 40, 56, SETPOINT_AT, SERVO_SPEED_AT, SERVO_GOAL_AT, 70, 74, 78,
+                                    INTEGRAL_AT, PREVIOUS_AT, PWM_AT, 95, HOME_AT};
     static const uint32_t edges[] = {0, 1, 255, 256, 16383, 16384, 32767, 32768, FASTEST, FASTEST + 1};
     uint32_t place = below(plain->chain);
     uint8_t *slot = record + SLOTS_AT + SLOT_LEN * place;
-    uint32_t kind = below(13);
+    uint32_t kind = below(15);
     if (slot[0] == NMC_TYPE_STEPPER && kind >= 4) {
         spoil_stepper(slot);
+    } else if (kind >= 13) {
+        spoil_homing(slot);
     } else if (kind == 12) {
         slot[CUT_AT] = (uint8_t)(1 + percent(10));
     } else if (kind == 11) {
-        put32(slot + 65, number_at(slot, 57, 4) + UINT32_C(0x7FFFFFFF) + below(3));
+        put32(slot + SERVO_GOAL_AT, number_at(slot, SETPOINT_AT, 4) + UINT32_C(0x7FFFFFFF) + below(3));
     } else if (kind == 10) {
         swing(place, slot);
     } else if (kind < 2) {
@@ -1007,7 +1220,24 @@ static bool all_came_up(void)
         seldom |= too_seldom(ways_at_limit[way], times_at_limit[way]);
     for (unsigned way = 0; way < WAYS_OF_STEPPING; way++)
         seldom |= too_seldom(ways_of_stepping[way], times_of_stepping[way]);
+    for (unsigned way = 0; way < WAYS_OF_HOMING; way++)
+        seldom |= too_seldom(ways_of_homing[way], times_of_homing[way]);
+    for (unsigned mode = 0; mode < MODES; mode++)
+        for (unsigned stop = 0; stop < STOPS; stop++) {
+            char what[64];
+            snprintf(what, sizeof what, "stop %02X of homing in %s", homing_stops[stop], modes[mode]);
+            seldom |= too_seldom(what, times_found[mode][stop]);
+        }
     return !seldom;
+}
+
+static unsigned long homes_found(void)
+{
+    unsigned long times = 0;
+    for (unsigned mode = 0; mode < MODES; mode++)
+        for (unsigned stop = 0; stop < STOPS; stop++)
+            times += times_found[mode][stop];
+    return times;
 }
 
 int main(void)
@@ -1023,11 +1253,11 @@ int main(void)
     if (!all_came_up())
         return 1;
     printf("%lu calls, %lu frames ended, by cause %lu %lu %lu %lu %lu %lu, %lu ticks of a moving servo, %lu cut; "
-           "%lu changes of a stepper's speed; "
+           "%lu homes found; %lu changes of a stepper's speed; "
            "%lu lists refused for their length, %lu for a type, %lu for a field; "
            "%lu spoiled records, %lu refused: all the same\n",
            calls, frames, frames_with[0], frames_with[1], frames_with[2], frames_with[3], frames_with[4],
-           frames_with[5], moving_ticks, times_at_limit[CUT],
+           frames_with[5], moving_ticks, times_at_limit[CUT], homes_found(),
            times_of_stepping[FASTER] + times_of_stepping[SLOWER] + times_of_stepping[SLOWER_TO_STOP],
            ticks_with[NMC_BAD_LIST], ticks_with[NMC_BAD_PLACE], ticks_with[NMC_BAD_FIELD], spoiled, refused);
     return 0;

@@ -65,7 +65,7 @@ static void tell(const char *words, enum code code, const uint8_t *data, size_t 
 static int tick(uint32_t raw)
 {
     uint8_t samples[NMC_SAMPLE_LEN], outputs[NMC_OUTPUTS_LEN];
-    nmc_put_servo_sample(samples, PLACE, raw, GOOD_POWER, 0);
+    nmc_put_servo_sample(samples, PLACE, raw, GOOD_POWER, 0, 0);
     check(nmc_tick(net, sizeof net, samples, sizeof samples) == NMC_DONE, "tick");
     check(nmc_outputs(net, sizeof net, PLACE, outputs) == NMC_DONE, "outputs");
     return outputs[1] ? -(int)outputs[0] : (int)outputs[0];

@@ -27,7 +27,11 @@ struct row {
 };
 
 static const struct row rows[] = {
-    {"code 9", 9, 0, {0}, 0, {UNKNOWN, UNKNOWN, UNKNOWN}},
+    {"code 9, Set Homing", 9, 1, {0x21}, 0, {DONE, UNKNOWN, UNKNOWN}},
+    {"Set Homing without its byte", 9, 0, {0}, 0, {COUNT, UNKNOWN, UNKNOWN}},
+    {"Set Homing with two stops", 9, 1, {0x31}, 0, {VALUE, UNKNOWN, UNKNOWN}},
+    {"the same, a byte too many", 9, 2, {0x31}, 0, {COUNT, UNKNOWN, UNKNOWN}},
+    {"Set Homing that watches no input", 9, 1, {0x20}, 0, {VALUE, UNKNOWN, UNKNOWN}},
     {"code 13 with 15 data bytes", 13, 15, {0}, 0, {UNKNOWN, UNKNOWN, UNKNOWN}},
     {"code 8, Set Timer Mode", 8, 1, {0}, 0, {UNKNOWN, DONE, UNKNOWN}},
     {"code 11, Clear Bits", 11, 0, {0}, 0, {DONE, UNKNOWN, UNKNOWN}},

@@ -99,7 +99,7 @@ static void tick(enum power power, int motors)
     uint8_t samples[DRIVES * NMC_SAMPLE_LEN];
     int driven = 0;
     for (uint32_t place = 0; place < DRIVES; place++)
-        nmc_put_servo_sample(samples, place, motor_at[place], power, 0);
+        nmc_put_servo_sample(samples, place, motor_at[place], power, 0, 0);
     check(nmc_tick(net, sizeof net, samples, sizeof samples) == NMC_DONE, "tick");
     printf("%4u  %-4s  ", ++ticks, names[power]);
     for (uint32_t place = 0; place < DRIVES; place++) {

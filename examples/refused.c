@@ -38,7 +38,7 @@ static void prepare(void)
         surprises++;
     for (size_t place = 0; place <= CHAIN; place++)
         nmc_put_io_sample(samples, place, 4095, 1, 2, 3, 4);
-    nmc_put_servo_sample(samples, 1, 5, 2, 6);
+    nmc_put_servo_sample(samples, 1, 5, 2, 6, 3);
     nmc_put_stepper_sample(samples, 3, 1);
     memset(room, 0xC3, sizeof room);
     memset(outputs, 0x3C, sizeof outputs);
@@ -115,9 +115,14 @@ static void record(void)
             nmc_byte(net, sizeof net, 0, 0xAA, room, sizeof room, &written));
     cleared(written == 0);
     prepare();
-    net[SLOTS_AT + SLOT_LEN + 94] = 1; /* motor output of the servo, which is off */
+    net[SLOTS_AT + SLOT_LEN + 95] = 1; /* motor output of the servo, which is off */
     remember();
     refused("record that drives a motor in off", NMC_BAD_RECORD,
+            nmc_tick(net, sizeof net, samples, LIST_LEN));
+    prepare();
+    net[SLOTS_AT + SLOT_LEN + 106] = 0x31; /* byte of Set Homing, with two stops */
+    remember();
+    refused("record that homes with two stops", NMC_BAD_RECORD,
             nmc_tick(net, sizeof net, samples, LIST_LEN));
     prepare();
     net[SLOTS_AT + 3 * SLOT_LEN + 22] = 5; /* speed of the step-motor module, which has no minimum */
@@ -153,7 +158,7 @@ static void lists(void)
     REFUSED("list of five samples for four modules", NMC_BAD_LIST,
             nmc_tick(net, sizeof net, samples, LIST_LEN + NMC_SAMPLE_LEN));
     prepare();
-    nmc_put_servo_sample(samples, 0, 0, 1, 0);
+    nmc_put_servo_sample(samples, 0, 0, 1, 0, 0);
     tick_refused("servo sample for an I/O module", NMC_BAD_PLACE);
     prepare();
     nmc_put_io_sample(samples, 1, 0, 0, 0, 0, 0);
@@ -168,11 +173,17 @@ static void lists(void)
     nmc_put_io_sample(samples, 2, 4096, 0, 0, 0, 0);
     tick_refused("inputs 4096", NMC_BAD_FIELD);
     prepare();
-    nmc_put_servo_sample(samples, 1, 0, 3, 0);
+    nmc_put_servo_sample(samples, 1, 0, 3, 0, 0);
     tick_refused("power 3", NMC_BAD_FIELD);
     prepare();
-    nmc_put_servo_sample(samples, 1, 0, 256 + 1, 0);
+    nmc_put_servo_sample(samples, 1, 0, 256 + 1, 0, 0);
     tick_refused("power 257, which is put as 255", NMC_BAD_FIELD);
+    prepare();
+    nmc_put_servo_sample(samples, 1, 0, 1, 0, 4);
+    tick_refused("limit inputs 4", NMC_BAD_FIELD);
+    prepare();
+    nmc_put_servo_sample(samples, 1, 0, 1, 0, 256 + 1);
+    tick_refused("limit inputs 257, which are put as 255", NMC_BAD_FIELD);
     prepare();
     nmc_put_stepper_sample(samples, 3, 2);
     tick_refused("stop input 2", NMC_BAD_FIELD);
@@ -239,13 +250,13 @@ static void two_reasons(void)
     remember();
     refused("spoiled record and an empty list", NMC_BAD_RECORD, nmc_tick(net, sizeof net, samples, 0));
     prepare();
-    nmc_put_servo_sample(samples, 0, 0, 1, 0);
+    nmc_put_servo_sample(samples, 0, 0, 1, 0, 0);
     remember();
     refused("list one byte short, with a servo sample for an I/O module", NMC_BAD_LIST,
             nmc_tick(net, sizeof net, samples, LIST_LEN - 1));
     prepare();
     nmc_put_io_sample(samples, 0, 4096, 0, 0, 0, 0);
-    nmc_put_servo_sample(samples, 2, 0, 1, 0);
+    nmc_put_servo_sample(samples, 2, 0, 1, 0, 0);
     tick_refused("inputs 4096 at place 0, and a servo sample for the I/O module at 2", NMC_BAD_PLACE);
     REFUSED("address 256 and no room", NMC_BAD_FRAME,
             nmc_write_frame(256, 14, types, 0, room, 0, &written));

@@ -24,9 +24,9 @@ extern "C" {
 #endif
 
 /* Each landing raises it and says in CHANGELOG.md what is new. */
-#define NMC_VERSION "1.9.0"
+#define NMC_VERSION "1.10.0"
 #define NMC_VERSION_MAJOR 1
-#define NMC_VERSION_MINOR 9
+#define NMC_VERSION_MINOR 10
 #define NMC_VERSION_PATCH 0
 
 #define NMC_MOST_MODULES 32u  /* in one chain */
@@ -92,12 +92,13 @@ uint32_t nmc_byte(uint8_t *net, size_t net_len, uint32_t mark, uint8_t byte, uin
 
 /*
  * Puts what the servo at a place measures into a tick's list, which must reach
- * that far: the raw count of its encoder, motor power (0 low, 1 good, 2 high)
- * and an A/D byte. A power above 255 is put as 255, so that the tick refuses it
- * as it does any above 2.
+ * that far: the raw count of its encoder, motor power (0 low, 1 good, 2 high),
+ * an A/D byte, and its limit inputs (bit 0 limit 1, bit 1 limit 2). A power or
+ * inputs above 255 are put as 255, so that the tick refuses them as it does a
+ * power above 2 and inputs above 3.
  */
 static inline void nmc_put_servo_sample(uint8_t *samples, size_t place, uint32_t raw,
-                                        uint32_t power, uint8_t ad)
+                                        uint32_t power, uint8_t ad, uint32_t inputs)
 {
     uint8_t *at = samples + place * NMC_SAMPLE_LEN;
     at[0] = NMC_TYPE_SERVO;
@@ -107,7 +108,8 @@ static inline void nmc_put_servo_sample(uint8_t *samples, size_t place, uint32_t
     at[4] = (uint8_t)(raw >> 8);
     at[5] = (uint8_t)(raw >> 16);
     at[6] = (uint8_t)(raw >> 24);
-    at[7] = at[8] = at[9] = 0;
+    at[7] = (uint8_t)(inputs > 255 ? 255 : inputs);
+    at[8] = at[9] = 0;
 }
 
 /*
@@ -153,16 +155,23 @@ static inline void nmc_put_stepper_sample(uint8_t *samples, size_t place, uint32
  *
  * samples has NMC_SAMPLE_LEN bytes for each place, place 0 first, and nothing
  * besides. The three functions above fill a place's ten: the module's type,
- * then of a servo power, A/D and the raw count (4 bytes), of an I/O module
- * inputs (2), A/D 1, 2, 3 and the counter (4), of a step-motor module the stop
- * input, numbers least significant byte first. Bytes 7 to 9 of a servo's ten
- * and 2 to 9 of a step-motor module's are not looked at; let them be 0, since a
- * later version will give byte 7 of a servo's a meaning.
+ * then of a servo power, A/D, the raw count (4 bytes) and the limit inputs, of
+ * an I/O module inputs (2), A/D 1, 2, 3 and the counter (4), of a step-motor
+ * module the stop input, numbers least significant byte first. Bytes 8 and 9 of
+ * a servo's ten and 2 to 9 of a step-motor module's are not looked at; let them
+ * be 0.
  *
  * Refused is first a list of another length (20), then one with any type that
- * is not its module's (13), then one with any power above 2, inputs above 4095
- * or stop input above 1 (14). A refused tick is none: all keep what they have
- * latched, and no motion ends.
+ * is not its module's (13), then one with any power above 2, limit inputs above
+ * 3, I/O inputs above 4095 or stop input above 1 (14). A refused tick is none:
+ * all keep what they have latched, no motion ends, and homing finds nothing.
+ *
+ * Homing: a servo that was sent Set Homing (code 9, one byte: bit 0 watches
+ * limit 1, bit 1 limit 2; with at most one of bit 2, motor off, bit 4, stop
+ * abruptly, bit 5, stop smoothly) stores its position as home in the first tick
+ * in which a watched input differs from what it was at the command, and stops
+ * in that same tick. An abrupt stop holds the position also where the servo was
+ * off; the amplifier bit is left as it is. Only finding and Hard Reset end it.
  */
 uint32_t nmc_tick(uint8_t *net, size_t net_len, const uint8_t *samples, size_t samples_len);
 
@@ -205,7 +214,8 @@ uint32_t nmc_write_frame(uint32_t address, uint32_t code, const uint8_t *data, s
  * each item bit 0 to 7 its number in four bytes, least significant first; 0
  * where the item was not asked for. A servo's status bits: 0 move done, 1 last
  * cause not 0, 2 the last filter tick was cut to OL, 3 power good, 4 position
- * error; the others are 0. A step-motor module's: 0 moving, 1 last cause not 0.
+ * error, 5 limit 1, 6 limit 2, 7 homing in progress; its item 4 is home. A
+ * step-motor module's: 0 moving, 1 last cause not 0.
  * It has items 0, the position, and 5, type and version; any other is refused
  * with 18, however long the reply is.
  */

@@ -17,10 +17,10 @@
 #include <sys/mman.h>
 #include <unistd.h>
 
-enum { SLOT = 128, FIRST_SLOT = 20, COUNT = 19, NUMBERS = 21 };
+enum { SLOT = 128, FIRST_SLOT = 20, COUNT = 19, HOMING = 106, NUMBERS = 21 };
 
 static int fenced;
-static unsigned long calls, surprises, given[NUMBERS];
+static unsigned long calls, surprises, given[NUMBERS], homes_found;
 
 /* ---------------------------------------------------------------- dice */
 
@@ -171,8 +171,9 @@ static void put_sample(uint8_t *samples, size_t place, uint8_t type)
 {
     uint32_t count = (uint32_t)throw_dice();
     if (type == NMC_TYPE_SERVO) {
-        nmc_put_servo_sample(samples, place, count, PICK(0, 1, 1, 1, 2), 0x5A);
-        any_bytes(samples + place * NMC_SAMPLE_LEN + 7, 3); /* not looked at */
+        uint32_t power = PICK(0, 1, 1, 1, 2), inputs = below(4);
+        nmc_put_servo_sample(samples, place, count, power, 0x5A, inputs);
+        any_bytes(samples + place * NMC_SAMPLE_LEN + 8, 2); /* not looked at */
     } else if (type == NMC_TYPE_STEPPER) {
         nmc_put_stepper_sample(samples, place, PICK(0, 0, 0, 1));
         any_bytes(samples + place * NMC_SAMPLE_LEN + 2, 8); /* not looked at */
@@ -193,9 +194,22 @@ static struct lent lend_list(const struct lent *net)
         size_t slot = FIRST_SLOT + SLOT * place;
         put_sample(list.bytes, place, slot < net->len ? net->bytes[slot] : 0);
     }
-    for (uint32_t times = places > 0 ? PICK(0, 0, 1, 2) : 0; times > 0; times--)
-        any_bytes(list.bytes + NMC_SAMPLE_LEN * below((uint32_t)places) + below(3), 1);
+    for (uint32_t times = places > 0 ? PICK(0, 0, 1, 2) : 0; times > 0; times--) {
+        uint32_t place = below((uint32_t)places), at = PICK(0, 1, 2, 7);
+        any_bytes(list.bytes + NMC_SAMPLE_LEN * place + at, 1);
+    }
     return list;
+}
+
+/* How many servos of a record are homing. */
+static unsigned homing_in(const uint8_t *record)
+{
+    unsigned homing = 0;
+    for (int place = 0; place < record[COUNT]; place++) {
+        const uint8_t *slot = record + FIRST_SLOT + SLOT * place;
+        homing += slot[0] == NMC_TYPE_SERVO && slot[HOMING] != 0;
+    }
+    return homing;
 }
 
 static void call_tick(struct lent *net)
@@ -208,6 +222,8 @@ static void call_tick(struct lent *net)
                BIT(NMC_DONE) | BIT(NMC_BAD_PLACE) | BIT(NMC_BAD_FIELD) | BIT(NMC_BAD_RECORD) |
                    BIT(NMC_BAD_LIST));
     record_after("tick", net, number);
+    if (number == NMC_DONE)
+        homes_found += homing_in(net->before) - homing_in(net->bytes);
     if (!unchanged_from(&list, 0))
         surprise("tick", "the list changed", number);
     give_back(&list);
@@ -262,6 +278,13 @@ static void call_setup(struct lent *net)
     give_back(&types);
 }
 
+/* A byte for Set Homing, mostly a good one. */
+static uint8_t some_homing(void)
+{
+    uint32_t watched = PICK(1, 2, 3, 3, below(256)), stop = PICK(0, 0x04, 0x10, 0x20);
+    return (uint8_t)(watched | stop);
+}
+
 /* A frame that the first module may hear, if the record is long enough to have one. */
 static void call_frame(struct lent *net)
 {
@@ -271,6 +294,8 @@ static void call_frame(struct lent *net)
     any_bytes(frame, sizeof frame);
     any_bytes(data, sizeof data);
     uint32_t code = below(16), data_len = PICK(0, 0, 1, 1, 2, 4, 5, 13, 15);
+    if (code == 9)
+        data[0] = some_homing();
     nmc_write_frame(address, code, data, data_len, frame, sizeof frame, &frame_len);
     for (size_t i = 0; i < frame_len; i++)
         call_byte(net, below(40) ? frame[i] : (uint8_t)throw_dice());
@@ -351,8 +376,8 @@ static void put_within(uint8_t *at, uint32_t most, int may_be_negative)
 /* Whatever the slot holds, its fields brought into their ranges: docs/RECORD.md. */
 static void range_servo(uint8_t *slot)
 {
-    static const uint8_t flags[] = {3, 4, 43, 44, 45, 47, 52, 54, 98, 99, 100};
-    static const uint8_t high_bytes[] = {23, 25, 27, 29};
+    static const uint8_t flags[] = {3, 4, 44, 45, 46, 48, 53, 55, 99, 100, 101};
+    static const uint8_t high_bytes[] = {24, 26, 28, 30};
     const uint32_t rate = 83886080u;
     for (size_t i = 0; i < sizeof flags; i++)
         slot[flags[i]] &= 1;
@@ -361,24 +386,26 @@ static void range_servo(uint8_t *slot)
     slot[0] = NMC_TYPE_SERVO;
     slot[5] &= 3;
     slot[8] = (uint8_t)PICK(0, 1, 1, 1, 1, 2);
-    slot[32] &= 0x3F;
-    put_within(slot + 35, rate, 0);
-    put_within(slot + 39, rate - 1, 0);
-    slot[39] |= 1; /* a loaded acceleration is not 0 */
-    slot[46] %= 3;
-    slot[89] = slot[8] == 0 ? 0 : (uint8_t)below(5);
-    put_within(slot + 61, slot[89] >= 3 ? rate : 0, 1);
-    put_within(slot + 69, rate, 1);
-    put_within(slot + 73, rate, 0);
-    put_within(slot + 77, rate, 0);
-    put_within(slot + 81, slot[89] >= 2 ? 32767 : 0, 1);
-    put_within(slot + 85, slot[89] >= 2 ? 16383 : 0, 1);
-    put_within(slot + 90, slot[89] == 1 ? 255 : 0, 1);
-    put_within(slot + 94, slot[89] != 0 && slot[8] == 1 ? 255 : 0, 1);
-    if (slot[89] != 0)
-        slot[98] = 0;
-    if (slot[89] < 2)
-        slot[100] = 0;
+    slot[14] &= 3;
+    slot[33] &= 0x3F;
+    put_within(slot + 36, rate, 0);
+    put_within(slot + 40, rate - 1, 0);
+    slot[40] |= 1; /* a loaded acceleration is not 0 */
+    slot[47] %= 3;
+    slot[90] = slot[8] == 0 ? 0 : (uint8_t)below(5);
+    put_within(slot + 62, slot[90] >= 3 ? rate : 0, 1);
+    put_within(slot + 70, rate, 1);
+    put_within(slot + 74, rate, 0);
+    put_within(slot + 78, rate, 0);
+    put_within(slot + 82, slot[90] >= 2 ? 32767 : 0, 1);
+    put_within(slot + 86, slot[90] >= 2 ? 16383 : 0, 1);
+    put_within(slot + 91, slot[90] == 1 ? 255 : 0, 1);
+    put_within(slot + 95, slot[90] != 0 && slot[8] == 1 ? 255 : 0, 1);
+    if (slot[90] != 0)
+        slot[99] = 0;
+    if (slot[90] < 2)
+        slot[101] = 0;
+    slot[HOMING] = (uint8_t)PICK(0, 0x01, 0x05, 0x12, 0x23); /* every stop */
 }
 
 static void range_io(uint8_t *slot)
@@ -451,12 +478,17 @@ static void reach_record(struct lent *net)
         any_bytes(data, sizeof data);
         data[0] = (uint8_t)PICK(data[0], place + 1, 0x97, 0x36, 0xC8, 0x11, 0x05, 0x86);
         uint32_t address = PICK(0, 0, 0xFF, below(6));
-        uint32_t code = PICK(1, 1, 4, 5, 6, 7, 11, below(16));
-        nmc_write_frame(address, code, data, below(16), frame, sizeof frame, &frame_len);
+        uint32_t code = PICK(1, 1, 4, 5, 6, 7, 9, 11, below(16)), data_len = below(16);
+        if (code == 9) {
+            data[0] = some_homing();
+            data_len = 1;
+        }
+        nmc_write_frame(address, code, data, data_len, frame, sizeof frame, &frame_len);
         for (size_t i = 0; i < frame_len; i++)
             nmc_byte(net->bytes, net->len, 0, frame[i], room, sizeof room, &written);
+        uint32_t raw = below(100), inputs = below(4);
         if (types[place] == NMC_TYPE_SERVO)
-            nmc_put_servo_sample(samples, place, below(100), 1, 0);
+            nmc_put_servo_sample(samples, place, raw, 1, 0, inputs);
         if (nmc_tick(net->bytes, net->len, samples, chain * NMC_SAMPLE_LEN) != NMC_DONE)
             surprise("tick", "with a good list", NMC_DONE);
     }
@@ -501,12 +533,13 @@ int main(int argc, char **argv)
     fenced = argv[1][0] == 'f';
     for (long rounds = strtol(argv[2], NULL, 10); rounds > 0; rounds--)
         one_round();
-    printf("%lu calls, %lu surprises; by number:", calls, surprises);
+    printf("%lu calls, %lu surprises, %lu homes found; by number:", calls, surprises, homes_found);
     for (uint32_t number = 0; number < NUMBERS; number++)
         if (number <= NMC_DAMAGED || refused(number)) {
             printf(" %lu: %lu", (unsigned long)number, given[number]);
             surprises += given[number] == 0; /* a number that never came was not tried */
         }
+    surprises += homes_found == 0; /* nor was homing that found nothing */
     printf("\n");
     return surprises != 0;
 }

@@ -184,7 +184,7 @@ static void outputs_and_causes(void)
 
 enum { MODULE, LINE_BYTE, OF_SERVO, OF_IO, ONE_TICK, OF_STEPPER, KINDS };
 
-static const uint8_t body_len[KINDS] = {1, 2, 7, 10, 0, 2};
+static const uint8_t body_len[KINDS] = {1, 2, 8, 10, 0, 2};
 
 static uint32_t number_at(const uint8_t *at, int bytes)
 {
@@ -203,7 +203,7 @@ static void take_record(int kind, const uint8_t *b)
         break;
     case OF_SERVO:
         if (b[0] < chain)
-            nmc_put_servo_sample(samples, b[0], number_at(b + 3, 4), b[1], b[2]);
+            nmc_put_servo_sample(samples, b[0], number_at(b + 3, 4), b[1], b[2], b[7]);
         break;
     case OF_IO:
         if (b[0] < chain)
@@ -264,13 +264,13 @@ static void address_all(uint8_t even, uint8_t odd)
 
 static void tick_at(uint32_t power)
 {
-    enum { FIRST_SLOT = 20, SLOT = 128, WHOLE_SETPOINT = 57 }; /* docs/RECORD.md */
+    enum { FIRST_SLOT = 20, SLOT = 128, WHOLE_SETPOINT = 58 }; /* docs/RECORD.md */
     for (size_t i = 0; i < chain; i++) {
         /* a motor that is where it should be */
         uint32_t count = number_at(net + FIRST_SLOT + SLOT * i + WHOLE_SETPOINT, 4);
         uint8_t ad = (uint8_t)below(256);
         if (types[i] == NMC_TYPE_SERVO)
-            nmc_put_servo_sample(samples, i, count, power, ad);
+            nmc_put_servo_sample(samples, i, count, power, ad, ad & 3); /* what homes finds a switch */
         else if (types[i] == NMC_TYPE_IO)
             nmc_put_io_sample(samples, i, below(4096), ad, ad, ad, count);
         else
@@ -314,7 +314,7 @@ static void start_steppers(void)
 /* Every code with every number of data bytes to all of a chain, from where it stands. */
 static void every_frame(void)
 {
-    static const uint8_t first[] = {0x00, 0xFF, 0x97, 0x36, 0xB6, 0xC8, 0x11, 0x05};
+    static const uint8_t first[] = {0x00, 0xFF, 0x97, 0x36, 0xB6, 0xC8, 0x11, 0x05, 0x23};
     static uint8_t before[NMC_NET_LEN];
     memcpy(before, net, sizeof before);
     for (uint32_t c = 0; c < 16; c++)

@@ -31,12 +31,12 @@ static void check_ten(const uint8_t *list, size_t place, const uint8_t *ten, con
     check(memcmp(list, expected, sizeof expected) == 0, what);
 }
 
-static void servo_bytes(uint32_t raw, uint32_t power, uint8_t ad, const uint8_t *ten)
+static void servo_bytes(uint32_t raw, uint32_t power, uint8_t ad, uint32_t limits, const uint8_t *ten)
 {
     for (size_t place = 0; place < PLACES; place++) {
         uint8_t list[BYTES];
         memset(list, 0xFF, sizeof list);
-        nmc_put_servo_sample(list, place, raw, power, ad);
+        nmc_put_servo_sample(list, place, raw, power, ad, limits);
         check_ten(list, place, ten, "bytes of a servo's sample");
     }
 }
@@ -64,9 +64,11 @@ static void stepper_bytes(uint32_t stop, const uint8_t *ten)
 
 static void bytes(void)
 {
-    static const uint8_t servo[] = {0, 2, 0x5A, 0x0D, 0x0C, 0x0B, 0x0A, 0, 0, 0};
+    static const uint8_t servo[] = {0, 2, 0x5A, 0x0D, 0x0C, 0x0B, 0x0A, 1, 0, 0};
     static const uint8_t servo_none[] = {0, 0, 0, 0, 0, 0, 0, 0, 0, 0};
-    static const uint8_t servo_most[] = {0, 255, 255, 255, 255, 255, 255, 0, 0, 0};
+    static const uint8_t servo_limits[] = {0, 0, 0, 0, 0, 0, 0, 3, 0, 0};
+    static const uint8_t servo_first_too_many[] = {0, 0, 0, 0, 0, 0, 0, 4, 0, 0};
+    static const uint8_t servo_most[] = {0, 255, 255, 255, 255, 255, 255, 255, 0, 0};
     static const uint8_t io[] = {2, 0xBC, 0x0A, 0x11, 0x22, 0x33, 4, 3, 2, 1};
     static const uint8_t io_none[] = {2, 0, 0, 0, 0, 0, 0, 0, 0, 0};
     static const uint8_t io_most[] = {2, 255, 255, 255, 255, 255, 255, 255, 255, 255};
@@ -75,11 +77,14 @@ static void bytes(void)
     static const uint8_t stepper_stop[] = {3, 1, 0, 0, 0, 0, 0, 0, 0, 0};
     static const uint8_t stepper_first_too_many[] = {3, 2, 0, 0, 0, 0, 0, 0, 0, 0};
     static const uint8_t stepper_most[] = {3, 255, 0, 0, 0, 0, 0, 0, 0, 0};
-    servo_bytes(0x0A0B0C0Du, 2, 0x5A, servo);
-    servo_bytes(0, 0, 0, servo_none);
-    servo_bytes(0xFFFFFFFFu, 255, 255, servo_most);
-    servo_bytes(0xFFFFFFFFu, 256, 255, servo_most);
-    servo_bytes(0xFFFFFFFFu, 0xFFFFFFFFu, 255, servo_most);
+    servo_bytes(0x0A0B0C0Du, 2, 0x5A, 1, servo);
+    servo_bytes(0, 0, 0, 0, servo_none);
+    servo_bytes(0, 0, 0, 3, servo_limits);
+    servo_bytes(0, 0, 0, 4, servo_first_too_many);
+    servo_bytes(0xFFFFFFFFu, 255, 255, 255, servo_most);
+    servo_bytes(0xFFFFFFFFu, 256, 255, 256, servo_most);
+    servo_bytes(0xFFFFFFFFu, 256, 255, 256 + 3, servo_most);
+    servo_bytes(0xFFFFFFFFu, 0xFFFFFFFFu, 255, 0xFFFFFFFFu, servo_most);
     io_bytes(0xABC, 0x11, 0x22, 0x33, 0x01020304u, io);
     io_bytes(0, 0, 0, 0, 0, io_none);
     io_bytes(4096, 0, 0, 0, 0, io_first_too_many);
@@ -101,12 +106,12 @@ static void bytes(void)
 static uint8_t net[NMC_NET_LEN], samples[3 * NMC_SAMPLE_LEN];
 
 /* What a tick gives for a servo, an I/O and a step-motor module that measure this; a refused one is none. */
-static uint32_t tick_at(uint32_t power, uint32_t inputs, uint32_t stop)
+static uint32_t tick_at(uint32_t power, uint32_t limits, uint32_t inputs, uint32_t stop)
 {
     uint8_t net_before[NMC_NET_LEN], samples_before[sizeof samples];
     uint32_t number;
     memset(samples, 0xFF, sizeof samples);
-    nmc_put_servo_sample(samples, 0, 1234, power, 56);
+    nmc_put_servo_sample(samples, 0, 1234, power, 56, limits);
     nmc_put_io_sample(samples, 1, inputs, 7, 8, 9, 1011);
     nmc_put_stepper_sample(samples, 2, stop);
     memcpy(net_before, net, sizeof net_before);
@@ -120,12 +125,14 @@ static uint32_t tick_at(uint32_t power, uint32_t inputs, uint32_t stop)
 
 static uint32_t tick_with(uint32_t power, uint32_t inputs)
 {
-    return tick_at(power, inputs, 0);
+    return tick_at(power, 0, inputs, 0);
 }
+
+static uint8_t room[NMC_ROOM_LEN];
 
 static void send(uint32_t address, uint32_t code, const uint8_t *data, size_t data_len)
 {
-    uint8_t frame[NMC_FRAME_LEN], room[NMC_ROOM_LEN];
+    uint8_t frame[NMC_FRAME_LEN];
     size_t len = 0, written;
     check(nmc_write_frame(address, code, data, data_len, frame, sizeof frame, &len) == NMC_DONE, "writer");
     for (size_t i = 0; i < len; i++)
@@ -156,13 +163,36 @@ static void start_stepper(void)
 static void stop_inputs(void)
 {
     start_stepper();
-    check(tick_at(1, 5, 0) == NMC_DONE && speed() == 6, "stop input 0");
-    check(tick_at(1, 5, 2) == NMC_BAD_FIELD && speed() == 6, "stop input 2");
-    check(tick_at(1, 5, 255) == NMC_BAD_FIELD && speed() == 6, "stop input 255");
-    check(tick_at(1, 5, 256) == NMC_BAD_FIELD && speed() == 6, "stop input 256");
-    check(tick_at(1, 5, 256 + 1) == NMC_BAD_FIELD && speed() == 6, "stop input 257");
-    check(tick_at(1, 5, 0xFFFFFFFFu) == NMC_BAD_FIELD && speed() == 6, "stop input 4294967295");
-    check(tick_at(1, 5, 1) == NMC_DONE && speed() == 0, "stop input 1");
+    check(tick_at(1, 0, 5, 0) == NMC_DONE && speed() == 6, "stop input 0");
+    check(tick_at(1, 0, 5, 2) == NMC_BAD_FIELD && speed() == 6, "stop input 2");
+    check(tick_at(1, 0, 5, 255) == NMC_BAD_FIELD && speed() == 6, "stop input 255");
+    check(tick_at(1, 0, 5, 256) == NMC_BAD_FIELD && speed() == 6, "stop input 256");
+    check(tick_at(1, 0, 5, 256 + 1) == NMC_BAD_FIELD && speed() == 6, "stop input 257");
+    check(tick_at(1, 0, 5, 0xFFFFFFFFu) == NMC_BAD_FIELD && speed() == 6, "stop input 4294967295");
+    check(tick_at(1, 0, 5, 1) == NMC_DONE && speed() == 0, "stop input 1");
+}
+
+/* The servo's limit inputs, as its status bits tell them. */
+static uint32_t limits_told(void)
+{
+    static const uint8_t none[1] = {0};
+    send(1, 14, none, 0);
+    return room[0] >> 5 & 3u;
+}
+
+static void limit_inputs(void)
+{
+    static const uint32_t too_many[] = {256, 256 + 1, 256 + 3, 0xFFFFFFFFu};
+    for (uint32_t limits = 4; limits-- > 0;) {
+        check(tick_at(1, limits, 5, 0) == NMC_DONE, "limit inputs 0 to 3");
+        check(limits_told() == limits, "other limit inputs are told");
+    }
+    check(tick_at(1, 2, 5, 0) == NMC_DONE, "limit input 2 alone");
+    for (uint32_t limits = 4; limits < 256; limits++)
+        check(tick_at(1, limits, 5, 0) == NMC_BAD_FIELD, "limit inputs 4 to 255");
+    for (size_t i = 0; i < sizeof too_many / sizeof too_many[0]; i++)
+        check(tick_at(1, too_many[i], 5, 0) == NMC_BAD_FIELD, "limit inputs above 255");
+    check(limits_told() == 2, "a refused tick latched limit inputs");
 }
 
 static void ticks(void)
@@ -183,6 +213,7 @@ static void ticks(void)
     check(tick_with(1, 0xFFFFFFFFu) == NMC_BAD_FIELD, "inputs 4294967295");
     check(tick_with(1, 5) == NMC_DONE, "power 1, inputs 5");
     stop_inputs();
+    limit_inputs();
 
     nmc_put_io_sample(samples, 0, 0, 0, 0, 0, 0);
     check(nmc_tick(net, sizeof net, samples, sizeof samples) == NMC_BAD_PLACE,
@@ -190,7 +221,7 @@ static void ticks(void)
     nmc_put_stepper_sample(samples, 0, 0);
     check(nmc_tick(net, sizeof net, samples, sizeof samples) == NMC_BAD_PLACE,
           "a step-motor module's sample for the servo");
-    nmc_put_servo_sample(samples, 0, 0, 1, 0);
+    nmc_put_servo_sample(samples, 0, 0, 1, 0, 0);
     check(nmc_tick(net, sizeof net, samples, 2 * NMC_SAMPLE_LEN) == NMC_BAD_LIST,
           "two samples for three modules");
     check(nmc_tick(net, sizeof net, samples, sizeof samples) == NMC_DONE, "all samples as asked");

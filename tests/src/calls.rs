@@ -27,10 +27,10 @@ pub const BAD_LIST: u32 = 20;
 /// What one module measures, as it stands in a tick's list.
 pub type Sample = [u8; SAMPLE_LEN];
 
-/// A servo's sample; what it does not use is 0.
-pub fn servo_sample(raw: u32, power: u8, ad: u8) -> Sample {
+/// A servo's sample, whose limit inputs are 0 to 3; what it does not use is 0.
+pub fn servo_sample(raw: u32, power: u8, ad: u8, inputs: u8) -> Sample {
     let [raw0, raw1, raw2, raw3] = raw.to_le_bytes();
-    [0, power, ad, raw0, raw1, raw2, raw3, 0, 0, 0]
+    [0, power, ad, raw0, raw1, raw2, raw3, inputs, 0, 0]
 }
 
 pub fn io_sample(inputs: u16, ad: [u8; 3], counter: u32) -> Sample {

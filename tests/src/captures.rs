@@ -4,7 +4,7 @@
 //! ```text
 //! module 2 2                       types, place 0 first (kind 0)
 //! line AA 01 0E 0F!                line bytes in hex, ! after one with a framing error (kind 1)
-//! servo 0 1 80 00001234            place, then power, A/D and raw count in hex (kind 2)
+//! servo 0 1 80 00001234 0          place, then power, A/D, raw count and limit inputs in hex (kind 2)
 //! sample 0 FFF 10 20 30 DEADBEEF   place, then inputs, A/D 1 to 3 and counter in hex (kind 3)
 //! tick                             (kind 4)
 //! stepper 0 1                      place, then stop input in hex (kind 5)
@@ -62,9 +62,10 @@ fn records(line: &str) -> Result<Vec<u8>, String> {
                 bytes.extend([1, u8::from(unmarked != *word), hex_byte(unmarked)?]);
             }
         }
-        ["servo", place, power, ad, raw] => {
+        ["servo", place, power, ad, raw, inputs] => {
             bytes.extend([2, decimal_byte(place)?, hex_byte(power)?, hex_byte(ad)?]);
             bytes.extend(hex(raw)?.to_le_bytes());
+            bytes.push(hex_byte(inputs)?);
         }
         ["sample", place, inputs, ad1, ad2, ad3, counter] => {
             let inputs = u16::try_from(hex(inputs)?).map_err(|_| format!("{inputs} is more than two bytes"))?;
@@ -186,7 +187,9 @@ impl Board<'_> {
             Event::LineByte { mark, byte } => {
                 self.calls.byte(&mut self.net, mark.into(), byte, &mut [0; ROOM_LEN], &mut 0)
             }
-            Event::ServoSample { place, power, ad, raw } => self.gather(place.into(), servo_sample(raw, power, ad)),
+            Event::ServoSample { place, power, ad, raw, inputs } => {
+                self.gather(place.into(), servo_sample(raw, power, ad, inputs))
+            }
             Event::IoSample { place, inputs, ad, counter } => self.gather(place.into(), io_sample(inputs, ad, counter)),
             Event::StepperSample { place, stop } => self.gather(place.into(), stepper_sample(stop)),
             Event::Tick => self.calls.tick(&mut self.net, &self.samples),

@@ -380,13 +380,67 @@ impl Session<'_> {
         Ok(())
     }
 
+    /// Has a servo look for home: brought into some mode it is told what to watch, often with a load waiting, and after
+    /// some ticks a switch changes, and often back again.
+    fn drive_home(&mut self) -> Result<(), String> {
+        let place = match self.place_of(Servo::TYPE)? {
+            Some(place) => place,
+            None => return self.send_frame(),
+        };
+        for _ in 0..1 + self.dice.below(3) {
+            self.make_fit(place, true)?;
+            let servo = self.servo(place);
+            let address = servo.station.individual;
+            let (code, data) = steering::into_a_mode(&mut self.dice, &servo);
+            self.send(&frame_bytes(address, code, &data), None)?;
+            self.follow(place)?;
+            let byte = steering::homing_byte(&mut self.dice);
+            self.send(&frame_bytes(address, 9, &[byte]), None)?;
+            if self.dice.percent(40) {
+                let servo = self.servo(place);
+                let data = steering::waiting_load(&mut self.dice, &servo);
+                self.send(&frame_bytes(address, 4, &data), None)?;
+            }
+            self.follow(place)?;
+            self.switch(place)?;
+        }
+        Ok(())
+    }
+
+    /// Some ticks in which the motor follows; now and then the last of them is a dip.
+    fn follow(&mut self, place: usize) -> Result<(), String> {
+        for _ in 0..self.dice.pick(&[0, 0, 1, 2, 4]) {
+            self.measure(place);
+            self.tick()?;
+        }
+        if self.dice.percent(8) {
+            let servo = self.servo(place);
+            let raw = steering::following(&mut self.dice, &servo);
+            self.tick_with(place, servo_sample(raw, 0, 0, servo.latched.inputs))?;
+        }
+        Ok(())
+    }
+
+    /// A tick in which a switch changes, and often one in which it changes back.
+    fn switch(&mut self, place: usize) -> Result<(), String> {
+        let before = self.servo(place);
+        let sample = steering::switched(&mut self.dice, &before);
+        self.tick_with(place, sample)?;
+        if self.dice.percent(50) {
+            let servo = self.servo(place);
+            let raw = steering::following(&mut self.dice, &servo);
+            self.tick_with(place, servo_sample(raw, 1, 0, before.latched.inputs))?;
+        }
+        Ok(())
+    }
+
     /// Mostly brings power, gains and a clear error bit to a servo.
     fn make_fit(&mut self, place: usize, gains_too: bool) -> Result<(), String> {
         let servo = self.servo(place);
         let address = servo.station.individual;
         if servo.latched.power != 1 && self.dice.percent(90) {
             let (raw, ad) = (steering::following(&mut self.dice, &servo), self.dice.byte());
-            self.tick_with(place, servo_sample(raw, 1, ad))?;
+            self.tick_with(place, servo_sample(raw, 1, ad, servo.latched.inputs))?;
         }
         if gains_too && servo.gains.el < 1000 && self.dice.percent(80) {
             let gains = steering::gains(&mut self.dice);
@@ -421,7 +475,7 @@ impl Session<'_> {
                 break;
             }
             let raw = steering::ahead(&servo).wrapping_add(servo.offset);
-            self.tick_with(place, servo_sample(raw, 1, 0))?;
+            self.tick_with(place, servo_sample(raw, 1, 0, servo.latched.inputs))?;
         }
         Ok(())
     }
@@ -577,8 +631,9 @@ impl Session<'_> {
 
     fn turn(&mut self) -> Result<(), String> {
         match self.dice.below(100) {
-            0..=10 => self.drive(),
-            11..=15 => self.drive_stepper(),
+            0..=9 => self.drive(),
+            10 | 11 => self.drive_home(),
+            12..=15 => self.drive_stepper(),
             16..=69 => self.send_frame(),
             70..=77 => {
                 self.measure_some();

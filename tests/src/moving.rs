@@ -32,7 +32,7 @@ impl<'a> Carriage<'a> {
 
     /// A tick, at which the motor is here.
     pub fn ticks_at(&mut self, raw: u32) {
-        assert_eq!(self.calls.tick(&mut self.net, &servo_sample(raw, 1, 0)), DONE);
+        assert_eq!(self.calls.tick(&mut self.net, &servo_sample(raw, 1, 0, 0)), DONE);
     }
 
     /// Sends a frame; gives the status byte.

@@ -4,8 +4,8 @@
 use crate::branches::{all_hold, either, reach, Branch};
 use crate::calls::*;
 use crate::model::{
-    self, is_half_turn, stopping_sum, Device, Gains, Io, IoSample, Load, Mode, Module, Network, Receiver, Servo,
-    ServoSample, Station, Stepper, Way, SPEED_MOST,
+    self, is_half_turn, stopping_sum, Device, Gains, Homing, Io, IoSample, Load, Mode, Module, Network, Receiver,
+    Servo, ServoSample, Station, Stepper, Way, LIMITS_MOST, SPEED_MOST,
 };
 use crate::slips::Slip;
 
@@ -23,7 +23,7 @@ pub const CAUSE: usize = 5;
 pub const ITEMS: usize = 6;
 /// Bytes of its slot that an I/O module uses, and a servo.
 pub const IO_LEN: usize = 34;
-pub const SERVO_LEN: usize = 101;
+pub const SERVO_LEN: usize = 107;
 /// Where in a slot of a type that latches its sample this begins.
 pub const LATCHED: usize = 8;
 
@@ -37,41 +37,44 @@ pub mod at {
     pub const POWER: usize = 8;
     pub const AD: usize = 9;
     pub const RAW: usize = 10;
-    pub const OFFSET: usize = 14;
-    pub const LAST_POSITION: usize = 18;
-    pub const KP: usize = 22;
-    pub const KD: usize = 24;
-    pub const KI: usize = 26;
-    pub const IL: usize = 28;
-    pub const OL: usize = 30;
-    pub const EL: usize = 31;
-    pub const CL: usize = 33;
-    pub const SM: usize = 34;
-    pub const VELOCITY: usize = 35;
-    pub const ACCELERATION: usize = 39;
-    pub const VELOCITY_LOADED: usize = 43;
-    pub const ACCELERATION_LOADED: usize = 44;
-    pub const LOAD_WAITS: usize = 45;
-    pub const WAY: usize = 46;
-    pub const POSITION_CARRIED: usize = 47;
-    pub const LOAD_POSITION: usize = 48;
-    pub const PWM_CARRIED: usize = 52;
-    pub const LOAD_PWM: usize = 53;
-    pub const REVERSE: usize = 54;
-    pub const SETPOINT: usize = 55;
-    pub const SPEED: usize = 61;
-    pub const GOAL: usize = 65;
-    pub const GOAL_SPEED: usize = 69;
-    pub const RUNNING_ACCELERATION: usize = 73;
-    pub const TOP: usize = 77;
-    pub const INTEGRAL: usize = 81;
-    pub const PREVIOUS_ERROR: usize = 85;
-    pub const MODE: usize = 89;
-    pub const PWM: usize = 90;
-    pub const OUTPUT: usize = 94;
-    pub const ERROR: usize = 98;
-    pub const AMPLIFIER: usize = 99;
-    pub const CUT: usize = 100;
+    pub const INPUTS: usize = 14;
+    pub const OFFSET: usize = 15;
+    pub const LAST_POSITION: usize = 19;
+    pub const KP: usize = 23;
+    pub const KD: usize = 25;
+    pub const KI: usize = 27;
+    pub const IL: usize = 29;
+    pub const OL: usize = 31;
+    pub const EL: usize = 32;
+    pub const CL: usize = 34;
+    pub const SM: usize = 35;
+    pub const VELOCITY: usize = 36;
+    pub const ACCELERATION: usize = 40;
+    pub const VELOCITY_LOADED: usize = 44;
+    pub const ACCELERATION_LOADED: usize = 45;
+    pub const LOAD_WAITS: usize = 46;
+    pub const WAY: usize = 47;
+    pub const POSITION_CARRIED: usize = 48;
+    pub const LOAD_POSITION: usize = 49;
+    pub const PWM_CARRIED: usize = 53;
+    pub const LOAD_PWM: usize = 54;
+    pub const REVERSE: usize = 55;
+    pub const SETPOINT: usize = 56;
+    pub const SPEED: usize = 62;
+    pub const GOAL: usize = 66;
+    pub const GOAL_SPEED: usize = 70;
+    pub const RUNNING_ACCELERATION: usize = 74;
+    pub const TOP: usize = 78;
+    pub const INTEGRAL: usize = 82;
+    pub const PREVIOUS_ERROR: usize = 86;
+    pub const MODE: usize = 90;
+    pub const PWM: usize = 91;
+    pub const OUTPUT: usize = 95;
+    pub const ERROR: usize = 99;
+    pub const AMPLIFIER: usize = 100;
+    pub const CUT: usize = 101;
+    pub const HOME: usize = 102;
+    pub const HOMING: usize = 106;
 
     /// Bytes that are 0 or 1, each with the line that asks for it.
     pub const FLAGS: [(usize, Branch); 11] = [
@@ -196,6 +199,17 @@ fn put_io(bytes: &mut [u8], io: &Io) {
     put(bytes, 30, &io.captured_counter.to_le_bytes());
 }
 
+/// 0 while it is not homing, else a byte that Set Homing takes.
+fn homing_holds(byte: u8, slip: Slip) -> bool {
+    let also = match slip {
+        Slip::RecordHomingUntested => true,
+        Slip::RecordHomingUnwatched => Homing::by(byte | 1).is_some(),
+        Slip::RecordHomingOfTwoStops => byte & 0x3 != 0 && byte & 0xC8 == 0,
+        _ => false,
+    };
+    byte == 0 || Homing::by(byte).is_some() || also
+}
+
 /// Ranges and flags of a servo's slot: what can be told field by field.
 fn servo_in_range(slot: &[u8], slip: Slip) -> bool {
     let flags: [(bool, Branch); 11] = at::FLAGS.map(|(at, line)| (slot[at] <= 1, line));
@@ -209,6 +223,7 @@ fn servo_in_range(slot: &[u8], slip: Slip) -> bool {
     let numbers = [
         (cause_holds(slot, slip), Branch::ListCause),
         (slot[at::POWER] <= 2, Branch::ListLatchedPower),
+        (slot[at::INPUTS] <= LIMITS_MOST || slip == Slip::RecordLimitsUntested, Branch::ListLatchedLimits),
         (gains && two(slot, at::EL) <= 16_383, Branch::ListGains),
         (rate(at::VELOCITY), Branch::ListVelocity),
         (rate(at::ACCELERATION), Branch::ListAcceleration),
@@ -223,6 +238,7 @@ fn servo_in_range(slot: &[u8], slip: Slip) -> bool {
         (slot[at::MODE] <= 4, Branch::ListMode),
         (within(at::PWM, 255), Branch::ListPulse),
         (within(at::OUTPUT, 255), Branch::ListOutput),
+        (homing_holds(slot[at::HOMING], slip), Branch::ListHoming),
     ];
     let flags_hold = all_hold(&flags);
     let numbers_hold = all_hold(&numbers);
@@ -307,7 +323,12 @@ fn servo(slot: &[u8], slip: Slip) -> Option<Box<Servo>> {
     let flag = |at: usize| slot[at] == 1;
     let servo = Servo {
         station: station(slot),
-        latched: ServoSample { raw: four(slot, at::RAW), power: slot[at::POWER], ad: slot[at::AD] },
+        latched: ServoSample {
+            raw: four(slot, at::RAW),
+            power: slot[at::POWER],
+            ad: slot[at::AD],
+            inputs: slot[at::INPUTS],
+        },
         offset: four(slot, at::OFFSET),
         last_position: four(slot, at::LAST_POSITION),
         gains: gains(slot),
@@ -330,6 +351,8 @@ fn servo(slot: &[u8], slip: Slip) -> Option<Box<Servo>> {
         error: flag(at::ERROR),
         amplifier: flag(at::AMPLIFIER),
         cut: flag(at::CUT),
+        home: four(slot, at::HOME),
+        homing: Homing::by(slot[at::HOMING]),
     };
     servo_in_order(&servo, slip).then(|| Box::new(servo))
 }
@@ -338,6 +361,7 @@ fn put_servo(bytes: &mut [u8], servo: &Servo) {
     put_station(bytes, &servo.station);
     (bytes[at::POWER], bytes[at::AD]) = (servo.latched.power, servo.latched.ad);
     put(bytes, at::RAW, &servo.latched.raw.to_le_bytes());
+    bytes[at::INPUTS] = servo.latched.inputs;
     put(bytes, at::OFFSET, &servo.offset.to_le_bytes());
     put(bytes, at::LAST_POSITION, &servo.last_position.to_le_bytes());
     let gains = &servo.gains;
@@ -373,6 +397,8 @@ fn put_servo(bytes: &mut [u8], servo: &Servo) {
     bytes[at::ERROR] = u8::from(servo.error);
     bytes[at::AMPLIFIER] = u8::from(servo.amplifier);
     bytes[at::CUT] = u8::from(servo.cut);
+    put(bytes, at::HOME, &servo.home.to_le_bytes());
+    bytes[at::HOMING] = servo.homing.map_or(0, Homing::byte);
 }
 
 /// Puts a module into its slot; what its type does not use stays as it was.
@@ -445,7 +471,7 @@ pub fn encode(network: &Network, net: &mut [u8]) {
 pub fn latched(slot: &[u8]) -> Sample {
     let mut sample = no_sample(slot[0]);
     let measured = match slot[0] {
-        Servo::TYPE => &mut sample[1..7],
+        Servo::TYPE => &mut sample[1..8],
         Io::TYPE => &mut sample[1..],
         _ => &mut [],
     };

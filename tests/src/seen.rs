@@ -3,12 +3,14 @@
 
 use crate::calls::{BAD_FIELD, BAD_LIST, BAD_PLACE, BAD_RECORD, MOST_MODULES, ROOM_LEN, SAMPLE_LEN};
 use crate::model::{
-    Mode, Module, Network, Receiver, Servo, Touch, CAUSES, EXECUTED, NOT_NOW, OUT_OF_RANGE, SPEED_MOST, UNKNOWN,
-    WRONG_COUNT,
+    HomeStop, Mode, Module, Network, Receiver, Servo, Touch, CAUSES, EXECUTED, NOT_NOW, OUT_OF_RANGE, SPEED_MOST,
+    UNKNOWN, WRONG_COUNT,
 };
 
+pub mod homing;
 pub mod stepper;
 
+use homing::Homings;
 use stepper::Steppers;
 
 /// What may change a servo's mode.
@@ -23,11 +25,15 @@ pub enum Change {
     HardReset,
     PowerLow,
     Trip,
+    /// The stops of homing, where they are not skipped and power is not low.
+    HomeOff,
+    HomeAbrupt,
+    HomeSmooth,
     /// Any other frame that was executed, any that was not, and any other tick.
     Nothing,
 }
 
-pub const CHANGES: [Change; 10] = [
+pub const CHANGES: [Change; 13] = [
     Change::Start,
     Change::StartNow,
     Change::StopOff,
@@ -37,6 +43,9 @@ pub const CHANGES: [Change; 10] = [
     Change::HardReset,
     Change::PowerLow,
     Change::Trip,
+    Change::HomeOff,
+    Change::HomeAbrupt,
+    Change::HomeSmooth,
     Change::Nothing,
 ];
 
@@ -74,6 +83,7 @@ pub struct Seen {
     pub two_causes: Tally,
     pub three_causes: Tally,
     pub steppers: Steppers,
+    pub homings: Homings,
     /// Servos touched or ticked, by what came upon them, mode before and mode after.
     pub modes: [[[usize; 5]; 5]; CHANGES.len()],
     /// What ticks have done to servos that ran.
@@ -120,6 +130,17 @@ fn change_by_frame(code: u8, data: &[u8], cause: u8) -> Change {
             _ => Change::StopHere,
         },
         (0, 15, _) => Change::HardReset,
+        _ => Change::Nothing,
+    }
+}
+
+/// What a tick does to a servo that has power and no trip.
+fn change_by_home(before: &Servo, after: &Servo) -> Change {
+    let ready = after.latched.power == 1 && !before.error;
+    match homing::found(before, after) {
+        Some(Some(HomeStop::Off)) => Change::HomeOff,
+        Some(Some(HomeStop::Abrupt)) if ready => Change::HomeAbrupt,
+        Some(Some(HomeStop::Smooth)) => Change::HomeSmooth,
         _ => Change::Nothing,
     }
 }
@@ -182,6 +203,7 @@ impl Seen {
                 let cause = after.station.cause;
                 let change = change_by_frame(code, data, cause);
                 self.mode(change, before, after);
+                self.homings.frame(code, data, before, after);
                 if before.cut && cause == EXECUTED {
                     self.frame_while_cut(code, change, after);
                 }
@@ -243,9 +265,10 @@ impl Seen {
         let change = match (after.latched.power, after.error && !before.error) {
             (0, _) => Change::PowerLow,
             (_, true) => Change::Trip,
-            _ => Change::Nothing,
+            _ => change_by_home(before, after),
         };
         self.mode(change, before, after);
+        self.homings.tick(place, before, after);
         if before.mode != Mode::Off {
             self.run(before, after);
         }
@@ -273,6 +296,7 @@ impl Seen {
     /// The ticks before are those of another record.
     pub fn another_record(&mut self) {
         self.cuts = Default::default();
+        self.homings.another_record();
     }
 
     fn frame_while_cut(&mut self, code: u8, change: Change, after: &Servo) {

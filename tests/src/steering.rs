@@ -4,8 +4,8 @@
 use crate::calls::*;
 use crate::dice::Dice;
 use crate::model::{
-    distance, items_of, stopping_sum, Device, Gains, Io, Load, Mode, Module, Network, Servo, Station, Stepper, Way,
-    CAUSES, HEADER, SPEED_MOST,
+    distance, items_of, stopping_sum, Device, Gains, Homing, Io, Load, Mode, Module, Network, Servo, Station, Stepper,
+    Way, CAUSES, HEADER, SPEED_MOST,
 };
 use crate::record::{
     at, put_module, slot, CAUSE, COUNT, FILL, IO_LEN, MARK, SERVO_LEN, SLOTS, STEPPER_LEN, TWELVE_BITS,
@@ -19,7 +19,7 @@ const INDIVIDUALS: &[u8] = &[0, 1, 2, 3, 4, 0x81, 0x82, HEADER, 0xFF];
 const GROUPS: &[u8] = &[0xFF, 0x7F, 0x81, 0x01, 0x82, 0x02, HEADER, 0x2A, 0x80, 0x00];
 const IO_CODES: &[u8] = &[0, 0, 1, 1, 2, 2, 3, 3, 4, 5, 5, 6, 6, 7, 7, 8, 9, 10, 10, 11, 12, 12, 13, 14, 15];
 const SERVO_CODES: &[u8] =
-    &[0, 0, 1, 2, 2, 3, 3, 3, 4, 4, 4, 4, 4, 5, 5, 5, 6, 6, 7, 7, 7, 8, 9, 10, 11, 11, 12, 13, 14, 15];
+    &[0, 0, 1, 2, 2, 3, 3, 3, 4, 4, 4, 4, 4, 5, 5, 5, 6, 6, 7, 7, 7, 8, 9, 9, 9, 10, 11, 11, 12, 13, 14, 15];
 /// Control byte of a trapezoid with all that it needs.
 pub const TRAPEZOID: u8 = 0x17;
 const EDGES: &[u8] = &[0, 1, 2, 3, 4, 5, 15, 16, 31, 32, 33, 63, 64, 127, 128, HEADER, 255];
@@ -111,7 +111,7 @@ const DIVIDED: &[(u8, &[u8])] = &[
     (6, &[0x00, 0x05, 0x00, 0x00, 0x00]),
     (7, &[0x02]),
     (7, &[0x03]),
-    (9, &[]),
+    (9, &[0x13]),
     (11, &[]),
     (12, &[]),
 ];
@@ -315,10 +315,32 @@ fn stop(dice: &mut Dice, servo: &Servo, control: u8) -> Vec<u8> {
     data
 }
 
+/// Set Homing's byte: mostly a good one, with any stop or none.
+pub fn homing_byte(dice: &mut Dice) -> u8 {
+    if dice.percent(80) {
+        dice.pick(&[0x01, 0x02, 0x03]) | dice.pick(HOMING_STOPS)
+    } else {
+        bad_homing_byte(dice)
+    }
+}
+
+/// No stop, off, abrupt, smooth: where these bits stand in Set Homing's byte.
+const HOMING_STOPS: &[u8] = &[0x00, 0x04, 0x10, 0x20];
+
+/// Without a watched input, with two stops or with another bit; sometimes with more than one of these, or good after all.
+fn bad_homing_byte(dice: &mut Dice) -> u8 {
+    match dice.below(4) {
+        0 => dice.pick(HOMING_STOPS),
+        1 => dice.pick(&[0x01, 0x02, 0x03]) | dice.pick(&[0x14, 0x24, 0x30, 0x34]),
+        2 => dice.pick(&[0x01, 0x02, 0x03]) | dice.pick(HOMING_STOPS) | dice.pick(&[0x08, 0x40, 0x80]),
+        _ => dice.byte(),
+    }
+}
+
 /// A command with a bad value, with another count than its own or with both, whatever the servo can do now: one fault
 /// hides the other.
 fn faulty_command(dice: &mut Dice, servo: &Servo) -> (u8, Vec<u8>) {
-    let code = dice.pick(&[0, 0, 4, 4, 5, 6, 7, 7]);
+    let code = dice.pick(&[0, 0, 4, 4, 5, 6, 7, 7, 9]);
     let mut data = match code {
         4 => {
             let control = dice.pick(&[TRAPEZOID, 0x36, 0x12, 0x14, 0x0E]);
@@ -333,6 +355,7 @@ fn faulty_command(dice: &mut Dice, servo: &Servo) -> (u8, Vec<u8>) {
             let control = dice.pick(&[0x06, 0x0C, 0x0A, 0x12, 0x14, 0x18, 0x20, 0x44, 0x90]);
             stop(dice, servo, control)
         }
+        9 => vec![bad_homing_byte(dice)],
         _ => Vec::new(),
     };
     if data.is_empty() || dice.percent(60) {
@@ -375,6 +398,7 @@ pub fn servo_command(dice: &mut Dice, servo: &Servo) -> (u8, Vec<u8>) {
             };
             stop(dice, servo, control)
         }
+        9 => vec![homing_byte(dice)],
         _ => (0..Servo::count(code, &[])).map(|_| data_byte(dice)).collect(),
     };
     (code, data)
@@ -439,18 +463,79 @@ pub fn following(dice: &mut Dice, servo: &Servo) -> u32 {
     base.wrapping_sub(error).wrapping_add(servo.offset)
 }
 
+// ---------------------------------------------------------------- homing
+
+/// A rate that a move of some ticks shows.
+fn plain_rate(dice: &mut Dice) -> u32 {
+    (1 + dice.below(24) as u32) << 14
+}
+
+/// Counts to go that take some ticks with such rates.
+fn plain_counts(dice: &mut Dice) -> u32 {
+    (dice.below(400) as u32).wrapping_sub(200)
+}
+
+/// A load with all that a trapezoid or velocity mode needs, as its control byte says.
+fn plain_load(dice: &mut Dice, servo: &Servo, control: u8) -> Vec<u8> {
+    let mut data = load_with(dice, servo, control, plain_counts, plain_rate);
+    // reversed or not, but started as asked
+    data[0] = data[0] & 0x7F | control & 0x80;
+    data
+}
+
+/// A command that brings a servo into a mode, into each as often as into another.
+pub fn into_a_mode(dice: &mut Dice, servo: &Servo) -> (u8, Vec<u8>) {
+    match dice.below(5) {
+        0 => (7, vec![dice.pick(&[2, 3])]),
+        1 => (4, vec![dice.pick(&[0x88, 0xC8]), data_byte(dice)]),
+        2 => (7, vec![dice.pick(&[4, 5])]),
+        3 => (4, plain_load(dice, servo, 0xB6)),
+        _ => (4, plain_load(dice, servo, 0x97)),
+    }
+}
+
+/// A load that waits.
+pub fn waiting_load(dice: &mut Dice, servo: &Servo) -> Vec<u8> {
+    match dice.below(3) {
+        0 => vec![0x08, data_byte(dice)],
+        1 => plain_load(dice, servo, 0x36),
+        _ => plain_load(dice, servo, TRAPEZOID),
+    }
+}
+
+/// A sample in which an input changes, or both do: at any power, and often further off than the motor may be, most often
+/// from where it is held.
+pub fn switched(dice: &mut Dice, servo: &Servo) -> Sample {
+    let inputs = servo.latched.inputs ^ dice.pick(&[1, 2, 3]);
+    let power = dice.pick(&[0, 1, 1, 1, 2]);
+    let mut raw = following(dice, servo);
+    if dice.percent(if servo.mode == Mode::Holding { 80 } else { 20 }) {
+        raw = raw.wrapping_add(dice.pick(&[16_384, 40_000, 1 << 31]));
+    }
+    servo_sample(raw, power, dice.byte(), inputs)
+}
+
 // ---------------------------------------------------------------- samples
+
+/// Limit inputs that change now and then, while homing more often.
+fn limits(dice: &mut Dice, servo: &Servo) -> u8 {
+    let changes = dice.percent(if servo.homing.is_some() { 25 } else { 8 });
+    servo.latched.inputs ^ if changes { dice.pick(&[1, 2, 3]) } else { 0 }
+}
 
 /// What a module may measure.
 pub fn sample(dice: &mut Dice, module: &Module) -> Sample {
     match module {
         Module::Servo(servo) => {
-            let power = match dice.below(40) {
+            let inputs = limits(dice, servo);
+            // where homing finds its switch, power is often not good at just that tick
+            let switched = servo.homing.is_some() && inputs != servo.latched.inputs;
+            let power = match dice.below(if switched { 12 } else { 40 }) {
                 0 | 1 => 0,
                 2..=4 => 2,
                 _ => 1,
             };
-            servo_sample(following(dice, servo), power, dice.byte())
+            servo_sample(following(dice, servo), power, dice.byte(), inputs)
         }
         Module::Io(_) => any_io_sample(dice),
         Module::Stepper(_) => stepper::sample(dice),
@@ -460,7 +545,7 @@ pub fn sample(dice: &mut Dice, module: &Module) -> Sample {
 /// A good sample of a type, whatever the module does.
 fn any_sample(dice: &mut Dice, module_type: u8) -> Sample {
     match module_type {
-        Servo::TYPE => servo_sample(dice.throw() as u32, dice.below(3) as u8, dice.byte()),
+        Servo::TYPE => servo_sample(dice.throw() as u32, dice.below(3) as u8, dice.byte(), dice.below(4) as u8),
         Io::TYPE => any_io_sample(dice),
         _ => stepper::any_sample(dice),
     }
@@ -476,7 +561,7 @@ fn any_io_sample(dice: &mut Dice) -> Sample {
 pub fn fill_rests(dice: &mut Dice, list: &mut [u8]) {
     for sample in list.chunks_exact_mut(SAMPLE_LEN) {
         let used = match sample[0] {
-            Servo::TYPE => 7,
+            Servo::TYPE => 8,
             Io::TYPE => SAMPLE_LEN,
             _ => 2,
         };
@@ -504,6 +589,7 @@ fn spoil_type(dice: &mut Dice, sample: &mut [u8]) {
 
 fn spoil_field(dice: &mut Dice, sample: &mut [u8]) {
     match sample[0] {
+        Servo::TYPE if dice.percent(50) => sample[7] = dice.pick(&[4, 4, 5, 7, 8, 127, 128, 131, 255]),
         Servo::TYPE => sample[1] = dice.pick(&[3, 3, 4, 127, 128, 254, 255]),
         Io::TYPE => {
             let inputs: u16 = dice.pick(&[4096, 4096, 4097, 0x1FFF, 0x8000, 0xF000, 0xFFFF]);
@@ -622,7 +708,10 @@ fn any_servo(dice: &mut Dice, station: Station) -> Servo {
     servo.offset = dice.throw() as u32;
     servo.latched.raw = following(dice, &servo);
     servo.latched.ad = dice.byte();
+    servo.latched.inputs = dice.below(4) as u8;
     servo.last_position = dice.throw() as u32;
+    servo.home = dice.throw() as u32;
+    servo.homing = if dice.percent(50) { Homing::by(homing_byte(dice)) } else { None };
     if servo.mode == Mode::Holding && dice.percent(30) {
         full_swing(dice, &mut servo);
     }
@@ -781,10 +870,20 @@ const NUMBER_EDGES: &[i32] =
 /// What a trapezoid's way to stop hangs on.
 const STOPPING: &[usize] = &[at::SETPOINT, at::SPEED, at::GOAL, at::RUNNING_ACCELERATION];
 
+fn whole_setpoint(slot: &[u8]) -> u32 {
+    u32::from_le_bytes(slot[at::SETPOINT + 2..at::SETPOINT + 6].try_into().expect("four bytes"))
+}
+
+/// A goal that the next count is: mostly too near to stop there.
+fn near_goal(slot: &mut [u8]) {
+    let backward = slot[at::SPEED + 3] >= 0x80;
+    let goal = whole_setpoint(slot).wrapping_add(if backward { u32::MAX } else { 1 });
+    slot[at::GOAL..at::GOAL + 4].copy_from_slice(&goal.to_le_bytes());
+}
+
 /// A goal half the range from the setpoint, or a count beside it; often at rest, since no speed can then be against it.
 fn far_goal(dice: &mut Dice, slot: &mut [u8]) {
-    let whole = u32::from_le_bytes(slot[at::SETPOINT + 2..at::SETPOINT + 6].try_into().expect("four bytes"));
-    let goal = whole.wrapping_add(dice.pick(&[(1 << 31) - 1, 1 << 31, 1 << 31, (1 << 31) + 1]));
+    let goal = whole_setpoint(slot).wrapping_add(dice.pick(&[(1 << 31) - 1, 1 << 31, 1 << 31, (1 << 31) + 1]));
     slot[at::GOAL..at::GOAL + 4].copy_from_slice(&goal.to_le_bytes());
     if dice.percent(50) {
         slot[at::SPEED..at::SPEED + 4].fill(0);
@@ -796,6 +895,9 @@ fn damage_number(dice: &mut Dice, slot: &mut [u8]) {
     if trapezoid && dice.percent(45) {
         return far_goal(dice, slot);
     }
+    if trapezoid && dice.percent(15) {
+        return near_goal(slot);
+    }
     let at = dice.pick(if trapezoid { STOPPING } else { NUMBERS });
     let old = i32::from_le_bytes(slot[at..at + 4].try_into().expect("four bytes"));
     let new = match dice.below(5) {
@@ -806,6 +908,15 @@ fn damage_number(dice: &mut Dice, slot: &mut [u8]) {
         _ => old.wrapping_sub(1),
     };
     slot[at..at + 4].copy_from_slice(&new.to_le_bytes());
+}
+
+/// Limit inputs or a homing byte at the edges of what they may be.
+fn damage_homing(dice: &mut Dice, slot: &mut [u8]) {
+    if dice.percent(30) {
+        slot[at::INPUTS] = dice.pick(&[0, 1, 2, 3, 4, 4, 5, 128, 255]);
+    } else {
+        slot[at::HOMING] = bad_homing_byte(dice);
+    }
 }
 
 /// A bit that the mode does not allow, the cut bit where no filter runs or the error bit where something does; no power;
@@ -858,6 +969,7 @@ fn damage_some(dice: &mut Dice, place: usize, net: &mut [u8]) {
     match (module_type, dice.below(10)) {
         (Servo::TYPE, 0..=3) => return damage_number(dice, own),
         (Servo::TYPE, 4) => return damage_byte(dice, own),
+        (Servo::TYPE, 9) => return damage_homing(dice, own),
         (Stepper::TYPE, 0..=4) => return stepper::damage(dice, own),
         (_, 5) if dice.percent(30) => {
             own[CAUSE] = (CAUSES - dice.below(2)) as u8;

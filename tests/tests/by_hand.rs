@@ -71,7 +71,7 @@ fn setup_of_every_type() {
     assert_eq!(Library.setup(&mut net, &[0, 2, 3, 0, 3]), DONE);
     let mut servo = [0; SLOT_LEN];
     // group, SM, error bit
-    (servo[2], servo[34], servo[98]) = (0xFF, 1, 1);
+    (servo[2], servo[35], servo[99]) = (0xFF, 1, 1);
     let mut stepper = [0; SLOT_LEN];
     (stepper[0], stepper[2]) = (3, 0xFF);
     assert_eq!(net[slot(0)..slot(1)], servo);
@@ -86,7 +86,7 @@ fn setup_of_every_type() {
 fn servo_fields_stand_where_the_record_says() {
     let mut net = vec![0x99; NET_LEN];
     assert_eq!(Library.setup(&mut net, &[0]), DONE);
-    assert_eq!(Library.tick(&mut net, &servo_sample(0x0A0B_0C0D, 1, 0x5A)), DONE);
+    assert_eq!(Library.tick(&mut net, &servo_sample(0x0A0B_0C0D, 1, 0x5A, 2)), DONE);
     let mut expect = |frame: &[u8], changes: &[(usize, &[u8])], expected: &mut [u8; SLOT_LEN]| {
         send(&mut net, frame);
         for (at, bytes) in changes {
@@ -95,41 +95,45 @@ fn servo_fields_stand_where_the_record_says() {
         assert_eq!(net[slot(0)..slot(1)], *expected, "after {frame:02X?}");
     };
     let mut all = [0; SLOT_LEN];
-    let power_up: [(usize, &[u8]); 4] = [(2, &[0xFF]), (8, &[1, 0x5A, 0x0D, 0x0C, 0x0B, 0x0A]), (34, &[1]), (98, &[1])];
+    let power_up: [(usize, &[u8]); 4] =
+        [(2, &[0xFF]), (8, &[1, 0x5A, 0x0D, 0x0C, 0x0B, 0x0A, 2]), (35, &[1]), (99, &[1])];
     expect(&[], &power_up, &mut all);
-    expect(&written(0, 11, &[]), &[(98, &[0])], &mut all);
-    // last position, setpoint and goal shift with the offset, though nothing runs
+    expect(&written(0, 11, &[]), &[(99, &[0])], &mut all);
+    // last position, setpoint, goal and home shift with the offset, though nothing runs and no home was found
     let shifted = &[0xF3, 0xF3, 0xF4, 0xF5][..];
-    let reset_position = [(14, &[0x0D, 0x0C, 0x0B, 0x0A][..]), (18, shifted), (57, shifted), (65, shifted)];
+    let offset = &[0x0D, 0x0C, 0x0B, 0x0A][..];
+    let reset_position = [(15, offset), (19, shifted), (58, shifted), (66, shifted), (102, shifted)];
     expect(&written(0, 0, &[]), &reset_position, &mut all);
+    expect(&written(0, 9, &[0x23]), &[(106, &[0x23])], &mut all);
+    expect(&written(0, 9, &[0x11]), &[(106, &[0x11])], &mut all);
 
     let gains = [1, 2, 3, 4, 5, 6, 7, 8, 9, 10, 11, 12, 1, 0, 13];
-    expect(&written(0, 6, &gains), &[(22, &[1, 2, 3, 4, 5, 6, 7, 8, 9, 11, 12, 10, 13])], &mut all);
+    expect(&written(0, 6, &gains), &[(23, &[1, 2, 3, 4, 5, 6, 7, 8, 9, 11, 12, 10, 13])], &mut all);
     let load = [0x5F, 0x78, 0x56, 0x34, 0x12, 0x11, 0x22, 0x33, 0x01, 0x44, 0x55, 0x66, 0x02, 0x77];
     let loaded: [(usize, &[u8]); 2] = [
-        (35, &[0x11, 0x22, 0x33, 0x01, 0x44, 0x55, 0x66, 0x02, 1, 1]),
-        (45, &[1, 2, 1, 0x78, 0x56, 0x34, 0x12, 1, 0x77, 1]),
+        (36, &[0x11, 0x22, 0x33, 0x01, 0x44, 0x55, 0x66, 0x02, 1, 1]),
+        (46, &[1, 2, 1, 0x78, 0x56, 0x34, 0x12, 1, 0x77, 1]),
     ];
     expect(&written(0, 4, &load), &loaded, &mut all);
     let started: [(usize, &[u8]); 5] = [
-        (45, &[0; 10]),
-        (55, &[0; 6]),
-        (65, &[0x78, 0x56, 0x34, 0x12]),
-        (73, &[0x44, 0x55, 0x66, 0x02, 0x11, 0x22, 0x33, 0x01]),
-        (89, &[4]),
+        (46, &[0; 10]),
+        (56, &[0; 6]),
+        (66, &[0x78, 0x56, 0x34, 0x12]),
+        (74, &[0x44, 0x55, 0x66, 0x02, 0x11, 0x22, 0x33, 0x01]),
+        (90, &[4]),
     ];
     expect(&written(0, 5, &[]), &started, &mut all);
     // velocity mode keeps goal and top, PWM all of them
-    let reversed = [(69, &[0xEF, 0xDD, 0xCC, 0xFE][..]), (89, &[3])];
+    let reversed = [(70, &[0xEF, 0xDD, 0xCC, 0xFE][..]), (90, &[3])];
     expect(&written(0, 4, &[0xF0]), &reversed, &mut all);
-    expect(&written(0, 4, &[0xC8, 3]), &[(89, &[1, 0xFD, 0xFF, 0xFF, 0xFF])], &mut all);
-    expect(&written(0, 7, &[0x11, 1, 2, 3, 4]), &[(57, &[1, 2, 3, 4]), (89, &[2, 0, 0, 0, 0]), (99, &[1])], &mut all);
-    expect(&written(0, 7, &[0x08]), &[(69, &[0; 4]), (89, &[3]), (99, &[0])], &mut all);
-    expect(&written(0, 7, &[0x02]), &[(89, &[0])], &mut all);
+    expect(&written(0, 4, &[0xC8, 3]), &[(90, &[1, 0xFD, 0xFF, 0xFF, 0xFF])], &mut all);
+    expect(&written(0, 7, &[0x11, 1, 2, 3, 4]), &[(58, &[1, 2, 3, 4]), (90, &[2, 0, 0, 0, 0]), (100, &[1])], &mut all);
+    expect(&written(0, 7, &[0x08]), &[(70, &[0; 4]), (90, &[3]), (100, &[0])], &mut all);
+    expect(&written(0, 7, &[0x02]), &[(90, &[0])], &mut all);
     // sample and offset stay
     let mut reset = [0; SLOT_LEN];
-    reset[8..18].copy_from_slice(&all[8..18]);
-    (reset[2], reset[34], reset[98]) = (0xFF, 1, 1);
+    reset[8..19].copy_from_slice(&all[8..19]);
+    (reset[2], reset[35], reset[99]) = (0xFF, 1, 1);
     expect(&written(0, 15, &[]), &[(0, &reset)], &mut all);
 }
 
@@ -197,17 +201,17 @@ fn stepper_fields_stand_where_the_record_says() {
 
 #[test]
 fn samples_stand_in_a_list_as_the_header_says() {
-    assert_eq!(servo_sample(0x0A0B_0C0D, 2, 0x5A), [0, 2, 0x5A, 0x0D, 0x0C, 0x0B, 0x0A, 0, 0, 0]);
+    assert_eq!(servo_sample(0x0A0B_0C0D, 2, 0x5A, 3), [0, 2, 0x5A, 0x0D, 0x0C, 0x0B, 0x0A, 3, 0, 0]);
     assert_eq!(io_sample(0xABC, [0x11, 0x22, 0x33], 0x0102_0304), [2, 0xBC, 0x0A, 0x11, 0x22, 0x33, 4, 3, 2, 1]);
     assert_eq!(stepper_sample(1), [3, 1, 0, 0, 0, 0, 0, 0, 0, 0]);
-    assert_eq!((no_sample(0), no_sample(2)), (servo_sample(0, 0, 0), io_sample(0, [0; 3], 0)));
+    assert_eq!((no_sample(0), no_sample(2)), (servo_sample(0, 0, 0, 0), io_sample(0, [0; 3], 0)));
     assert_eq!(no_sample(3), stepper_sample(0));
 }
 
 /// Whether each place has latched its own sample of a list, servos and I/O modules.
 fn latched(net: &[u8], list: &[Sample]) -> bool {
     list.iter().enumerate().all(|(place, sample)| {
-        let own = if sample[0] == 0 { &sample[1..7] } else { &sample[1..] };
+        let own = if sample[0] == 0 { &sample[1..8] } else { &sample[1..] };
         net[slot(place) + 8..].starts_with(own)
     })
 }
@@ -221,13 +225,13 @@ fn each_place_gets_its_own_sample_at_each_tick() {
         send(&mut net, &written(0, 1, &[address, 0xFF]));
     }
     let first = [
-        [0, 0, 0x11, 0x0D, 0x0C, 0x0B, 0x0A, 0, 0, 0],
-        [0, 1, 0x31, 0x00, 0x10, 0, 0, 0, 0, 0],
+        [0, 0, 0x11, 0x0D, 0x0C, 0x0B, 0x0A, 1, 0, 0],
+        [0, 1, 0x31, 0x00, 0x10, 0, 0, 3, 0, 0],
         [2, 0xBC, 0x0A, 0x21, 0x22, 0x23, 1, 2, 3, 4],
         [2, 0xFF, 0x0F, 0x41, 0x42, 0x43, 5, 6, 7, 8],
     ];
     let second = [
-        [0, 1, 0x51, 0x1D, 0x0C, 0x0B, 0x0A, 0, 0, 0],
+        [0, 1, 0x51, 0x1D, 0x0C, 0x0B, 0x0A, 2, 0, 0],
         [0, 2, 0x71, 0xFF, 0x0F, 0, 0, 0, 0, 0],
         [2, 0x23, 0x01, 0x61, 0x62, 0x63, 9, 10, 11, 12],
         [2, 0, 0, 0, 0, 0, 0xFF, 0xFF, 0xFF, 0xFF],
@@ -236,9 +240,10 @@ fn each_place_gets_its_own_sample_at_each_tick() {
         assert_eq!(Library.tick(&mut net, &list.concat()), DONE);
         assert!(latched(&net, &list));
     }
-    // position, A/D and last tick's change of a servo; inputs, A/D 1 to 3 and counter of an I/O module
+    // position, A/D and last tick's change of a servo, with limit 2 in status bit 6 of the first; inputs, A/D 1 to 3 and
+    // counter of an I/O module
     let replies: [(u8, &[u8]); 4] = [
-        (0x07, &[0x19, 0x1D, 0x0C, 0x0B, 0x0A, 0x51, 0x10, 0x00, 0xB8]),
+        (0x07, &[0x59, 0x1D, 0x0C, 0x0B, 0x0A, 0x51, 0x10, 0x00, 0xF8]),
         (0x07, &[0x11, 0xFF, 0x0F, 0x00, 0x00, 0x71, 0xFF, 0xFF, 0x8E]),
         (0x1F, &[0x00, 0x23, 0x01, 0x61, 0x62, 0x63, 9, 10, 11, 12, 0x74]),
         (0x1F, &[0x00, 0, 0, 0, 0, 0, 0xFF, 0xFF, 0xFF, 0xFF, 0xFC]),
@@ -247,13 +252,13 @@ fn each_place_gets_its_own_sample_at_each_tick() {
         assert_eq!(send(&mut net, &written(address, 3, &[items])), (UNDAMAGED, reply.to_vec()), "address {address}");
     }
     assert_eq!(Library.tick(&mut net, &second.concat()), DONE);
-    let unmoved = &[0x19, 0x1D, 0x0C, 0x0B, 0x0A, 0x51, 0x00, 0x00, 0xA8];
+    let unmoved = &[0x59, 0x1D, 0x0C, 0x0B, 0x0A, 0x51, 0x00, 0x00, 0xE8];
     assert_eq!(send(&mut net, &written(1, 3, &[0x07])), (UNDAMAGED, unmoved.to_vec()), "the same list again");
 }
 
 #[test]
 fn place_meets_its_own_samples_and_no_refused_tick() {
-    let [a, b, c] = [servo_sample(100, 1, 7), io_sample(0x123, [1, 2, 3], 4), io_sample(0x456, [5, 6, 7], 8)];
+    let [a, b, c] = [servo_sample(100, 1, 7, 0), io_sample(0x123, [1, 2, 3], 4), io_sample(0x456, [5, 6, 7], 8)];
     let out_of_range = io_sample(0x1000, [1, 2, 3], 4);
     let before = servo_and_io();
     let after = |ticks: &[(&[Sample], u32)]| {
@@ -283,38 +288,38 @@ fn place_meets_its_own_samples_and_no_refused_tick() {
 
 #[test]
 fn hard_reset_keeps_what_is_latched() {
-    let list = [servo_sample(0x0A0B_0C0D, 1, 0x51), io_sample(0x123, [0x61, 0x62, 0x63], 0x0C0B_0A09)];
+    let list = [servo_sample(0x0A0B_0C0D, 1, 0x51, 1), io_sample(0x123, [0x61, 0x62, 0x63], 0x0C0B_0A09)];
     let mut net = servo_and_io();
     assert_eq!(Library.tick(&mut net, &list.concat()), DONE);
     assert_eq!(send(&mut net, &written(0xFF, 15, &[])), (UNDAMAGED, vec![]));
     assert!(latched(&net, &list));
-    // position 0, power still good
-    assert_eq!(send(&mut net, &written(0, 3, &[0x03])).1, [0x19, 0, 0, 0, 0, 0x51, 0x6A]);
+    // position 0, power still good, limit 1 still 1
+    assert_eq!(send(&mut net, &written(0, 3, &[0x03])).1, [0x39, 0, 0, 0, 0, 0x51, 0x8A]);
     // the next tick takes its own sample, and the position counts from the reset
-    let next = [servo_sample(0x0A0B_0C0F, 2, 0x52), no_sample(2)];
+    let next = [servo_sample(0x0A0B_0C0F, 2, 0x52, 0), no_sample(2)];
     assert_eq!(Library.tick(&mut net, &next.concat()), DONE);
     assert!(latched(&net, &next));
     assert_eq!(send(&mut net, &written(0, 3, &[0x03])).1, [0x11, 2, 0, 0, 0, 0x52, 0x65]);
 }
 
 #[test]
-fn cut_tick_leaves_the_integral_and_sets_byte_100() {
+fn cut_tick_leaves_the_integral_and_sets_byte_101() {
     let mut net = vec![0x99; NET_LEN];
     assert_eq!(Library.setup(&mut net, &[0]), DONE);
-    assert_eq!(Library.tick(&mut net, &servo_sample(0, 1, 0)), DONE);
+    assert_eq!(Library.tick(&mut net, &servo_sample(0, 1, 0, 0)), DONE);
     // Kp 256, Ki 256, IL 100, OL 9, EL 16,383; Clear Bits; Stop Here at 20
     send(&mut net, &written(0, 6, &[0, 1, 0, 0, 0, 1, 100, 0, 9, 0, 0xFF, 0x3F, 1, 0, 1]));
     send(&mut net, &written(0, 11, &[]));
     send(&mut net, &written(0, 7, &[0x10, 20, 0, 0, 0]));
     let mut expected = net[slot(0)..slot(1)].to_vec();
     // 20 + 20 to put out
-    assert_eq!(Library.tick(&mut net, &servo_sample(0, 1, 0)), DONE);
-    (expected[85], expected[94], expected[100]) = (20, 9, 1);
+    assert_eq!(Library.tick(&mut net, &servo_sample(0, 1, 0, 0)), DONE);
+    (expected[86], expected[95], expected[101]) = (20, 9, 1);
     assert_eq!(net[slot(0)..slot(1)], expected, "cut: previous error, output, cut bit");
     // at 18 there are 2 + 2
-    assert_eq!(Library.tick(&mut net, &servo_sample(18, 1, 0)), DONE);
+    assert_eq!(Library.tick(&mut net, &servo_sample(18, 1, 0, 0)), DONE);
     expected[10] = 18;
-    (expected[81], expected[85], expected[94], expected[100]) = (2, 2, 4, 0);
+    (expected[82], expected[86], expected[95], expected[101]) = (2, 2, 4, 0);
     assert_eq!(net[slot(0)..slot(1)], expected, "not cut: the integral, too");
 }
 
@@ -469,13 +474,21 @@ type FrameAndCauses = (u8, &'static [u8], [u8; 3]);
 const FRAMES_AND_CAUSES: &[FrameAndCauses] = &[
     (14, &[], [0, 0, 0]),
     // a code that nobody knows has no right count; one that another knows is unknown here all the same
-    (9, &[], [4, 4, 4]),
+    (13, &[], [4, 4, 4]),
     (13, &[1, 2, 3], [4, 4, 4]),
     (8, &[0x33], [4, 0, 4]),
     (8, &[], [4, 2, 4]),
     (12, &[], [4, 0, 4]),
     (12, &[1], [4, 2, 4]),
     (11, &[1], [2, 4, 4]),
+    // Set Homing, which a servo alone has: count, then the byte; never not now
+    (9, &[], [2, 4, 4]),
+    (9, &[0x13, 0], [2, 4, 4]),
+    (9, &[0, 0], [2, 4, 4]),
+    (9, &[0x13], [0, 4, 4]),
+    (9, &[0x00], [5, 4, 4]),
+    (9, &[0x33], [5, 4, 4]),
+    (9, &[0x93], [5, 4, 4]),
     // counts, each by the type's own command
     (1, &[5], [2, 2, 2]),
     (2, &[], [2, 2, 2]),
@@ -613,10 +626,10 @@ fn status_reader_takes_replies_apart() {
     assert_eq!(reading(2, 0xFF, &io), (0, [0x5A9, 0x44, 0x55, 0x66, 0x1234_5678, 0x0102, 0x9A5, 0x8765_4321]));
     assert_eq!(reading(2, 0x28, &[0x00, 0x66, 0x02, 0x01, 0x69]), (0, [0, 0, 0, 0x66, 0, 0x0102, 0, 0]));
     let servo = [
-        0x19, 0xFE, 0xFF, 0xFF, 0xFF, 0x80, 0x34, 0x12, 0x00, 0x00, 0x00, 0x00, 0x00, 0x00, 0x0A, 0xFF, 0xFF, 0x00,
-        0xE2,
+        0xF9, 0xFE, 0xFF, 0xFF, 0xFF, 0x80, 0x34, 0x12, 0x00, 0x01, 0x00, 0x00, 0x80, 0x00, 0x0A, 0xFF, 0xFF, 0x00,
+        0x43,
     ];
-    assert_eq!(reading(0, 0xFF, &servo), (0x19, [0xFFFF_FFFE, 0x80, 0x1234, 0, 0, 0x0A00, 0xFFFF, 0]));
+    assert_eq!(reading(0, 0xFF, &servo), (0xF9, [0xFFFF_FFFE, 0x80, 0x1234, 0, 0x8000_0001, 0x0A00, 0xFFFF, 0]));
     assert_eq!(reading(0, 0x20, &[0x11, 0x00, 0x0A, 0x1B]), (0x11, [0, 0, 0, 0, 0, 0x0A00, 0, 0]));
     let stepper = [0x01, 0xFE, 0xFF, 0xFF, 0xFF, 0x03, 0x01, 0x00];
     assert_eq!(reading(3, 0x21, &stepper), (1, [0xFFFF_FFFE, 0, 0, 0, 0, 0x0103, 0, 0]));

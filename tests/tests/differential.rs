@@ -11,6 +11,7 @@ use doljurven_tests::calls::*;
 use doljurven_tests::capi::Library;
 use doljurven_tests::histories;
 use doljurven_tests::model::Mode;
+use doljurven_tests::seen::homing::STOPS;
 use doljurven_tests::seen::stepper::{Run, Upon, ALL_UPON, RUNS};
 use doljurven_tests::seen::{Change, Seen, CHANGES};
 use doljurven_tests::slips::Slip;
@@ -33,6 +34,7 @@ fn library_and_model_agree() {
     frames_meet_everything(&seen);
     every_mode_change_is_made(&seen);
     servos_come_everywhere(&seen);
+    homing_comes_everywhere(&seen);
     steppers_come_everywhere(&seen);
     calls_give_every_number(&seen);
 }
@@ -63,6 +65,9 @@ fn branches_are_reached() {
     often_reached(Branch::StopSetsAmplifierAtLow, Branch::EnableBackFromHigh);
     // ticks that are cut, and those that nearly are
     often_reached(Branch::CutAbove, Branch::UncutAfterCut);
+    // Set Homing, what it outlasts, how home is found, and its stop in every mode
+    often_reached(Branch::Limit1Set, Branch::HomingNotShown);
+    often_reached(Branch::SetHomingEmpty, Branch::HomeStopKeepsCause);
     // each refusal of a tick's list, each that hides a later one, and what a good list may hold
     often_reached(Branch::TickDone, Branch::SamplesOfSteppersDiffer);
 }
@@ -86,7 +91,7 @@ fn frames_meet_everything(seen: &Seen) {
     assert!(seen.places.iter().all(|touched| *touched > 100), "{:?}", seen.places);
     // codes that a type does not know, those that may be not now, and those with values out of range
     let types: [(&str, &[usize], &[usize], &[usize]); 3] = [
-        ("servo", &[8, 9, 12, 13], &[0, 4, 5, 7], &[4, 6, 7]),
+        ("servo", &[8, 12, 13], &[0, 4, 5, 7], &[4, 6, 7, 9]),
         ("I/O", &[9, 11, 13], &[], &[]),
         ("stepper", &[0, 8, 9, 11, 12, 13], &[4, 5], &[2, 3, 4, 6, 7]),
     ];
@@ -118,12 +123,17 @@ fn modes_after(change: Change, before: Mode) -> Vec<Mode> {
         (Change::Smooth, _) => vec![Mode::Velocity],
         (Change::Trip, Mode::Off | Mode::Pwm) => vec![],
         (Change::Trip, _) => vec![Mode::Off],
+        (Change::HomeOff, _) => vec![Mode::Off],
+        (Change::HomeAbrupt, _) => vec![Mode::Holding],
+        (Change::HomeSmooth, Mode::Off | Mode::Pwm) => vec![Mode::Off],
+        (Change::HomeSmooth, _) => vec![Mode::Velocity],
         (Change::Nothing, mode) => vec![mode],
     }
 }
 
+const MODES: [Mode; 5] = [Mode::Off, Mode::Pwm, Mode::Holding, Mode::Velocity, Mode::Trapezoid];
+
 fn every_mode_change_is_made(seen: &Seen) {
-    const MODES: [Mode; 5] = [Mode::Off, Mode::Pwm, Mode::Holding, Mode::Velocity, Mode::Trapezoid];
     for change in CHANGES {
         for before in MODES {
             for after in MODES {
@@ -147,6 +157,24 @@ fn servos_come_everywhere(seen: &Seen) {
     }
     for often in ["output at its limit", "trapezoid's speed neither highest nor lowest"] {
         assert!(seen.running.iter().any(|(name, times)| *name == often && *times > 1000), "{often}");
+    }
+}
+
+/// Every good byte is set in every mode, and home found with every stop in every mode and at every power.
+fn homing_comes_everywhere(seen: &Seen) {
+    for (stop, (set, found)) in STOPS.iter().zip(seen.homings.set.iter().zip(&seen.homings.found)) {
+        for mode in MODES {
+            for (watched, set) in set.iter().enumerate().skip(1) {
+                let times = set[mode as usize];
+                assert!(times > 50, "{stop:?}, inputs {watched} watched, set in {mode:?}: {times}");
+            }
+            for (power, times) in found[mode as usize].iter().enumerate() {
+                assert!(*times > 20, "{stop:?}, found in {mode:?} at power {power}: {times}");
+            }
+        }
+    }
+    for (name, times) in seen.homings.frames.iter().chain(&seen.homings.ticks) {
+        assert!(*times > 100, "{name}: {times}");
     }
 }
 

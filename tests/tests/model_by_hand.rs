@@ -1,6 +1,9 @@
-//! The model by itself: the servo's shorter sums against the paper's words, the bench sheet, and a step-motor module's ramp.
+//! The model by itself: the servo's shorter sums against the paper's words, the bench sheet, the bytes of Set Homing, and a
+//! step-motor module's ramp.
 
-use doljurven_tests::model::{distance, greatest_speed, stopping_sum, Device, Servo, Stepper, SPEED_MOST};
+use doljurven_tests::model::{
+    distance, greatest_speed, stopping_sum, Device, HomeStop, Homing, Servo, Stepper, SPEED_MOST,
+};
 use doljurven_tests::slips::Slip;
 
 /// w + (w - a) + (w - 2a) + ..., positive terms, one after another.
@@ -107,6 +110,24 @@ fn stepper_load_counts() {
         assert_eq!(Stepper::load_count(control), count, "control {control:02X}");
         assert_eq!(Stepper::count(4, &[control]), count);
     }
+}
+
+#[test]
+fn homing_bytes() {
+    let stops =
+        [(0x00, None), (0x04, Some(HomeStop::Off)), (0x10, Some(HomeStop::Abrupt)), (0x20, Some(HomeStop::Smooth))];
+    let mut good = Vec::new();
+    for (limit1, limit2) in [(true, false), (false, true), (true, true)] {
+        for (bit, stop) in stops {
+            let byte = bit | u8::from(limit1) | u8::from(limit2) << 1;
+            assert_eq!(Homing::by(byte), Some(Homing { limit1, limit2, stop }), "byte {byte:02X}");
+            good.push(byte);
+        }
+    }
+    for byte in 0..=255 {
+        assert_eq!(Homing::by(byte).map(Homing::byte), good.contains(&byte).then(|| byte), "byte {byte:02X}");
+    }
+    assert_eq!(good.len(), 12);
 }
 
 /// The speeds of so many ticks after what a frame brings about.

@@ -7,7 +7,7 @@ use doljurven_tests::record::{latched, slot, CAUSE, COUNT, FILL, ITEMS, LATCHED,
 use doljurven_tests::slips::{Slip, CALLS};
 
 const SEED: u64 = 0x0511_0000;
-const SESSIONS: usize = 800;
+const SESSIONS: usize = 1000;
 
 #[test]
 fn without_a_slip_the_short_run_passes() {
@@ -16,7 +16,7 @@ fn without_a_slip_the_short_run_passes() {
 
 #[test]
 fn every_slip_is_noticed() {
-    assert!(CALLS.len() >= 250);
+    assert!(CALLS.len() >= 300);
     let mut missed = Vec::new();
     for (slip, words) in CALLS {
         match histories::run(&Library, *slip, SEED, SESSIONS) {
@@ -50,6 +50,8 @@ enum Spoil {
     LastSampleOfTickBefore,
     StopInputLost,
     StopInputForAll,
+    LimitsLost,
+    LimitsSwapped,
     OutputsSign,
     OutputsDirection,
     SetupLeavesUnusedBytes,
@@ -65,7 +67,7 @@ enum Spoil {
     WriterBehindFrame,
 }
 
-const SPOILS: [Spoil; 30] = [
+const SPOILS: [Spoil; 32] = [
     Spoil::RoomBehindReplies,
     Spoil::OneByteMoreReported,
     Spoil::LastReplyByte,
@@ -83,6 +85,8 @@ const SPOILS: [Spoil; 30] = [
     Spoil::LastSampleOfTickBefore,
     Spoil::StopInputLost,
     Spoil::StopInputForAll,
+    Spoil::LimitsLost,
+    Spoil::LimitsSwapped,
     Spoil::OutputsSign,
     Spoil::OutputsDirection,
     Spoil::SetupLeavesUnusedBytes,
@@ -112,11 +116,14 @@ impl Spoiled {
         }
         let (first, last) = (samples[..SAMPLE_LEN].to_vec(), &net[slot(chain - 1)..slot(chain)]);
         let of_stepper = |sample: &[u8]| sample[0] == 3 && sample[1] <= 1;
+        let of_servo = |sample: &[u8]| sample[0] == 0 && sample[7] <= 3;
         let stop = samples.chunks_exact(SAMPLE_LEN).any(|sample| of_stepper(sample) && sample[1] == 1);
         for (place, sample) in list.chunks_exact_mut(SAMPLE_LEN).enumerate() {
             match self.0 {
                 Spoil::StopInputLost if of_stepper(sample) => sample[1] = 0,
                 Spoil::StopInputForAll if of_stepper(sample) => sample[1] = u8::from(stop),
+                Spoil::LimitsLost if of_servo(sample) => sample[7] = 0,
+                Spoil::LimitsSwapped if of_servo(sample) => sample[7] = sample[7] >> 1 | sample[7] << 1 & 2,
                 Spoil::FirstSampleForAll if sample[0] == first[0] => sample.copy_from_slice(&first),
                 Spoil::LastSampleOfTickBefore if place == chain - 1 && sample[0] == last[0] => {
                     sample.copy_from_slice(&latched(last));

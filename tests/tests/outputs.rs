@@ -52,7 +52,7 @@ impl Servo {
     }
 
     fn measures(&mut self, raw: i32, power: u8) {
-        self.sample = servo_sample(raw as u32, power, 0);
+        self.sample = servo_sample(raw as u32, power, 0, 0);
     }
 
     fn tick(&mut self) {
@@ -62,7 +62,7 @@ impl Servo {
     /// A tick with a sample that is not taken: nothing comes of it.
     fn refused_tick(&mut self) {
         let before = self.net.clone();
-        for list in [&servo_sample(0, 3, 0)[..], &io_sample(0, [0; 3], 0), &[]] {
+        for list in [&servo_sample(0, 3, 0, 0)[..], &io_sample(0, [0; 3], 0), &[]] {
             assert_ne!(self.calls.tick(&mut self.net, list), DONE);
             assert_eq!(self.net, before);
         }

@@ -18,7 +18,7 @@ fn network(modules: usize) -> Vec<u8> {
 fn chain(types: &[u8]) -> Vec<u8> {
     let mut net = vec![JUNK; NET_LEN];
     assert_eq!(Library.setup(&mut net, types), DONE);
-    let latched = list_of(types, servo_sample(0x1234_5678, 1, 0x5A), io_sample(0xA5C, [1, 2, 3], 0x1234_5678));
+    let latched = list_of(types, servo_sample(0x1234_5678, 1, 0x5A, 0), io_sample(0xA5C, [1, 2, 3], 0x1234_5678));
     assert_eq!(tick_call(&mut net, &latched), DONE);
     set_steppers_going(&mut net, types);
     for byte in &frame_bytes(0, 1, &[1, 0xFF])[..4] {
@@ -62,7 +62,7 @@ fn list_of(types: &[u8], servo: Sample, io: Sample) -> Vec<u8> {
 
 /// A list by which everything that is latched changes, and what moves goes on.
 fn list(types: &[u8]) -> Vec<u8> {
-    list_of(types, servo_sample(0x0BAD_CAFE, 2, 0x77), io_sample(0x3A5, [9, 8, 7], 0x0BAD_CAFE))
+    list_of(types, servo_sample(0x0BAD_CAFE, 2, 0x77, 3), io_sample(0x3A5, [9, 8, 7], 0x0BAD_CAFE))
 }
 
 /// A tick whose list stays what it is, and whose record does if it is refused.
@@ -356,13 +356,36 @@ fn servo_record_with_bytes_out_of_range() {
             slot.clone().one(at, value).judged(number, &format!("flag at {at} is {value}"));
         }
     }
-    for (at, most) in [(CAUSE, 5), (at::POWER, 2), (at::WAY, 2), (at::MODE, 4)] {
+    for (at, most) in [(CAUSE, 5), (at::POWER, 2), (at::INPUTS, 3), (at::WAY, 2), (at::MODE, 4)] {
         for value in 0..=most {
             off.clone().one(at, value).passes(&format!("byte at {at} is {value}"));
         }
         for value in [most + 1, 128, 255] {
             off.clone().one(at, value).breaks(&format!("byte at {at} is {value}"));
         }
+    }
+}
+
+/// What Set Homing takes: limit 1, limit 2 or both, with no stop or with one of off, abrupt and smooth.
+const HOMING_BYTES: [u8; 12] = [0x01, 0x02, 0x03, 0x05, 0x06, 0x07, 0x11, 0x12, 0x13, 0x21, 0x22, 0x23];
+
+#[test]
+fn servo_record_with_another_homing_byte() {
+    for mode in [OFF, PWM, HOLDING, VELOCITY, TRAPEZOID] {
+        for byte in 0..=255 {
+            let number = if byte == 0 || HOMING_BYTES.contains(&byte) { DONE } else { BAD_RECORD };
+            Slot::new(mode).one(at::HOMING, byte).judged(number, &format!("homing byte {byte:02X}"));
+        }
+    }
+}
+
+#[test]
+fn servo_record_with_other_limit_inputs() {
+    for inputs in 0..=255 {
+        let number = if inputs <= 3 { DONE } else { BAD_RECORD };
+        Slot::new(OFF).one(at::INPUTS, inputs).judged(number, &format!("inputs {inputs}"));
+        let homing = Slot::new(VELOCITY).one(at::INPUTS, inputs).one(at::HOMING, 3);
+        homing.judged(number, &format!("inputs {inputs}, homing"));
     }
 }
 
@@ -528,9 +551,9 @@ fn servo_record_with_a_goal_half_the_range_away() {
 #[test]
 fn servo_record_bytes_that_may_be_anything() {
     let bytes = [1, 2, 6, 7, at::OL, at::CL, at::SM, at::LOAD_PWM, at::AD];
-    let fours = [at::RAW, at::OFFSET, at::LAST_POSITION, at::LOAD_POSITION, at::GOAL, at::SETPOINT];
+    let fours = [at::RAW, at::OFFSET, at::LAST_POSITION, at::LOAD_POSITION, at::GOAL, at::SETPOINT, at::HOME];
     let all = fours.into_iter().flat_map(|at| at..at + 4).chain(bytes).chain([at::SETPOINT + 4, at::SETPOINT + 5]);
-    for at in all.chain(at::CUT + 1..SLOT_LEN) {
+    for at in all.chain(at::HOMING + 1..SLOT_LEN) {
         Slot::new(OFF).one(at, 0xFF).passes(&format!("byte at {at}"));
     }
 }
@@ -710,10 +733,11 @@ const MIXED: [u8; 9] = [0, 0, 2, 2, 3, 3, 0, 3, 2];
 const MIXED_OTHERWISE: [u8; 5] = [3, 2, 0, 2, 3];
 
 /// Bytes of a sample: its type; a servo's power, which is a stepper's stop input and the lower byte of an I/O module's
-/// inputs; their upper byte.
+/// inputs; their upper byte; a servo's limit inputs.
 const TYPE: usize = 0;
 const POWER: usize = 1;
 const INPUTS_HIGH: usize = 2;
+const LIMITS: usize = 7;
 
 /// Types that a module of this one is not.
 fn others(own: u8) -> impl Iterator<Item = u8> {
@@ -727,12 +751,12 @@ fn with(list: &[u8], place: usize, at: usize, value: u8) -> Vec<u8> {
     changed
 }
 
-/// A list whose sample at a place has a field out of range.
-fn with_bad_field(list: &[u8], types: &[u8], place: usize) -> Vec<u8> {
+/// Lists whose sample at a place has a field out of range: each that its type has.
+fn with_bad_fields(list: &[u8], types: &[u8], place: usize) -> Vec<Vec<u8>> {
     match types[place] {
-        0 => with(list, place, POWER, 3),
-        2 => with(list, place, INPUTS_HIGH, 0x10),
-        _ => with(list, place, POWER, 2),
+        0 => vec![with(list, place, POWER, 3), with(list, place, LIMITS, 4)],
+        2 => vec![with(list, place, INPUTS_HIGH, 0x10)],
+        _ => vec![with(list, place, POWER, 2)],
     }
 }
 
@@ -786,8 +810,10 @@ fn list_with_a_field_out_of_range() {
             assert_eq!(tick_call(&mut net.clone(), &with(&good, place, POWER, byte)), lower, "{told}");
             let upper = if own != 2 || byte <= 15 { DONE } else { BAD_FIELD };
             assert_eq!(tick_call(&mut net.clone(), &with(&good, place, INPUTS_HIGH, byte)), upper, "{told}");
+            let limits = if own != 0 || byte <= 3 { DONE } else { BAD_FIELD };
+            assert_eq!(tick_call(&mut net.clone(), &with(&good, place, LIMITS, byte)), limits, "{told}");
         }
-        for at in INPUTS_HIGH + 1..SAMPLE_LEN {
+        for at in (INPUTS_HIGH + 1..SAMPLE_LEN).filter(|at| *at != LIMITS) {
             assert_eq!(tick_call(&mut net.clone(), &with(&good, place, at, 0xFF)), DONE, "byte {at} at {place}");
         }
     }
@@ -802,13 +828,14 @@ fn another_type_anywhere_comes_before_a_field_anywhere() {
         let net = chain(types);
         let good = list(types);
         for field in 0..types.len() {
-            let bad_field = with_bad_field(&good, types, field);
-            assert_eq!(tick_call(&mut net.clone(), &bad_field), BAD_FIELD, "field at {field}");
-            for (of_type, own) in types.iter().enumerate() {
-                for byte in others(*own).chain([7]) {
-                    let both = with(&bad_field, of_type, TYPE, byte);
-                    let told = format!("field at {field}, type {byte} at {of_type}");
-                    assert_eq!(tick_call(&mut net.clone(), &both), BAD_PLACE, "{told}");
+            for bad_field in with_bad_fields(&good, types, field) {
+                assert_eq!(tick_call(&mut net.clone(), &bad_field), BAD_FIELD, "field at {field}");
+                for (of_type, own) in types.iter().enumerate() {
+                    for byte in others(*own).chain([7]) {
+                        let both = with(&bad_field, of_type, TYPE, byte);
+                        let told = format!("field at {field}, type {byte} at {of_type}");
+                        assert_eq!(tick_call(&mut net.clone(), &both), BAD_PLACE, "{told}");
+                    }
                 }
             }
         }
@@ -823,7 +850,7 @@ fn bytes_of_a_list_that_nobody_looks_at() {
         let mut expected = net.clone();
         assert_eq!(tick_call(&mut expected, &good), DONE);
         for place in (0..types.len()).filter(|place| types[*place] != 2) {
-            for at in if types[place] == 0 { 7 } else { 2 }..SAMPLE_LEN {
+            for at in if types[place] == 0 { 8 } else { 2 }..SAMPLE_LEN {
                 for byte in [1, 2, 0x80, 0xFF] {
                     let mut ticked = net.clone();
                     assert_eq!(tick_call(&mut ticked, &with(&good, place, at, byte)), DONE);
@@ -841,7 +868,7 @@ fn list_is_for_the_chain_alone() {
     net[COUNT] = 3;
     assert_eq!(tick_call(&mut net.clone(), &list(&[0; 32])), BAD_LIST);
     let beyond = net[slot(3)..].to_vec();
-    let three = [servo_sample(7, 2, 7), servo_sample(8, 0, 8), servo_sample(9, 1, 9)].concat();
+    let three = [servo_sample(7, 2, 7, 0), servo_sample(8, 0, 8, 0), servo_sample(9, 1, 9, 0)].concat();
     assert_eq!(tick_call(&mut net, &three), DONE);
     assert_eq!(net[slot(3)..], beyond);
 }
@@ -974,7 +1001,7 @@ fn tick_refusals_in_order() {
     spoiled[slot(last) + CAUSE] = 6;
     let good = list(&MIXED);
     let short = |list: &[u8]| list[..list.len() - 1].to_vec();
-    let field_first = with(&good, 0, POWER, 3);
+    let field_first = with(&good, 0, LIMITS, 4);
     let type_last = with(&good, last, TYPE, 7);
     let both = with(&field_first, last, TYPE, 7);
     let lists = [

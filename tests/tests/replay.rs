@@ -45,7 +45,7 @@ fn replay_of_standard_input(bytes: &[u8]) -> String {
 
 fn all_captures() -> Vec<(PathBuf, Capture)> {
     let texts = captures::with_extension("txt");
-    assert!(texts.len() >= 80, "only {} captures found", texts.len());
+    assert!(texts.len() >= 90, "only {} captures found", texts.len());
     let parsed = texts.into_iter().map(|path| {
         let text = fs::read_to_string(&path).expect("a readable text");
         let capture = captures::parse(&text).unwrap_or_else(|told| panic!("{}: {told}", path.display()));
@@ -132,7 +132,7 @@ fn lines_that_say_something_else_than_is_driven_are_told() {
             vec!["line 2: place 1 is not there, or a record cannot be played"],
         ),
         (
-            "module 0\nservo 0 3 00 00000000 # refused\n> bad 2\ndrives 0 00 00 00 00 00 00 00 00",
+            "module 0\nservo 0 3 00 00000000 0 # refused\n> bad 2\ndrives 0 00 00 00 00 00 00 00 00",
             vec!["line 4: place 0 is not there, or a record cannot be played"],
         ),
         (
@@ -241,7 +241,7 @@ fn stepper_command(dice: &mut Dice) -> (u8, Vec<u8>) {
 
 fn servo_command(dice: &mut Dice) -> (u8, Vec<u8>) {
     let low = |dice: &mut Dice| u32::from(dice.byte()).to_le_bytes();
-    let code = dice.pick(&[0, 2, 3, 4, 4, 4, 5, 5, 6, 7, 11, 11, 14]);
+    let code = dice.pick(&[0, 2, 3, 4, 4, 4, 5, 5, 6, 7, 9, 9, 11, 11, 14]);
     let data = match code {
         2 | 3 => dice.bytes(1),
         4 => {
@@ -258,15 +258,20 @@ fn servo_command(dice: &mut Dice) -> (u8, Vec<u8>) {
         }
         6 => vec![0, 1, 0, 1, 0, 0, 0, 0, 255, 0, 0xFF, 0x3F, 1, 0, 1],
         7 => vec![dice.pick(&[1, 2, 5, 9, 6])],
+        9 => vec![dice.pick(&[0x01, 0x02, 0x03, 0x05, 0x11, 0x12, 0x13, 0x21, 0x23, 0x31])],
         _ => Vec::new(),
     };
     (code, data)
 }
 
-/// A good sample: a motor that hardly moves, mostly with power; any inputs; mostly no stop input.
+/// A good sample: a motor that hardly moves, mostly with power, and limit inputs that are often the same; any inputs;
+/// mostly no stop input.
 fn sample_record(dice: &mut Dice, place: u8, module_type: u8) -> Vec<u8> {
     match module_type {
-        0 => vec![2, place, dice.pick(&[0, 1, 1, 1, 1, 2]), dice.byte(), dice.byte(), 0, 0, 0],
+        0 => {
+            let power = dice.pick(&[0, 1, 1, 1, 1, 2]);
+            vec![2, place, power, dice.byte(), dice.byte(), 0, 0, 0, dice.pick(&[0, 0, 0, 1, 2, 3])]
+        }
         2 => [vec![3, place, dice.byte(), dice.byte() & 15], dice.bytes(7)].concat(),
         _ => vec![5, place, u8::from(dice.percent(15))],
     }

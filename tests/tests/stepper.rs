@@ -662,7 +662,7 @@ fn each_stepper_meets_its_own_stop_input() {
     assert_eq!(speeds_of_three(&net), [5; 3], "one frame starts all");
     for (stops, speeds) in [([0, 0, 0], [6; 3]), ([0, 1, 0], [7, 0, 7]), ([1, 0, 0], [0, 0, 8]), ([0, 0, 1], [0; 3])] {
         let [first, second, third] = stops.map(stepper_sample);
-        let list = [first, servo_sample(1, 1, 1), second, io_sample(1, [1; 3], 1), third];
+        let list = [first, servo_sample(1, 1, 1, 0), second, io_sample(1, [1; 3], 1), third];
         assert_eq!(Library.tick(&mut net, &list.concat()), DONE);
         assert_eq!(speeds_of_three(&net), speeds, "stop inputs {stops:?}");
     }
@@ -673,7 +673,7 @@ fn refused_tick_ends_nothing() {
     let mut stepper = Stepper::started(5, NOW, 8, 1);
     stepper.ticks_at(0);
     let before = stepper.net.clone();
-    for list in [&stepper_sample(2)[..], &stepper_sample(255), &servo_sample(0, 1, 0), &[3, 1], &[]] {
+    for list in [&stepper_sample(2)[..], &stepper_sample(255), &servo_sample(0, 1, 0, 0), &[3, 1], &[]] {
         assert_ne!(Library.tick(&mut stepper.net, list), DONE);
         assert_eq!(stepper.net, before);
     }

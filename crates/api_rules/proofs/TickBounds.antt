@@ -1,7 +1,7 @@
 -- Each line of the tick's table at its bounds, and what a tick makes of each place. Assumes nothing.
 use mathlib.Core.Path.{_≡_, refl, sym, ap, ap₂, subst, _∙_}
 use mathlib.Core.List.{List, [], _∷_}
-use mathlib.Core.Bool.{Bool, true, false, not}
+use mathlib.Core.Bool.{Bool, true, false, not, _&&_}
 use mathlib.Core.Option.{Option, some, none, Option·map}
 use Prim.Native.Nat.{ℕ, zero, suc, _+_, _*_, _<_}
 use native.Mathlib.Nat.{add-zero}
@@ -24,6 +24,7 @@ use Rattle.chain_rules.specs.Promises.{handedIn}
 use Rattle.chain_rules.proofs.Timing.{own-sample}
 use Rattle.net_rules.specs.Record.{netIn}
 use Rattle.net_rules.specs.Calls.{tenAt, samplesFor, allTyped, allInRange}
+use Rattle.net_rules.proofs.Tests.{and-true}
 use Rattle.net_rules.proofs.Listed.{sample-at, typed-each, typed-all, range-each, range-all}
 use Rattle.api_rules.specs.Table.{tickTable}
 use Rattle.api_rules.specs.TablePromises.{standsAt, chainLength, Far, TypedAt, TickBounds}
@@ -72,8 +73,8 @@ module _ (samples : List ℕ) (i : ℕ) where
       let first : getD ten 0 0 ≡ rulesOf t .number = byte-of 0 (omega arith) ∙ ap (λ (n : ℕ). getD samples n 0) (add-zero (10 * i)) ∙ e in
       ap (λ (u : ModuleType). every (sampleOf u .codec .tests measuredAt ten)) (type-at (getD ten 0 0) t first)
 
-  servo-test : getD samples (10 * i) 0 ≡ 0 → inRange ten ≡ leb (getD samples (10 * i + 1) 0) 2
-  servo-test e = tested servo e ∙ ap (λ (n : ℕ). leb n 2) (byte-of 1 (omega arith))
+  servo-test : getD samples (10 * i) 0 ≡ 0 → inRange ten ≡ (leb (getD samples (10 * i + 1) 0) 2 && leb (getD samples (10 * i + 7) 0) 3)
+  servo-test e = tested servo e ∙ ap₂ (λ (n k : ℕ). leb n 2 && leb k 3) (byte-of 1 (omega arith)) (byte-of 7 (omega arith))
 
   inout-test : getD samples (10 * i) 0 ≡ 2 → inRange ten ≡ leb (getD samples (10 * i + 2) 0) 15
   inout-test e = tested inout e ∙ ap (λ (n : ℕ). leb n 15) (byte-of 2 (omega arith))
@@ -89,7 +90,11 @@ module _ (net samples : List ℕ) (b : Bytes samples) where
   far-fails : (i : ℕ) → TypedAt net samples i → Far net samples i → allInRange (length chain) samples ≡ true → ⊥
   far-fails i t (Far.power m e h) a =
       let r = range-each (length chain) samples a i (some-below chain i _ e) in
-      let p = leb-true (getD samples (10 * i + 1) 0) 2 (sym (servo-test samples i (t _ e)) ∙ r) in
+      let p = leb-true (getD samples (10 * i + 1) 0) 2 (and-true _ (leb (getD samples (10 * i + 7) 0) 3) (sym (servo-test samples i (t _ e)) ∙ r) .0) in
+      omega arith
+  far-fails i t (Far.limits m e h) a =
+      let r = range-each (length chain) samples a i (some-below chain i _ e) in
+      let p = leb-true (getD samples (10 * i + 7) 0) 3 (and-true (leb (getD samples (10 * i + 1) 0) 2) _ (sym (servo-test samples i (t _ e)) ∙ r) .1) in
       omega arith
   far-fails i t (Far.inputs m e h) a =
       let r = range-each (length chain) samples a i (some-below chain i _ e) in
@@ -110,11 +115,13 @@ module _ (net samples : List ℕ) (b : Bytes samples) where
     where
       by : (x : Option Module) → standsAt net i ≡ x → Is x → inRange (ten samples i) ≡ true
       by none e z = absurd z
-      by (some (servo, m)) e z = servo-test samples i (t _ e) ∙ at (leb (getD samples (10 * i + 1) 0) 2) refl
+      by (some (servo, m)) e z =
+          servo-test samples i (t _ e) ∙ at (leb (getD samples (10 * i + 1) 0) 2) (leb (getD samples (10 * i + 7) 0) 3) refl refl
         where
-          at : (a : Bool) → leb (getD samples (10 * i + 1) 0) 2 ≡ a → a ≡ true
-          at true q = refl
-          at false q = absurd (n (Far.power m e (leb-false _ 2 q)))
+          at : (a b : Bool) → leb (getD samples (10 * i + 1) 0) 2 ≡ a → leb (getD samples (10 * i + 7) 0) 3 ≡ b → (a && b) ≡ true
+          at true true q p = refl
+          at true false q p = absurd (n (Far.limits m e (leb-false _ 3 p)))
+          at false b q p = absurd (n (Far.power m e (leb-false _ 2 q)))
       by (some (inout, m)) e z = inout-test samples i (t _ e) ∙ at (leb (getD samples (10 * i + 2) 0) 15) refl
         where
           at : (a : Bool) → leb (getD samples (10 * i + 2) 0) 15 ≡ a → a ≡ true

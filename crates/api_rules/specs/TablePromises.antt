@@ -67,10 +67,11 @@ pub record LineByte (net : List ℕ) (mark : ℕ) (room : List ℕ) : Type 0 whe
 abbrev pub ByteBounds : Type 0
 ByteBounds = (net : List ℕ) (mark : ℕ) (room : List ℕ) → valid slots net ≡ true → LineByte net mark room
 
--- a field out of range at place i of a tick's list: a servo's power above 2, an I/O module's input bits above 4,095, a step-motor module's stop input
--- above 1
+-- a field out of range at place i of a tick's list: a servo's power above 2 or limit inputs above 3 (02 P8), an I/O module's input bits above 4,095, a
+-- step-motor module's stop input above 1
 pub data Far (net samples : List ℕ) (i : ℕ) : Type 0 where
   power : (m : Of servo) → standsAt net i ≡ some (servo, m) → 3 ≤ getD samples (10 * i + 1) 0 → Far net samples i
+  limits : (m : Of servo) → standsAt net i ≡ some (servo, m) → 4 ≤ getD samples (10 * i + 7) 0 → Far net samples i
   inputs : (m : Of inout) → standsAt net i ≡ some (inout, m) → 4096 ≤ ofLe (readAt 2 (10 * i + 1) samples) → Far net samples i
   stop : (m : Of stepper) → standsAt net i ≡ some (stepper, m) → 2 ≤ getD samples (10 * i + 1) 0 → Far net samples i
 

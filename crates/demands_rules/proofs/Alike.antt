@@ -21,8 +21,9 @@ use Rattle.servo_rules.specs.declared.Sample.{Sample}
 use Rattle.servo_rules.specs.declared.Servo.{Servo}
 use Rattle.servo_rules.specs.State.{position, idled, off}
 use Rattle.servo_rules.specs.Perform.{shifted, resetPosition}
-use Rattle.servo_rules.specs.Tick.{advancedBy, advanced, tripped, pulsed, ticked}
+use Rattle.servo_rules.specs.Tick.{advancedBy, advanced, tripped, pulsed, met, ticked}
 use Rattle.servo_rules.proofs.Ends.{tick-ends}
+use Rattle.servo_rules.proofs.Ticking.{ticks}
 use Rattle.servo_rules.proofs.Keeping.{distinct}
 use Rattle.servo_rules.proofs.Shifting.{Wraps, wraps, whole-shifted}
 use Rattle.servo_slot_rules.specs.Promises.{Fits}
@@ -61,7 +62,7 @@ turned : (a b c d : ℕ) → c ≤ 1 → d ≤ 1 → a + c * 2 ^ 32 ≡ b + d * 
 turned a b c d hc hd e = omega arith
 
 -- what is taken off a position is put on the offset
-put-on : (x raw offset : ℕ) → x < 2 ^ 32 → raw < 2 ^ 32 → offset < 2 ^ 32 → (less x (less raw offset) + raw) % 2 ^ 32 ≡ (x + offset) % 2 ^ 32
+pub put-on : (x raw offset : ℕ) → x < 2 ^ 32 → raw < 2 ^ 32 → offset < 2 ^ 32 → (less x (less raw offset) + raw) % 2 ^ 32 ≡ (x + offset) % 2 ^ 32
 put-on x raw offset hx hr ho =
     let q = wraps raw offset hr ho in
     at (less raw offset) q (less x (less raw offset)) (wraps x (less raw offset) hx (q .small))
@@ -69,16 +70,32 @@ put-on x raw offset hx hr ho =
     at : (q : ℕ) → Wraps raw offset q → (r : ℕ) → Wraps x q r → (r + raw) % 2 ^ 32 ≡ (x + offset) % 2 ^ 32
     at q t r s = turned (r + raw) (x + offset) (t .turns) (s .turns) (t .most) (s .most) (omega (arith, t .sum, s .sum))
 
+-- the position stands at the raw count
+pub raw-back : (m : Servo) → Fits m → encoder m (position m) ≡ m .latched .raw
+raw-back m t = let g = good m t in back (m .latched .raw) (m .counts .offset) (omega (arith, g .latched .1 .1 .0)) (omega (arith, g .counts .0))
+  where
+    back : (raw offset : ℕ) → raw < 2 ^ 32 → offset < 2 ^ 32 → (less raw offset + offset) % 2 ^ 32 ≡ raw
+    back raw offset h k = omega arith
+
+-- the setpoint is where it was on the encoder
+pub shift-place : (m : Servo) → Fits m → encoder (resetPosition m) (whole (resetPosition m .run .profile .setpoint)) ≡ encoder m (whole (m .run .profile .setpoint))
+unfolding resetPosition shifted
+shift-place m t =
+    let g = good m t in
+    let raw : ℕ = m .latched .raw in
+    let s : ℕ = m .run .profile .setpoint in
+    let hs : s < 2 ^ 48 = g .sane .profile .setpoint in
+    ap (λ (w : ℕ). (w + raw) % 2 ^ 32) (whole-shifted s (position m) hs (omega arith))
+    ∙ put-on (whole s) raw (m .counts .offset) (omega arith) (omega (arith, g .latched .1 .1 .0)) (omega (arith, g .counts .0))
+
 pub shift-alike : (m : Servo) → Fits m → Alike m (resetPosition m)
 unfolding resetPosition shifted
 shift-alike m t =
     let g = good m t in
     let raw : ℕ = m .latched .raw in
     let offset : ℕ = m .counts .offset in
-    let hr : raw < 2 ^ 32 = omega (arith, g .latched .1 .1) in
+    let hr : raw < 2 ^ 32 = omega (arith, g .latched .1 .1 .0) in
     let ho : offset < 2 ^ 32 = omega (arith, g .counts .0) in
-    let s : ℕ = m .run .profile .setpoint in
-    let hs : s < 2 ^ 48 = g .sane .profile .setpoint in
     record {
       mode = refl;
       goal = put-on (m .run .profile .goal) raw offset (g .sane .profile .goal) hr ho;
@@ -86,7 +103,7 @@ shift-alike m t =
       acceleration = refl;
       top = refl;
       pulse = refl;
-      held = λ h. ap (λ (w : ℕ). (w + raw) % 2 ^ 32) (whole-shifted s (position m) hs (omega arith)) ∙ put-on (whole s) raw offset (omega arith) hr ho;
+      held = λ h. shift-place m t;
       slower = λ v z. le-refl _;
     }
 
@@ -112,13 +129,13 @@ falls a v = at (leZ v (pos 0)) refl
     at false e = let h = velocity a (pos 0) v .falls e in above-rest v (toward a (pos 0) v) (h .0) (h .1)
 
 -- what a tick's profile keeps, by mode
-record Steps (k : Mode) (p q : Profile) : Type 0 where
-  goal : q .goal ≡ p .goal
-  aim : q .aim ≡ p .aim
-  acceleration : q .acceleration ≡ p .acceleration
-  top : q .top ≡ p .top
-  held : k ≡ Hold → q .setpoint ≡ p .setpoint
-  slower : k ≡ Velocity → p .aim ≡ pos 0 → natAbs (q .speed) ≤ natAbs (p .speed)
+pub record Steps (k : Mode) (p q : Profile) : Type 0 where
+  pub goal : q .goal ≡ p .goal
+  pub aim : q .aim ≡ p .aim
+  pub acceleration : q .acceleration ≡ p .acceleration
+  pub top : q .top ≡ p .top
+  pub held : k ≡ Hold → q .setpoint ≡ p .setpoint
+  pub slower : k ≡ Velocity → p .aim ≡ pos 0 → natAbs (q .speed) ≤ natAbs (p .speed)
 
 stays : (k : Mode) (p : Profile) → Steps k p p
 stays k p = record { goal = refl; aim = refl; acceleration = refl; top = refl; held = λ h. refl; slower = λ v z. le-refl _ }
@@ -146,28 +163,37 @@ steps Trapezoid p = record {
 }
 
 -- what a tick makes of what runs: off, or the same mode with such a profile
-abbrev Goes : Run → Run → Type 0
+abbrev pub Goes : Run → Run → Type 0
 Goes r n = (n .drive .mode ≡ Off) ⊎ ((n .drive .mode ≡ r .drive .mode) × (n .drive .pulse ≡ r .drive .pulse) × Steps (r .drive .mode) (r .profile) (n .profile))
 
-pub tick-alike : (x : Sample) (m : Servo) → (ticked x m .run .drive .mode ≡ Off) ⊎ Alike m (ticked x m)
-unfolding pulsed tripped idled off advanced ticked
-tick-alike x m = by (tick-ends (Goes (m .run)) x m (record {
-  low = λ q. inl refl;
-  off = λ q. inr (refl, refl, stays (m .run .drive .mode) (m .run .profile));
-  pwm = λ q. inr (refl, refl, stays (m .run .drive .mode) (m .run .profile));
-  output = λ s t q. inr (refl, refl, steps (m .run .drive .mode) (m .run .profile));
-  trip = λ q. inl refl;
-}))
+pub tick-goes : (x : Sample) (m : Servo) → Goes (met x m .run) (ticked x m .run)
+unfolding pulsed tripped idled off advanced
+tick-goes x m =
+    let r : Run = met x m .run in
+    tick-ends (Goes r) x m (record {
+      off = λ q. inr (refl, refl, stays (r .drive .mode) (r .profile));
+      pwm = λ q. inr (refl, refl, stays (r .drive .mode) (r .profile));
+      output = λ s t q. inr (refl, refl, steps (r .drive .mode) (r .profile));
+      trip = λ q. inl refl;
+    })
+
+-- a tick leaves the offset
+pub same-offset : (x : Sample) (m : Servo) → ticked x m .counts .offset ≡ m .counts .offset
+same-offset x m = ticks x m .offset
+
+-- where what is met is what ran
+pub tick-alike : (x : Sample) (m : Servo) → met x m .run ≡ m .run → (ticked x m .run .drive .mode ≡ Off) ⊎ Alike m (ticked x m)
+tick-alike x m e = by (subst (λ (r : Run). Goes r (ticked x m .run)) e (tick-goes x m))
   where
     by : Goes (m .run) (ticked x m .run) → (ticked x m .run .drive .mode ≡ Off) ⊎ Alike m (ticked x m)
     by (inl e) = inl e
     by (inr (d, u, s)) = inr (record {
       mode = d;
-      goal = ap (λ (x : ℕ). (x + m .counts .offset) % 2 ^ 32) (s .goal);
+      goal = ap₂ (λ (x y : ℕ). (x + y) % 2 ^ 32) (s .goal) (same-offset x m);
       aim = s .aim;
       acceleration = s .acceleration;
       top = s .top;
       pulse = u;
-      held = λ h. ap (λ (x : ℕ). (whole x + m .counts .offset) % 2 ^ 32) (s .held h);
+      held = λ h. ap₂ (λ (x y : ℕ). (whole x + y) % 2 ^ 32) (s .held h) (same-offset x m);
       slower = s .slower;
     })

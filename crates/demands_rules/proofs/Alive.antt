@@ -26,8 +26,9 @@ use Rattle.servo_rules.specs.Asks.{loadMeant, gainsIn, gainsFit, gainMeant, hal
 use Rattle.servo_rules.specs.State.{idled}
 use Rattle.servo_rules.specs.Loads.{wayOf, loadOf, loaded, complete, startable, signedBy, start}
 use Rattle.servo_rules.specs.Perform.{stopped}
+use Rattle.servo_rules.specs.Homing as Homing
 use Rattle.servo_rules.specs.Tick as Tick
-use Rattle.servo_rules.specs.Tick.{putOut, pulsed, ran}
+use Rattle.servo_rules.specs.Tick.{putOut, pulsed, byPower}
 use Rattle.servo_rules.specs.Answers as Servos
 use Rattle.servo_rules.specs.Answers.{done, statusOf, numbersOf, outputsFrom}
 use Rattle.stepper_rules.specs.Carried as Stepped
@@ -70,7 +71,7 @@ frame address code ds = sent (clean (written address code ds))
 
 -- the samples of a tick: a count of 5 and good power for the servo, and for the I/O module this A/D value
 abbrev measured : ℕ → List AnySample
-measured ad1 = (servo, record { raw = 5; power = 1; ad = 0 }) ∷ (inout, record { inputs = 0; ad1 = ad1; ad2 = 0; ad3 = 0; counter = 0 }) ∷ []
+measured ad1 = (servo, record { raw = 5; power = 1; ad = 0; inputs = 0 }) ∷ (inout, record { inputs = 0; ad1 = ad1; ad2 = 0; ad3 = 0; counter = 0 }) ∷ []
 
 -- and a stop input of 0
 abbrev allMeasured : ℕ → List AnySample
@@ -155,7 +156,7 @@ unfolding ready taken byteStep
 idles = refl
 
 ready-addresses : addresses kind (ready .modules) ≡ wsAll
-unfolding wsAll ws ready taken byteStep asked request execute own StepperAsks.own parametersMeant parametersSet Ramp.ticked Tick.ticked gainMeant gainsFit gainsIn stopMeant ones haltOf stopped
+unfolding wsAll ws ready taken byteStep asked request execute own StepperAsks.own parametersMeant parametersSet Ramp.ticked Homing.changed Homing.homed byPower Tick.met Tick.ticked gainMeant gainsFit gainsIn stopMeant ones haltOf stopped
 ready-addresses = refl
 
 met-by : (i : ℕ) → metBy wsAll i oneByOne ≡ metBy wsAll i inTurns
@@ -217,7 +218,7 @@ in-turns =
     (p, (q, (x, (a, (y, (b, (c, (z, (r, (d, tt))))))))))
 
 lives : Lives (run kind oneByOne ready) × Lives (run kind inTurns ready)
-unfolding ready taken byteStep asked request execute reply replyOf report StepperAsks.own StepperAsks.loadMeant parametersMeant Stepped.carriedIn Stepped.inRange Steps.loaded Steps.storing Steps.loadOf Steps.startable Steps.begun Steps.start parametersSet Ramp.ticked onward changed moved InoutAsks.own blend own gainMeant gainsFit gainsIn stopMeant haltOf loadMeant ones inRange carriedIn loaded loadOf wayOf complete startable signedBy start idled stopped held putOut pulsed ran Tick.ticked done statusOf numbersOf outputsFrom
+unfolding ready taken byteStep asked request execute reply replyOf report StepperAsks.own StepperAsks.loadMeant parametersMeant Stepped.carriedIn Stepped.inRange Steps.loaded Steps.storing Steps.loadOf Steps.startable Steps.begun Steps.start parametersSet Ramp.ticked onward changed moved InoutAsks.own blend own gainMeant gainsFit gainsIn stopMeant haltOf loadMeant ones inRange carriedIn loaded loadOf wayOf complete startable signedBy start idled stopped held putOut pulsed Homing.changed Homing.homed byPower Tick.met Tick.ticked done statusOf numbersOf outputsFrom
 lives = (
   record { servoDrives = refl; inoutDrives = refl; stepperDrives = refl; servoReplied = refl; inoutReplied = refl; stepperReplied = refl },
   record { servoDrives = refl; inoutDrives = refl; stepperDrives = refl; servoReplied = refl; inoutReplied = refl; stepperReplied = refl },
@@ -348,7 +349,7 @@ unfolding allTyped allInRange
 none-done = rw (valid .0, holds-lent) refl
 
 either-side : run kind (sent (noOp 9) ∷ ticked (measured 77) ∷ []) (setUp types) ≡ run kind (ticked (measured 77) ∷ sent (noOp 9) ∷ []) (setUp types)
-unfolding taken byteStep Tick.ticked
+unfolding taken byteStep Homing.changed Homing.homed byPower Tick.met Tick.ticked
 either-side = refl
 
 pub three-cases : ThreeCases lent (setUp types) (measured 77) (measured 78) inputsFar inputsNone (noOp 9)

@@ -74,7 +74,7 @@ tick-goes power h net v one =
     alone (m ∷ k ∷ ms) e = let z : _≡_ {A = Bool} true false = cc in absurd (true≢false z)
 
     fair : allInRange 1 (atPower power) ≡ true
-    fair = ap (λ (t : Bool). t && true) h
+    fair = ap (λ (t : Bool). t && true && true) h
 
 -- the network after calls that are all done
 abbrev pub through : List Call → Net Module → Net Module

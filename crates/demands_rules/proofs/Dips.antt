@@ -22,7 +22,8 @@ use Rattle.servo_rules.specs.Asks.{loadMeant, gainsIn, gainsFit, gainMeant, hal
 use Rattle.servo_rules.specs.State.{idled, off}
 use Rattle.servo_rules.specs.Loads.{wayOf, loadOf, loaded, complete, startable, signedBy, start}
 use Rattle.servo_rules.specs.Perform.{stopped}
-use Rattle.servo_rules.specs.Tick.{putOut, pulsed, ran, ticked}
+use Rattle.servo_rules.specs.Homing.{changed, homed}
+use Rattle.servo_rules.specs.Tick.{putOut, pulsed, byPower, ticked, met}
 use Rattle.servo_rules.specs.Answers as Servos
 use Rattle.servo_rules.specs.Answers.{outputsFrom, enableLine}
 use Rattle.types_rules.specs.Types.{Module}
@@ -36,7 +37,7 @@ use Rattle.demands_rules.proofs.Examples.{lit, types, zeros, lent, set-
 use Rattle.demands_rules.proofs.Dipping.{comes-back, enabled-was-sent}
 
 pub dips : Dips
-unfolding taken byteStep asked request execute ones carriedIn inRange loadMeant gainsIn gainsFit gainMeant haltOf stopMeant own idled off wayOf loadOf loaded complete startable signedBy start stopped held putOut pulsed ran ticked outputsFrom
+unfolding taken byteStep asked request execute ones carriedIn inRange loadMeant gainsIn gainsFit gainMeant haltOf stopMeant own idled off wayOf loadOf loaded complete startable signedBy start stopped held putOut pulsed byPower ticked outputsFrom met homed changed
 dips = (refl, (refl, (refl, (refl, (refl, (refl, (refl, (refl, (refl, (refl, tt))))))))))
 
 -- ---- by calls: at power 1 a Stop with the amplifier bit
@@ -54,11 +55,11 @@ orders-handed : AllHanded cs
 orders-handed = are-handed orders (small (values orders) refl)
 
 stands-on : At (leftBy cs lent) 0 on
-unfolding taken byteStep asked request execute own stopMeant ticked ones
+unfolding taken byteStep asked request execute own stopMeant ticked ones byPower met homed changed
 stands-on = ap (λ (n : Net Module). getElem? (n .modules) 0) (ends-with orders (small (values orders) refl))
 
 line-high : (enableLine on ≡ 1) × (on .latched .power ≡ 1)
-unfolding asked request execute own haltOf stopMeant stopped ran ticked ones outputsFrom
+unfolding asked request execute own haltOf stopMeant stopped byPower ticked ones outputsFrom met homed changed
 line-high = (refl, refl)
 
 -- its enable line is high, so the host has switched it on

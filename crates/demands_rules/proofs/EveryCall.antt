@@ -1,16 +1,20 @@
 -- Demand 1 through the exported calls. Assumes nothing.
-use mathlib.Core.Path.{_≡_, refl, subst}
+use mathlib.Core.Path.{_≡_, refl, sym, subst, _∙_}
 use mathlib.Core.Logic.{_⊎_, inl, inr}
 use mathlib.Core.List.{List}
-use mathlib.Core.Bool.{Bool, false}
+use mathlib.Core.Bool.{Bool, true, false, true≢false}
 use Prim.Native.Nat.{ℕ}
 use Rattle.base_layout.specs.Bytes.{Bytes}
 use Rattle.line_receiver.specs.Frames.{Frame}
+use Rattle.servo_rules.specs.declared.Halt.the-variants.{Abrupt}
+use Rattle.servo_rules.specs.declared.Sample.{Sample}
 use Rattle.servo_rules.specs.declared.Servo.{Servo}
-use Rattle.servo_rules.specs.State.{started}
+use Rattle.servo_rules.specs.State.{servoOff, started}
 use Rattle.servo_rules.specs.Tick.{ticked}
 use Rattle.servo_rules.specs.Answers.{execute}
 use Rattle.servo_rules.specs.RestPromises.{Resting, following}
+use Rattle.servo_rules.specs.HomingPromises.{Acts, HeldHere}
+use Rattle.servo_rules.proofs.FindingHome.{tick-turns-on}
 use Rattle.servo_rules.proofs.AtRest.{stays-resting}
 use Rattle.servo_slot_rules.specs.Promises.{Fits}
 use Rattle.types_rules.specs.Table.{servo}
@@ -54,19 +58,28 @@ command net c i m k h v e q n =
     )
     by _ _ (timed samples _ _) n = absurd (n samples refl)
 
+-- what a tick with the sample x can make of m
+abbrev Onward : Sample → Servo → Servo → Type 0
+Onward x m k =
+    ((Moves m → ⊥) → Moves k → Bound m)
+    × (Bound k → Bound m)
+    × (servoOff (m .run .drive .mode) ≡ true → servoOff (k .run .drive .mode) ≡ false → Acts Abrupt x m × HeldHere k)
+
 tick-call : (net samples : List ℕ) (i : ℕ) (m k : Servo) → Bytes samples → ValidRecord net → At net i m → At (leaves net (tick samples)) i k
-    → ((Moves m → ⊥) → Moves k → Bound m) × (Bound k → Bound m)
+    → Onward (servoSampleAt samples i) m k
 tick-call net samples i m k b v e q =
     let (k′, q′, d) = made servo net (tick samples) i m b v e in
     let z : k′ ≡ k = same-place servo (netIn slots (leaves net (tick samples)) .modules) i k′ k q′ q in
-    subst (λ (k : Servo). ((Moves m → ⊥) → Moves k → Bound m) × (Bound k → Bound m)) z (by k′ d)
+    subst (Onward (servoSampleAt samples i) m) z (by k′ d)
   where
     t : Fits m
     t = fits-at servo net i m v e
 
-    by : (k : Servo) → Made servo net i m (tick samples) k → ((Moves m → ⊥) → Moves k → Bound m) × (Bound k → Bound m)
-    by _ (same c _ _) = (λ n z. absurd (n z), λ b. b)
-    by _ (timed _ _ _) = (ticked-moves (servoSampleAt samples i) m t, ticked-bound (servoSampleAt samples i) m t)
+    by : (k : Servo) → Made servo net i m (tick samples) k → Onward (servoSampleAt samples i) m k
+    by _ (same c _ _) = (λ n z. absurd (n z), λ b. b, λ o n. absurd (true≢false (sym o ∙ n)))
+    by _ (timed _ _ _) =
+        let x : Sample = servoSampleAt samples i in
+        (ticked-moves x m t, ticked-bound x m t, tick-turns-on x m)
 
 pub every-call : EveryCall
 every-call = record {

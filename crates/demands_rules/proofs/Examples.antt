@@ -28,8 +28,10 @@ use Rattle.servo_rules.specs.Carried.{needed, carriedIn, inRange}
 use Rattle.servo_rules.specs.Asks.{loadMeant, haltOf, stopMeant, own}
 use Rattle.servo_rules.specs.State.{started, idled}
 use Rattle.servo_rules.specs.Loads.{wayOf, loadOf, ratesOf, loaded, beginningAt, movable, complete, startable, signedBy, toSpeed, toPlace, start}
-use Rattle.servo_rules.specs.Perform.{holding, stopped}
-use Rattle.servo_rules.specs.Tick.{advanced, servoed, ran, ticked}
+use Rattle.servo_rules.specs.Stops.{holding}
+use Rattle.servo_rules.specs.Perform.{stopped}
+use Rattle.servo_rules.specs.Homing.{changed, homed}
+use Rattle.servo_rules.specs.Tick.{advanced, servoed, byPower, ticked, met}
 use Rattle.servo_rules.specs.Answers.{typeNumber, withCause, execute}
 use Rattle.servo_rules.specs.RestPromises.{following}
 use Rattle.servo_slot_rules.specs.Promises.{Fits}
@@ -67,7 +69,7 @@ undamaged code ds = record { address = 0; code = code; content = ds; damaged = f
 
 -- a servo that has seen power 1 and a Clear Bits: it could start, if a load waited
 abbrev pub lit : Servo
-lit = ticked (record { raw = 0; power = 1; ad = 0 }) started
+lit = ticked (record { raw = 0; power = 1; ad = 0; inputs = 0 }) started
 
 abbrev awake : Servo
 awake = execute (undamaged 11 []) true lit
@@ -109,38 +111,38 @@ awake-fits =
     (kept .tick _ _ ((omega arith, omega arith), (omega arith, omega arith)) (kept .power))
 
 rests : AtRest awake
-unfolding Any.execute Any.request asked own ticked ran distance difference signed
+unfolding Any.execute Any.request asked own ticked byPower distance difference signed met homed changed
 rests = resting-rests awake (record { speed = refl; pulse = refl; aim = λ e. refl; goal = λ e. refl })
 
 -- each of the three begins motion
 pub by-start : Begins (execute pulse true awake) (execute go true (execute pulse true awake))
-unfolding Any.execute Any.request asked own ticked ran loadMeant carriedIn inRange loaded loadOf wayOf startable complete start idled signedBy ones
+unfolding Any.execute Any.request asked own ticked byPower loadMeant carriedIn inRange loaded loadOf wayOf startable complete start idled signedBy ones met homed changed
 by-start = out (moving (still (execute pulse true awake) refl refl) (inr (some-number 99 _ refl)))
 
 pub by-load : Begins awake (execute speed true awake)
-unfolding Any.execute Any.request asked own ticked loadMeant carriedIn inRange loaded loadOf ratesOf wayOf startable complete start toSpeed signedBy ones
+unfolding Any.execute Any.request asked own ticked loadMeant carriedIn inRange loaded loadOf ratesOf wayOf startable complete start toSpeed signedBy ones byPower met homed changed
 by-load = out (bound (rests .1) (inl (refl, some-number 99 _ refl)))
 
 pub by-stop-here : Begins awake (execute here true awake)
-unfolding Any.execute Any.request asked own ticked ran stopMeant haltOf stopped holding difference signed ones
+unfolding Any.execute Any.request asked own ticked byPower stopMeant haltOf stopped holding difference signed ones met homed changed
 by-stop-here =
     let e : following (execute here true awake) ≡ pos 100 = refl in
     put (some-number 99 _ e) (some-number 99 _ e)
 
 pub by-turning-on : Begins awake (execute here true awake)
-unfolding Any.execute Any.request asked own ticked ran stopMeant haltOf stopped holding difference signed ones
+unfolding Any.execute Any.request asked own ticked byPower stopMeant haltOf stopped holding difference signed ones met homed changed
 by-turning-on = turnedOn refl refl (some-number 99 _ refl)
 
 pub starts : Starts speed true awake
 starts = frame-starts speed true awake awake-fits by-load
 
 -- the speed laws of both modes speak of ticks that there are
-pub climbs : (execute speed true awake .run .drive .mode ≡ Velocity) × (ticked (record { raw = 0; power = 1; ad = 0 }) (execute speed true awake) .run .drive .mode ≡ Velocity) × Moves (ticked (record { raw = 0; power = 1; ad = 0 }) (execute speed true awake))
-unfolding Any.execute Any.request asked own ticked ran loadMeant carriedIn inRange loaded loadOf ratesOf wayOf startable complete start beginningAt toSpeed signedBy ones servoed advanced byVelocity stepped moved toward difference signed Filter.held Filter.drive Filter.limited Filter.filtered
+pub climbs : (execute speed true awake .run .drive .mode ≡ Velocity) × (ticked (record { raw = 0; power = 1; ad = 0; inputs = 0 }) (execute speed true awake) .run .drive .mode ≡ Velocity) × Moves (ticked (record { raw = 0; power = 1; ad = 0; inputs = 0 }) (execute speed true awake))
+unfolding Any.execute Any.request asked own ticked byPower loadMeant carriedIn inRange loaded loadOf ratesOf wayOf startable complete start beginningAt toSpeed signedBy ones servoed advanced byVelocity stepped moved toward difference signed Filter.held Filter.drive Filter.limited Filter.filtered met homed changed
 climbs = (refl, refl, inl (some-number 99 _ refl))
 
-pub travels : (execute go true (execute move true awake) .run .drive .mode ≡ Trapezoid) × (ticked (record { raw = 0; power = 1; ad = 0 }) (execute go true (execute move true awake)) .run .drive .mode ≡ Trapezoid)
-unfolding Any.execute Any.request asked own ticked ran loadMeant carriedIn inRange loaded loadOf ratesOf wayOf startable complete movable same start beginningAt toPlace distance difference signed ones servoed advanced byTrapezoid trapezoid stepped moved Filter.held Filter.drive Filter.limited Filter.filtered terms stop pick greatest nextSpeed
+pub travels : (execute go true (execute move true awake) .run .drive .mode ≡ Trapezoid) × (ticked (record { raw = 0; power = 1; ad = 0; inputs = 0 }) (execute go true (execute move true awake)) .run .drive .mode ≡ Trapezoid)
+unfolding Any.execute Any.request asked own ticked byPower loadMeant carriedIn inRange loaded loadOf ratesOf wayOf startable complete movable same start beginningAt toPlace distance difference signed ones servoed advanced byTrapezoid trapezoid stepped moved Filter.held Filter.drive Filter.limited Filter.filtered terms stop pick greatest nextSpeed met homed changed
 travels = (refl, refl)
 
 -- ---- a record of one servo
@@ -218,10 +220,10 @@ abbrev pub calls : List Byte → List Call
 calls orders = tick (atPower 1) ∷ fed room orders
 
 abbrev pub happens : List Byte → List (Event (List AnySample))
-happens orders = Events.ticked ((servo, record { raw = 0; power = 1; ad = 0 }) ∷ []) ∷ sent orders ∷ []
+happens orders = Events.ticked ((servo, record { raw = 0; power = 1; ad = 0; inputs = 0 }) ∷ []) ∷ sent orders ∷ []
 
 -- the list that the tick is handed
-handed-in : samplesFor (netIn slots lent) (atPower 1) ≡ (servo, record { raw = 0; power = 1; ad = 0 }) ∷ []
+handed-in : samplesFor (netIn slots lent) (atPower 1) ≡ (servo, record { raw = 0; power = 1; ad = 0; inputs = 0 }) ∷ []
 unfolding samplesIn
 handed-in = ap (λ (n : Net Module). samplesFor n (atPower 1)) held
 
@@ -274,15 +276,15 @@ abbrev sentOff : Servo
 sentOff = execute go true (execute move true awake)
 
 pub ends-moving : At (leftBy (calls pulseOrders) lent) 0 gone
-unfolding taken byteStep Any.execute Any.request asked own ticked
+unfolding taken byteStep Any.execute Any.request asked own ticked byPower met homed changed
 ends-moving = ends-in pulseOrders pulse-bytes gone refl
 
 pub ends-bound : At (leftBy (calls moveOrders) lent) 0 sentOff
-unfolding taken byteStep Any.execute Any.request asked own ticked loadMeant ones inRange carriedIn loaded
+unfolding taken byteStep Any.execute Any.request asked own ticked loadMeant ones inRange carriedIn loaded byPower met homed changed
 ends-bound = ends-in moveOrders move-bytes sentOff refl
 
 gone-moves : Moves gone
-unfolding Any.execute Any.request asked own ticked loadMeant carriedIn inRange loaded loadOf wayOf startable complete start idled signedBy ones
+unfolding Any.execute Any.request asked own ticked loadMeant carriedIn inRange loaded loadOf wayOf startable complete start idled signedBy ones byPower met homed changed
 gone-moves = inr (some-number 99 _ refl)
 
 started-rests : AtRest started
@@ -295,7 +297,7 @@ was-started =
 
 -- and what it does was sent: the PWM byte, and the position
 gone-pulses : gone .run .drive .mode ≡ Pwm
-unfolding Any.execute Any.request asked own ticked loadMeant carriedIn inRange loaded loadOf wayOf startable complete start idled signedBy ones
+unfolding Any.execute Any.request asked own ticked loadMeant carriedIn inRange loaded loadOf wayOf startable complete start idled signedBy ones byPower met homed changed
 gone-pulses = refl
 
 pub was-sent : PulseSent lent (calls pulseOrders) 0 (length (calls pulseOrders))

@@ -7,6 +7,8 @@ pub mod Making
 pub mod Placing
 pub mod InTime
 pub mod Since
+pub mod EachCall
+pub mod Arming
 pub mod Stepping
 mod Sending
 pub mod Sent
@@ -17,6 +19,7 @@ pub mod Order
 pub mod OnTheLine
 pub mod ServoQuestion
 pub mod Dipping
+pub mod HomingRun
 pub mod Winding
 pub mod Alive
 pub mod Sheet

@@ -20,18 +20,23 @@ use Rattle.servo_motion.proofs.Velocity.{velocity}
 use Rattle.servo_filter.proofs.Held.{held-most}
 use Rattle.servo_filter.proofs.Sizes.{largest, reached}
 use Rattle.servo_filter.proofs.Answers.{only-the-integral}
+use Rattle.servo_rules.specs.declared.Halt.{Halt}
+use Rattle.servo_rules.specs.declared.Halt.the-variants.{Keep, Release, Abrupt, Smooth, Here}
 use Rattle.servo_rules.specs.declared.Mode.{Mode}
 use Rattle.servo_rules.specs.declared.Mode.the-variants.{Off, Pwm, Hold, Velocity, Trapezoid}
 use Rattle.servo_rules.specs.declared.Run.{Run}
 use Rattle.servo_rules.specs.declared.Sample.{Sample}
 use Rattle.servo_rules.specs.declared.Servo.{Servo}
 use Rattle.servo_rules.specs.State.{servoOff, off}
-use Rattle.servo_rules.specs.Tick.{advancedBy, advanced, tripped, pulsed, ticked}
+use Rattle.servo_rules.specs.Loads.{toSpeed}
+use Rattle.servo_rules.specs.Stops.{holding, smooth, haltedBy}
+use Rattle.servo_rules.specs.Tick.{advancedBy, advanced, tripped, pulsed, met, ticked}
 use Rattle.servo_rules.specs.StopPromises.{Released}
 use Rattle.servo_rules.specs.TickPromises.{Ticking, followed}
-use Rattle.servo_rules.proofs.Keeping.{distinct, off-released}
+use Rattle.servo_rules.proofs.Keeping.{either, not-off, distinct, off-released}
+use Rattle.servo_rules.proofs.Meeting.{here, before, met-runs, by-power}
 use Rattle.servo_rules.proofs.Ends.{tick-ends}
-use Rattle.servo_rules.proofs.Ticking.{tripped-released, ticks}
+use Rattle.servo_rules.proofs.Ticking.{tripped-released, met-silent, ticks}
 use Rattle.inout_rules.proofs.Bits.{read-value}
 use Rattle.inout_rules.proofs.Shown.{shown}
 use Rattle.servo_rules.proofs.Shown.{samples}
@@ -46,6 +51,7 @@ use Rattle.stepper_rules.proofs.Ticking.{never-past, ticking}
 use Rattle.types_rules.proofs.Promised.{every-type}
 use Rattle.servo_slot_rules.specs.Promises.{Fits}
 use Rattle.servo_slot_rules.proofs.Good.{InMode, good}
+use Rattle.servo_slot_rules.proofs.Ticks.{met-sane}
 use Rattle.host_rules.proofs.Sent.{sent}
 use Rattle.api_rules.proofs.Status.{status-read}
 use Rattle.types_rules.specs.Types.{kind}
@@ -68,32 +74,36 @@ size-of-speed a top (negsuc d) v = unsigned (nextSpeed a top (suc d) (natAbs v))
     unsigned (suc n) = refl
 
 module _ (x : Sample) (m : Servo) (t : Fits m) where
+  -- what the tick meets
+  abbrev r : Run
+  r = met x m .run
+
   abbrev p : Profile
-  p = m .run .profile
+  p = r .profile
 
   -- the profile's own step, by the mode
-  toward-goal : m .run .drive .mode ≡ Velocity → Toward (p .acceleration) (p .aim) (p .speed) (advanced (m .run) .speed)
+  toward-goal : r .drive .mode ≡ Velocity → Toward (p .acceleration) (p .aim) (p .speed) (advanced r .speed)
   unfolding advanced byVelocity stepped
   toward-goal e =
       subst (λ (k : Mode). Toward (p .acceleration) (p .aim) (p .speed) (advancedBy k p .speed)) (sym e)
       (velocity (p .acceleration) (p .aim) (p .speed))
 
-  greatest-speed : m .run .drive .mode ≡ Trapezoid
-      → Asked (p .acceleration) (p .top) (natAbs (left p)) (natAbs (p .speed)) (natAbs (advanced (m .run) .speed)) × Running (advanced (m .run))
+  greatest-speed : r .drive .mode ≡ Trapezoid
+      → Asked (p .acceleration) (p .top) (natAbs (left p)) (natAbs (p .speed)) (natAbs (advanced r .speed)) × Running (advanced r)
   unfolding advanced byTrapezoid stepped
   greatest-speed e =
-      let s = good m t .sane in
-      let r : Running p = subst (λ (k : Mode). InMode k (m .latched .power) (m .run)) e (s .mode) .2 in
-      let a = next (p .acceleration) (p .top) (natAbs (left p)) (natAbs (p .speed)) (r .stops) in
+      let (power, s) = met-sane (good m t) x in
+      let g : Running p = subst (λ (k : Mode). InMode k power r) e (s .mode) .2 in
+      let a = next (p .acceleration) (p .top) (natAbs (left p)) (natAbs (p .speed)) (g .stops) in
       let w = sym (size-of-speed (p .acceleration) (p .top) (left p) (p .speed)) in
       subst (λ (k : Mode). Asked (p .acceleration) (p .top) (natAbs (left p)) (natAbs (p .speed)) (natAbs (advancedBy k p .speed)) × Running (advancedBy k p))
       (sym e)
-      (subst (Asked (p .acceleration) (p .top) (natAbs (left p)) (natAbs (p .speed))) w a, runs p (s .profile) r)
+      (subst (Asked (p .acceleration) (p .top) (natAbs (left p)) (natAbs (p .speed))) w a, runs p (s .profile) g)
 
   abbrev After : Run → Type 0
   After k =
-      (m .run .drive .mode ≡ Velocity → k .drive .mode ≡ Velocity → Toward (p .acceleration) (p .aim) (p .speed) (k .profile .speed))
-      × (m .run .drive .mode ≡ Trapezoid → k .drive .mode ≡ Trapezoid
+      (r .drive .mode ≡ Velocity → k .drive .mode ≡ Velocity → Toward (p .acceleration) (p .aim) (p .speed) (k .profile .speed))
+      × (r .drive .mode ≡ Trapezoid → k .drive .mode ≡ Trapezoid
       → Asked (p .acceleration) (p .top) (natAbs (left p)) (natAbs (p .speed)) (natAbs (k .profile .speed)) × Running (k .profile))
       × ((m .run .drive .mode ≡ Off → ⊥) → k .drive .mode ≡ Off → Released k)
 
@@ -105,23 +115,43 @@ module _ (x : Sample) (m : Servo) (t : Fits m) where
     λ n q. r,
   )
 
+  -- what goes off by power or homing is off with all that belongs to it
+  met-ended : (m .run .drive .mode ≡ Off → ⊥) → r .drive .mode ≡ Off → Released r
+  unfolding smooth toSpeed holding
+  met-ended n = met-runs x m Ends first (λ h a. by h)
+    where
+      Ends : Run → Type 0
+      Ends s = s .drive .mode ≡ Off → Released s
+
+      first : Ends (before x m)
+      first = by-power Ends (x .power) (m .run) (λ z e. off-released (m .run)) (λ z e. absurd (n e))
+
+      by : (h : Halt) → Ends (haltedBy h (here x m) 0 (before x m))
+      by Keep = first
+      by Release = λ e. off-released (before x m)
+      by Abrupt = λ e. absurd (distinct Hold Off refl e)
+      by Smooth =
+          either Ends (servoOff (before x m .drive .mode)) (off (before x m))
+          (toSpeed (before x m .profile .setpoint) (pos 0) (before x m .profile .acceleration) (before x m))
+          (λ e. off-released (before x m)) (λ e. absurd (distinct Velocity Off refl e))
+      by Here = λ e. absurd (distinct Hold Off refl e)
+
   speeds : Speeds x m p (ticked x m .run .profile)
   unfolding pulsed
   speeds =
       let a : After (ticked x m .run) = tick-ends After x m (record {
-        low = λ q. after-off (off (m .run)) (off-released (m .run));
         off = λ q. (
           λ e z. absurd (distinct Off Velocity refl (sym q ∙ e)),
           λ e z. absurd (distinct Off Trapezoid refl (sym q ∙ e)),
-          λ n z. absurd (n q),
+          λ n z. met-ended n q,
         );
         pwm = λ q. (
           λ e z. absurd (distinct Pwm Velocity refl (sym q ∙ e)),
           λ e z. absurd (distinct Pwm Trapezoid refl (sym q ∙ e)),
-          λ n z. absurd (n z),
+          λ n z. absurd (distinct Pwm Off refl (sym q ∙ z)),
         );
-        output = λ s t q. (λ e z. toward-goal e, λ e z. greatest-speed e, λ n z. absurd (n z));
-        trip = λ q. after-off (tripped (advanced (m .run)) (m .run)) (tripped-released (m .run) .0);
+        output = λ s t q. (λ e z. toward-goal e, λ e z. greatest-speed e, λ n z. absurd (not-off (r .drive .mode) s z));
+        trip = λ q. after-off (tripped (advanced r) r) (tripped-released r .0);
       }) in
       record { velocity = a .0; trapezoid = a .1; off = a .2 }
 
@@ -134,18 +164,15 @@ module _ (x : Sample) (m : Servo) (t : Fits m) where
   unfolding Most
   none-most z e = omega (arith, ap natAbs e)
 
-  served : Ticking x m → (x .power ≡ 1) → servoOff (m .run .drive .mode) ≡ false → Most (ticked x m .run .drive .output)
+  served : Ticking x m → (x .power ≡ 1) → servoOff (r .drive .mode) ≡ false → Most (ticked x m .run .drive .output)
   unfolding Most
   served k w s = at (leb (natAbs (followed x m)) (m .settings .tuning .gains .el)) refl
     where
-      lit : x .power ≡ 0 → ⊥
-      lit z = omega arith
-
       at : (b : Bool) → leb (natAbs (followed x m)) (m .settings .tuning .gains .el) ≡ b → natAbs (ticked x m .run .drive .output) ≤ m .settings .tuning .gains .ol
       at true e =
-          let q = k .runs lit s (leb-true _ _ e) .output w in
+          let q = k .runs s (leb-true _ _ e) .output w in
           subst (λ (z : ℤ). natAbs z ≤ m .settings .tuning .gains .ol) (sym q) (held-most (m .settings .tuning .gains .ol) _)
-      at false e = none-most _ (k .trip lit s (leb-false _ _ e) .0 .output)
+      at false e = none-most _ (k .trip s (leb-false _ _ e) .0 .output)
 
   output-most : natAbs (ticked x m .run .drive .output) ≤ m .settings .tuning .gains .ol
   unfolding Most
@@ -157,19 +184,16 @@ module _ (x : Sample) (m : Servo) (t : Fits m) where
       silent : m .run .drive .mode ≡ Off → m .run .drive .output ≡ pos 0
       silent e = subst (λ (k : Mode). InMode k (m .latched .power) (m .run)) e (good m t .sane .mode) .1
 
-      lit : x .power ≡ 1 → x .power ≡ 0 → ⊥
-      lit w z = omega arith
-
-      mode : x .power ≡ 1 → (j : Mode) → m .run .drive .mode ≡ j → natAbs (ticked x m .run .drive .output) ≤ m .settings .tuning .gains .ol
-      mode w Off e = none-most _ (ap (λ (n : Servo). n .run .drive .output) (k .off (lit w) e) ∙ silent e)
+      mode : x .power ≡ 1 → (j : Mode) → r .drive .mode ≡ j → natAbs (ticked x m .run .drive .output) ≤ m .settings .tuning .gains .ol
+      mode w Off e = none-most _ (ap (λ (n : Servo). n .run .drive .output) (k .off e) ∙ met-silent x m silent e)
       mode w Pwm e =
-          subst (λ (z : ℤ). natAbs z ≤ m .settings .tuning .gains .ol) (sym (k .pulse (lit w) e .4 w)) (held-most (m .settings .tuning .gains .ol) (m .run .drive .pulse))
+          subst (λ (z : ℤ). natAbs z ≤ m .settings .tuning .gains .ol) (sym (k .pulse e .4 w)) (held-most (m .settings .tuning .gains .ol) (r .drive .pulse))
       mode w Hold e = served k w (ap servoOff e)
       mode w Velocity e = served k w (ap servoOff e)
       mode w Trapezoid e = served k w (ap servoOff e)
 
       by : (b : Bool) → eqb (x .power) 1 ≡ b → natAbs (ticked x m .run .drive .output) ≤ m .settings .tuning .gains .ol
-      by true w = mode (eqb-true _ _ w) (m .run .drive .mode) refl
+      by true w = mode (eqb-true _ _ w) (r .drive .mode) refl
       by false w = none-most _ (k .unpowered (eqb-false _ _ w) silent)
 
 pub meaning : Meaning

@@ -21,7 +21,7 @@ use Rattle.module_rules.specs.Rules.{Request, malformed, set, reset, wants}
 use Rattle.servo_rules.specs.declared.Halt.{Halt}
 use Rattle.servo_rules.specs.declared.Halt.the-variants.{Keep, Release, Abrupt, Smooth, Here}
 use Rattle.servo_rules.specs.declared.Order.{Order}
-use Rattle.servo_rules.specs.declared.Order.the-variants.{ResetPosition, LoadTrajectory, Start, SetGain, Stop, ClearBits}
+use Rattle.servo_rules.specs.declared.Order.the-variants.{ResetPosition, LoadTrajectory, Start, SetGain, Stop, SetHoming, ClearBits}
 use Rattle.servo_rules.specs.declared.Mode.{Mode}
 use Rattle.servo_rules.specs.declared.Mode.the-variants.{Off, Pwm, Hold, Velocity, Trapezoid}
 use Rattle.servo_rules.specs.declared.Run.{Run}
@@ -29,8 +29,9 @@ use Rattle.servo_rules.specs.declared.Sample.{Sample}
 use Rattle.servo_rules.specs.declared.Servo.{Servo}
 use Rattle.servo_rules.specs.State.{position, servoOff, withStation, withProfile, idled, off}
 use Rattle.servo_rules.specs.Loads.{loaded, startsNow, start, toSpeed}
-use Rattle.servo_rules.specs.Perform.{resetPosition, shifted, holding, smooth, haltedBy, stopped, can, perform}
-use Rattle.servo_rules.specs.Tick.{advancedBy, advanced, tripped, pulsed, ticked}
+use Rattle.servo_rules.specs.Stops.{holding, smooth, haltedBy}
+use Rattle.servo_rules.specs.Perform.{resetPosition, shifted, stopped, can, perform}
+use Rattle.servo_rules.specs.Tick.{advancedBy, advanced, tripped, pulsed, met, ticked}
 use Rattle.servo_rules.specs.Answers as Answers
 use Rattle.servo_rules.specs.Answers.{request, withCause, execute}
 use Rattle.servo_rules.specs.LoadPromises.{Startable, Starting}
@@ -43,6 +44,8 @@ use Rattle.servo_rules.proofs.Starting.{starts, start-now}
 use Rattle.servo_rules.proofs.Stopping.{stops-now}
 use Rattle.servo_rules.proofs.Shifting.{resets-position}
 use Rattle.servo_rules.proofs.Ends.{tick-ends}
+use Rattle.servo_rules.proofs.Ticking.{ticks}
+use Rattle.servo_rules.proofs.FindingHome.{homing-ticks, Meeting, ran, ended, stands, slows, meeting}
 use Rattle.servo_rules.proofs.AtRest.{stays-resting}
 use Rattle.servo_rules.proofs.Placing.{only-here}
 use Rattle.servo_rules.proofs.TurningOn.{turns-on-here}
@@ -55,7 +58,7 @@ use Rattle.demands_rules.specs.Loaded.{control}
 use Rattle.demands_rules.proofs.Reading.{here-five}
 
 -- the servos that a slot can hold have counts within their bytes
-counted : (m : Servo) → Fits m → Counted m
+pub counted : (m : Servo) → Fits m → Counted m
 counted m t =
     let g = good m t in
     record { profile = g .sane .profile; raw = omega (arith, g .latched .1 .1); last = omega (arith, g .counts .1) }
@@ -151,6 +154,7 @@ StopsHere (LoadTrajectory c) = ⊥
 StopsHere Start = ⊥
 StopsHere (SetGain t) = ⊥
 StopsHere (Stop a h x) = isHere h ≡ true
+StopsHere (SetHoming b) = ⊥
 StopsHere ClearBits = ⊥
 
 abbrev orderIn : Request Order → Order
@@ -217,6 +221,7 @@ module _ (f : Frame) (alone : Bool) (m : Servo) where
           inl (byStart (asks d (v .0) (v .1) q) (starts m .0 t))
       by (SetGain g) o = inr (λ s. s)
       by (Stop a h x) o = inr (λ s. s)
+      by (SetHoming b) o = inr (λ s. s)
       by ClearBits o = inr (λ s. s)
 
   stops-here? : Starts f alone m ⊎ None StopsHere
@@ -234,6 +239,7 @@ module _ (f : Frame) (alone : Bool) (m : Servo) where
       by (Stop a Release x) o = inr false≢true
       by (Stop a Abrupt x) o = inr false≢true
       by (Stop a Smooth x) o = inr false≢true
+      by (SetHoming b) o = inr (λ s. s)
       by ClearBits o = inr (λ s. s)
 
 -- ---- what no other order begins
@@ -283,6 +289,7 @@ order-moves (LoadTrajectory c) m n =
 order-moves Start m n = absurd (n tt)
 order-moves (SetGain t) m n = λ z. z
 order-moves (Stop a h x) m n = halted-moves h (position m) x (m .run)
+order-moves (SetHoming b) m n = λ z. z
 order-moves ClearBits m n = λ z. z
 
 order-bound : (c : Order) (m : Servo) → Counted m → (Starting c → ⊥) → Bound (perform c m) → Bound m
@@ -297,6 +304,7 @@ order-bound (LoadTrajectory c) m k n =
 order-bound Start m k n = absurd (n tt)
 order-bound (SetGain t) m k n = λ b. b
 order-bound (Stop a h x) m k n = halted-bound h (position m) x (m .run)
+order-bound (SetHoming b) m k n = λ b. b
 order-bound ClearBits m k n = λ b. b
 
 -- what neither another station nor Hard Reset nor an order that does not start brings about no frame brings about, unless it starts
@@ -377,6 +385,21 @@ at-goal p r s e =
     let v : byTrapezoid p .speed ≡ pos 0 = ap (λ (z : ℤ). trapezoid (p .acceleration) (p .top) z (p .speed)) e ∙ ap pos h in
     taken p r s ∙ ap₂ _-ℤ_ e v
 
+-- on its way to speed 0 by homing's smooth stop
+slowed-unbound : (x : Sample) (m : Servo) → met x m .run .drive .mode ≡ Velocity → met x m .run .profile .aim ≡ pos 0 → Bound (ticked x m) → ⊥
+unfolding pulsed tripped idled off advanced byVelocity stepped
+slowed-unbound x m k a =
+    tick-ends (λ (n : Run). Aims n → ⊥) x m (record {
+      off = λ q b. distinct Velocity Off refl (sym k ∙ q);
+      pwm = λ q b. distinct Velocity Pwm refl (sym k ∙ q);
+      output = λ s t q b. by b;
+      trip = λ q b. mode-unbound Off refl refl (tripped (advanced (met x m .run)) (met x m .run)) refl b;
+    })
+  where
+    by : Aims (withProfile (advanced (met x m .run)) (met x m .run)) → ⊥
+    by (inl b) = b .1 (ap (λ (k : Mode). advancedBy k (met x m .run .profile) .aim) k ∙ a)
+    by (inr b) = distinct Velocity Trapezoid refl (sym k ∙ b .0)
+
 module _ (x : Sample) (m : Servo) (t : Fits m) where
   advanced-bound : Aims (withProfile (advanced (m .run)) (m .run)) → Bound m
   unfolding advanced byVelocity stepped
@@ -387,14 +410,22 @@ module _ (x : Sample) (m : Servo) (t : Fits m) where
       inr (b .0, λ e. b .1 (ap (λ (k : Mode). left (advancedBy k (m .run .profile))) (b .0) ∙ at-goal (m .run .profile) (s .profile) (i .2) e))
 
   pub ticked-bound : Bound (ticked x m) → Bound m
-  unfolding pulsed tripped idled off
-  ticked-bound = tick-ends (λ (n : Run). Aims n → Bound m) x m (record {
-    low = λ q b. absurd (mode-unbound Off refl refl (off (m .run)) refl b);
-    off = λ q b. b;
-    pwm = λ q b. b;
-    output = λ s t q b. advanced-bound b;
-    trip = λ q b. absurd (mode-unbound Off refl refl (tripped (advanced (m .run)) (m .run)) refl b);
-  })
+  unfolding pulsed tripped idled off toSpeed
+  ticked-bound = by (meeting x m)
+    where
+      on : (r : Run) → met x m .run ≡ r → r ≡ m .run → Bound (ticked x m) → Bound m
+      on r e s = tick-ends (λ (n : Run). Aims n → Bound m) x m (record {
+        off = λ q b. subst Aims (e ∙ s) b;
+        pwm = λ q b. subst Aims (e ∙ s) b;
+        output = λ s′ t q b. advanced-bound (subst (λ (r : Run). Aims (withProfile (advanced r) r)) (e ∙ s) b);
+        trip = λ q b. absurd (mode-unbound Off refl refl (tripped (advanced (met x m .run)) (met x m .run)) refl b);
+      })
+
+      by : Meeting x m → Bound (ticked x m) → Bound m
+      by (ran u e) = on (met x m .run) refl e
+      by (ended e) = λ b. absurd (mode-unbound Off refl refl (ticked x m .run) (ap (λ (n : Servo). n .run .drive .mode) (ticks x m .off e) ∙ e) b)
+      by (stands a) = λ b. absurd (mode-unbound Hold refl refl (ticked x m .run) (homing-ticks x m .holds a .mode) b)
+      by (slows a o e) = λ b. absurd (slowed-unbound x m (ap (λ (r : Run). r .drive .mode) e) (ap (λ (r : Run). r .profile .aim) e) b)
 
   pub ticked-rests : Resting m → Resting (ticked x m)
   ticked-rests r = stays-resting .tick x m (good m t .sane .profile .setpoint) r .0

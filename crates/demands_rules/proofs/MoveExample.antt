@@ -5,9 +5,9 @@ use mathlib.Core.Logic.{_⊎_, inl, inr}
 use mathlib.Core.List.{List, [], _∷_, _++_}
 use mathlib.Core.Bool.{Bool, true, false, not, cond, _&&_, true≢false, false≢true}
 use mathlib.Core.Option.{Option, some, none, Option·map}
-use Prim.Native.Nat.{ℕ, _-_, _^_, _<_, _≤_}
+use Prim.Native.Nat.{ℕ, _-_, _^_, _<_}
 use native.Mathlib.Omega.{arith}
-use borrow.Author.Tests.{leb-true, ltb-true}
+use borrow.Author.Tests.{eqb-true, leb-true, ltb-true}
 use lib.Count.{ones}
 use lib.IntN.{ℤ, pos, negsuc, natAbs}
 use lib.ListN.{length, getElem?}
@@ -30,7 +30,8 @@ use Rattle.servo_rules.specs.Carried.{carriedIn, inRange}
 use Rattle.servo_rules.specs.Asks.{loadMeant, gainsIn, gainsFit, gainMeant, haltOf, stopMeant, own}
 use Rattle.servo_rules.specs.Loads.{wayOf, loadOf, ratesOf, loaded, beginningAt, movable, complete, startable, toPlace, start}
 use Rattle.servo_rules.specs.Perform.{stopped}
-use Rattle.servo_rules.specs.Tick.{advanced, servoed, ran, ticked}
+use Rattle.servo_rules.specs.Homing.{changed, homed}
+use Rattle.servo_rules.specs.Tick.{advanced, servoed, byPower, ticked, met}
 use Rattle.servo_rules.specs.TickPromises.{followed}
 use Rattle.servo_rules.proofs.Keeping.{distinct}
 use Rattle.types_rules.specs.Table.{ModuleType, servo, inout, stepper, Of}
@@ -47,7 +48,7 @@ use Rattle.demands_rules.specs.Motion.{Bound, bound, LoadStarts, CallSta
 use Rattle.demands_rules.specs.Loaded.{control, Has}
 use Rattle.demands_rules.specs.Place.{after}
 use Rattle.demands_rules.specs.ServoPlace.{At, servoSampleAt}
-use Rattle.demands_rules.specs.Quickest.{Disturbs, Undisturbed, SetsOff, OnItsWay}
+use Rattle.demands_rules.specs.Quickest.{Follows, Disturbs, Undisturbed, SetsOff, OnItsWay}
 use Rattle.demands_rules.proofs.Examples.{lit, types, lent, room, valid, lone, enough, calls, happens, are-handed, ends-with}
 use Rattle.demands_rules.proofs.OnTheLine.{areSmall, small, byte-goes}
 use Rattle.demands_rules.proofs.Calls.{any-calls}
@@ -104,14 +105,19 @@ is-calm f e d = by d
         bit (inr (inr (inl h))) n1 n2 n3 n4 = unset _ n3 h
         bit (inr (inr (inr h))) n1 n2 n3 n4 = unset _ n4 h
 
--- a tick would find power and a small error
+-- a tick would find power, a small error and no homing
 abbrev isSteady : Sample → Servo → Bool
-isSteady x m = not (eqb (x .power) 0) && leb (natAbs (followed x m)) (m .settings .tuning .gains .el)
+isSteady x m = not (eqb (x .power) 0) && (leb (natAbs (followed x m)) (m .settings .tuning .gains .el) && eqb (m .homing .byte) 0)
 
-is-steady : (x : Sample) (m : Servo) → isSteady x m ≡ true → (x .power ≡ 0 → ⊥) × (natAbs (followed x m) ≤ m .settings .tuning .gains .el)
+is-steady : (x : Sample) (m : Servo) → isSteady x m ≡ true → Follows x m
+unfolding changed
 is-steady x m e =
-    let (p, q) = and-true (not (eqb (x .power) 0)) _ e in
-    (λ z. false≢true (sym (ap (λ (x : ℕ). not (eqb x 0)) z) ∙ p), leb-true _ _ q)
+    let (p, o) = and-true (not (eqb (x .power) 0)) _ e in
+    let (q, b) = and-true (leb (natAbs (followed x m)) (m .settings .tuning .gains .el)) (eqb (m .homing .byte) 0) o in (
+      λ z. false≢true (sym (ap (λ (x : ℕ). not (eqb x 0)) z) ∙ p),
+      leb-true _ _ q,
+      λ h a. false≢true (ap (λ (b : ℕ). changed b (m .latched .inputs) (x .inputs)) (sym (eqb-true (m .homing .byte) 0 b)) ∙ a .found),
+    )
 
 abbrev leaves-it : Net Module → Call → Bool
 leaves-it n (byte mark x room) = endsSuch (λ f. isCalm (f .code) (control f)) n mark x
@@ -287,7 +293,7 @@ module _ (orders : List Byte) (power x : ℕ) where
 
 -- 2, 4 and sixty-eight times 5 from 0, forth and back
 forth-computed : Facts forth 1 0x05 346 (pos 5)
-unfolding samplesIn taken byteStep Any.execute Any.request asked own ticked loadMeant gainMeant gainsIn gainsFit stopMeant haltOf stopped ones inRange carriedIn loaded loadOf ratesOf wayOf startable complete movable same start beginningAt toPlace distance difference signed servoed advanced byTrapezoid trapezoid stepped moved held drive limited filtered terms stop pick greatest nextSpeed ran
+unfolding samplesIn taken byteStep Any.execute Any.request asked own ticked loadMeant gainMeant gainsIn gainsFit stopMeant haltOf stopped ones inRange carriedIn loaded loadOf ratesOf wayOf startable complete movable same start beginningAt toPlace distance difference signed servoed advanced byTrapezoid trapezoid stepped moved held drive limited filtered terms stop pick greatest nextSpeed byPower met homed changed
 forth-computed = record {
   bytes = refl;
   small-byte = refl;
@@ -304,7 +310,7 @@ forth-computed = record {
 }
 
 back-computed : Facts back 2 0x6E (2 ^ 48 - 346) (negsuc 4)
-unfolding samplesIn taken byteStep Any.execute Any.request asked own ticked loadMeant gainMeant gainsIn gainsFit stopMeant haltOf stopped ones inRange carriedIn loaded loadOf ratesOf wayOf startable complete movable same start beginningAt toPlace distance difference signed servoed advanced byTrapezoid trapezoid stepped moved held drive limited filtered terms stop pick greatest nextSpeed ran
+unfolding samplesIn taken byteStep Any.execute Any.request asked own ticked loadMeant gainMeant gainsIn gainsFit stopMeant haltOf stopped ones inRange carriedIn loaded loadOf ratesOf wayOf startable complete movable same start beginningAt toPlace distance difference signed servoed advanced byTrapezoid trapezoid stepped moved held drive limited filtered terms stop pick greatest nextSpeed byPower met homed changed
 back-computed = record {
   bytes = refl;
   small-byte = refl;

@@ -3,7 +3,6 @@ use mathlib.Core.Path.{_≡_, refl, sym, ap, ap₂, subst, _∙_}
 use mathlib.Core.Logic.{inl, inr, _↔_}
 use mathlib.Core.List.{List}
 use mathlib.Core.Bool.{Bool, true, false, true≢false}
-use mathlib.Core.Option.{some}
 use Prim.Native.Nat.{ℕ, zero, suc, _-_, _*_, _<_, _≤_}
 use native.Mathlib.Omega.{arith}
 use lib.IntN.{pos, natAbs}
@@ -20,19 +19,20 @@ use Rattle.servo_motion.proofs.Near.{near}
 use Rattle.servo_rules.specs.declared.Halt.{Halt}
 use Rattle.servo_rules.specs.declared.Halt.the-variants.{Keep, Release, Abrupt, Smooth, Here}
 use Rattle.servo_rules.specs.declared.Order.{Order}
-use Rattle.servo_rules.specs.declared.Order.the-variants.{ResetPosition, LoadTrajectory, Start, SetGain, Stop, ClearBits}
+use Rattle.servo_rules.specs.declared.Order.the-variants.{ResetPosition, LoadTrajectory, Start, SetGain, Stop, SetHoming, ClearBits}
 use Rattle.servo_rules.specs.declared.Mode.{Mode}
 use Rattle.servo_rules.specs.declared.Mode.the-variants.{Pwm, Velocity, Trapezoid}
 use Rattle.servo_rules.specs.declared.Way.{Way}
 use Rattle.servo_rules.specs.declared.Way.the-variants.{Pulse, Speed, Move}
 use Rattle.servo_rules.specs.declared.Carried.{Carried}
+use Rattle.servo_rules.specs.declared.Run.{Run}
 use Rattle.servo_rules.specs.declared.Sample.{Sample}
 use Rattle.servo_rules.specs.declared.Servo.{Servo}
 use Rattle.servo_rules.specs.Carried.{carriedIn}
 use Rattle.servo_rules.specs.State.{servoOff}
 use Rattle.servo_rules.specs.Loads.{loaded, startsNow, signedBy, start}
 use Rattle.servo_rules.specs.Perform.{stopped, can, perform}
-use Rattle.servo_rules.specs.Tick.{advancedBy, advanced, ticked}
+use Rattle.servo_rules.specs.Tick.{advancedBy, advanced, met, ticked}
 use Rattle.servo_rules.specs.Answers as Answers
 use Rattle.servo_rules.specs.Answers.{done, bitAt, status, request, withCause, execute}
 use Rattle.servo_rules.specs.LoadPromises.{Completes}
@@ -42,6 +42,7 @@ use Rattle.servo_rules.proofs.Signs.{signed-size, signed-zero, signed-itself}
 use Rattle.servo_rules.proofs.Starting.{starts, begins}
 use Rattle.servo_rules.proofs.Completing.{complete}
 use Rattle.servo_rules.proofs.Ticking.{ticks}
+use Rattle.servo_rules.proofs.FindingHome.{homing-ticks}
 use Rattle.servo_rules.proofs.Finishing.{move-done}
 use Rattle.servo_rules.proofs.Reply.{status-bits}
 use Rattle.servo_slot_rules.specs.Promises.{Fits}
@@ -95,6 +96,7 @@ module _ (f : Frame) (calm : Disturbs f → ⊥) (m : Servo) where
   order-keeps Start k = absurd (calm (inr (inr (inl (k .0)))))
   order-keeps (SetGain t) k = refl
   order-keeps (Stop a h x) (c, e, y, l, b, w) = halts c h a x (subst (λ (h : Halt). BitOf h (haltBits (control f))) (sym e) (halt-bits (control f)))
+  order-keeps (SetHoming b) k = refl
   order-keeps ClearBits k = refl
 
   settled-keeps : (q : Request Order) → Known f q → Same m (settled Answers.servo q m)
@@ -112,12 +114,16 @@ stepOf r = (byTrapezoid (r .0), r .1)
 abbrev Moving : Profile × Mode → Type 0
 Moving r = r .1 ≡ Trapezoid
 
--- a tick at power 1 or 2 with the error within EL makes a trapezoid's step
+-- a tick at power 1 or 2 with the error within EL, and without a stop of homing's, makes a trapezoid's step
 tick-steps : (x : Sample) (m : Servo) → Moving (runOf m) → Follows x m → runOf (ticked x m) ≡ stepOf (runOf m)
 unfolding advanced
-tick-steps x m e (p, l) =
-    let r = ticks x m .runs p (ap servoOff e) l in
-    ap₂ (λ (p : Profile) (d : Mode). (p, d)) (r .profile ∙ ap (λ (k : Mode). advancedBy k (m .run .profile)) e) (r .mode)
+tick-steps x m e (p, l, u) =
+    let s = homing-ticks x m .runs u p in
+    let k : met x m .run .drive .mode ≡ Trapezoid = ap (λ (r : Run). r .drive .mode) s ∙ e in
+    let r = ticks x m .runs (ap servoOff k) l in
+    ap₂ (λ (p : Profile) (d : Mode). (p, d))
+    (r .profile ∙ ap advanced s ∙ ap (λ (k : Mode). advancedBy k (m .run .profile)) e)
+    (r .mode ∙ ap (λ (r : Run). r .drive .mode) s)
 
 trapezoid-steps : Steps servo runOf stepOf Disturbs Follows Moving
 trapezoid-steps = record {

@@ -11,6 +11,8 @@ use lib.Dec.{eqb}
 use Rattle.base_integers.specs.Whole.{less}
 use Rattle.line_receiver.specs.Frames.{Frame}
 use Rattle.servo_motion.specs.Setpoint.{whole}
+use Rattle.servo_rules.specs.declared.Halt.{Halt}
+use Rattle.servo_rules.specs.declared.Halt.the-variants.{Abrupt}
 use Rattle.servo_rules.specs.declared.Load.{Load}
 use Rattle.servo_rules.specs.declared.Mode.{Mode}
 use Rattle.servo_rules.specs.declared.Mode.the-variants.{Off, Pwm, Hold, Velocity, Trapezoid}
@@ -22,16 +24,15 @@ use Rattle.servo_rules.specs.Carried.{needed, carriedIn}
 use Rattle.servo_rules.specs.State.{setpointAt, servoOff}
 use Rattle.servo_rules.specs.Loads.{loadOf, signedBy, start}
 use Rattle.servo_rules.specs.LoadPromises.{Movable, Completes}
-use Rattle.servo_rules.specs.StopPromises.{Slows}
 use Rattle.servo_rules.proofs.Keeping.{number, distinct}
 use Rattle.servo_rules.proofs.Starting.{begins}
 use Rattle.servo_slot_rules.specs.Promises.{Fits}
 use Rattle.servo_slot_rules.proofs.Good.{InMode, good}
 use Rattle.types_rules.specs.Table.{servo}
 use Rattle.demands_history_rules.specs.Calls.{Call}
-use Rattle.demands_rules.specs.ServoPlace.{Stands, Executed, Since}
+use Rattle.demands_rules.specs.ServoPlace.{Stands, Executed, Homed, Since}
 use Rattle.demands_rules.specs.Loaded.{Has, itself, byStart}
-use Rattle.demands_rules.specs.Sent.{pulseIn, signedIn, Halts, Drops, encoder, HeldAt, Given, Started, Began, SlowingSent, HoldSent, WasSent, numberIn}
+use Rattle.demands_rules.specs.Sent.{pulseIn, signedIn, Halts, Drops, encoder, HeldAt, Given, Started, Began, SlowingSent, HoldSent, HomingSent, HoldHomed, WasSent, numberIn}
 use Rattle.demands_rules.proofs.Reading.{WayBits, way-bits}
 use Rattle.demands_rules.proofs.Alike.{Alike}
 use Rattle.demands_rules.proofs.Placing as Placing
@@ -49,6 +50,10 @@ Replaces k f = ((f .code ≡ 4) × Has k f) ⊎ (f .code ≡ 15)
 zero-size : (z : ℤ) → natAbs z ≤ 0 → z ≡ pos 0
 zero-size (pos n) h = let e : n ≡ 0 = omega arith in ap pos e
 zero-size (negsuc n) h = absurd (omega arith)
+
+-- the whole part of a setpoint at a position
+pub whole-at : (x : ℕ) → whole (setpointAt x) ≡ x
+whole-at x = omega arith
 
 -- what a whole Load brings stands in its bytes
 module _ (f : Frame) where
@@ -89,6 +94,10 @@ module _ (net : List ℕ) (cs : List Call) (i : ℕ) where
     pulse = λ q. absurd (distinct Off Pwm refl (sym e ∙ q));
     hold = λ q. absurd (distinct Off Hold refl (sym e ∙ q));
   }
+
+  -- from call j on, before call n, no frame was executed here and no stop of homing's acted
+  abbrev Calm : ℕ → ℕ → Type 0
+  Calm j n = ((x : ℕ) (f : Frame) → j ≤ x → x < n → Executed net cs i x f → ⊥) × ((x : ℕ) (h : Halt) → j ≤ x → x < n → Homed net cs i h x → ⊥)
 
   -- one call more, from m to k
   module _ (n : ℕ) (m k : Servo) (stands : Stands net cs i n m) (only : Only net cs i (suc n) k) where
@@ -135,7 +144,7 @@ module _ (net : List ℕ) (cs : List Call) (i : ℕ) where
             let less : natAbs (k .run .profile .speed) ≤ natAbs (m .run .profile .speed) = a .slower q′ z′ in
             let ((s, b), fall) = w .slowing q′ z′ (λ e. y (at-rest e less)) in (
               (s, began-on servo needed Drops net cs i s n k b only (λ f x. x) (λ before m f x. x) (λ before f x. inl q)),
-              λ j r l e none. by j r e (up-to j n l) less fall none,
+              λ j r l e none homed. by j r e (up-to j n l) less (λ j r l e c. fall j r l e (c .0) (c .1)) (none, homed),
             )
           where
             at-rest : m .run .profile .speed ≡ pos 0 → natAbs (k .run .profile .speed) ≤ natAbs (m .run .profile .speed) → k .run .profile .speed ≡ pos 0
@@ -143,15 +152,26 @@ module _ (net : List ℕ) (cs : List Call) (i : ℕ) where
 
             by : (j : ℕ) (r : Servo) → Stands net cs i j r → (j ≤ n) ⊎ (j ≡ suc n)
                 → natAbs (k .run .profile .speed) ≤ natAbs (m .run .profile .speed)
-                → ((j : ℕ) (r : Servo) → j ≤ n → Stands net cs i j r → ((x : ℕ) (f : Frame) → j ≤ x → x < n → Executed net cs i x f → ⊥) → natAbs (m .run .profile .speed) ≤ natAbs (r .run .profile .speed))
-                → ((x : ℕ) (f : Frame) → j ≤ x → x < suc n → Executed net cs i x f → ⊥)
+                → ((j : ℕ) (r : Servo) → j ≤ n → Stands net cs i j r → Calm j n → natAbs (m .run .profile .speed) ≤ natAbs (r .run .profile .speed))
+                → Calm j (suc n)
                 → natAbs (k .run .profile .speed) ≤ natAbs (r .run .profile .speed)
-            by j r e (inl l) less fall none = le-trans less (fall j r l e (λ x f p q z. none x f p (omega arith) z))
-            by j r e (inr l) less fall none =
+            by j r e (inl l) less fall (none, homed) =
+                le-trans less (fall j r l e (λ x f p q z. none x f p (omega arith) z, λ x h p q z. homed x h p (omega arith) z))
+            by j r e (inr l) less fall calm =
                 subst (λ (r : Servo). natAbs (k .run .profile .speed) ≤ natAbs (r .run .profile .speed)) (sym (only r (subst (λ (j : ℕ). Stands net cs i j r) l e))) (le-refl _)
 
-        held : k .run .drive .mode ≡ Hold → m .run .drive .mode ≡ Hold → HoldSent net cs i n → HoldSent net cs i (suc n)
-        held q q′ b = record {
+        held : k .run .drive .mode ≡ Hold → m .run .drive .mode ≡ Hold → HoldSent net cs i n ⊎ HoldHomed net cs i n → HoldSent net cs i (suc n) ⊎ HoldHomed net cs i (suc n)
+        held q q′ (inr b) = inr (record {
+          by = b .by;
+          homed = b .homed;
+          asked = b .asked;
+          sent = b .sent;
+          bit = b .bit;
+          earlier = omega (arith, b .earlier);
+          last = none-on servo net cs i Halts (b .by) n (b .last) h;
+          since = since-on servo net cs i _ (b .by) n k (b .since) only (q, a .held q′ ∙ at-last (b .by) (b .earlier) (b .since) .1);
+        })
+        held q q′ (inl b) = inl (record {
           by = b .by;
           stop = b .stop;
           executed = b .executed;
@@ -161,7 +181,7 @@ module _ (net : List ℕ) (cs : List Call) (i : ℕ) where
           earlier = omega (arith, b .earlier);
           last = none-on servo net cs i Halts (b .by) n (b .last) h;
           since = since-on servo net cs i _ (b .by) n k (b .since) only (q, subst (HeldAt (b .before) (b .stop)) (sym (a .held q′)) (at-last (b .by) (b .earlier) (b .since) .1));
-        }
+        })
 
     -- ---- a frame executed by this call changes the mode
 
@@ -169,15 +189,20 @@ module _ (net : List ℕ) (cs : List Call) (i : ℕ) where
     not-in : (a b : Mode) → eqb (number a) (number b) ≡ false → k .run .drive .mode ≡ a → k .run .drive .mode ≡ b → ⊥
     not-in a b n e q = distinct a b n (sym e ∙ q)
 
-    -- since a frame executed by the last call no speed can have grown
-    pub just-now : (f : Frame) → Executed net cs i n f → (j : ℕ) (r : Servo) → j ≤ suc n → Stands net cs i j r
+    -- since a frame executed by the last call, or a stop of homing's in it, no speed can have grown
+    abbrev Lately : Type 0
+    Lately = ((f : Frame) × Executed net cs i n f) ⊎ ((h : Halt) × Homed net cs i h n)
+
+    pub just-now : Lately → (j : ℕ) (r : Servo) → j ≤ suc n → Stands net cs i j r
         → ((x : ℕ) (f : Frame) → j ≤ x → x < suc n → Executed net cs i x f → ⊥)
+        → ((x : ℕ) (h : Halt) → j ≤ x → x < suc n → Homed net cs i h x → ⊥)
         → natAbs (k .run .profile .speed) ≤ natAbs (r .run .profile .speed)
-    just-now f x j r l e none = at (up-to j n l)
+    just-now lately j r l e none homed = at lately (up-to j n l)
       where
-        at : (j ≤ n) ⊎ (j ≡ suc n) → natAbs (k .run .profile .speed) ≤ natAbs (r .run .profile .speed)
-        at (inl l) = absurd (none n f l (le-refl (suc n)) x)
-        at (inr l) = subst (λ (r : Servo). natAbs (k .run .profile .speed) ≤ natAbs (r .run .profile .speed)) (sym (only r (subst (λ (j : ℕ). Stands net cs i j r) l e))) (le-refl _)
+        at : Lately → (j ≤ n) ⊎ (j ≡ suc n) → natAbs (k .run .profile .speed) ≤ natAbs (r .run .profile .speed)
+        at (inl (f, x)) (inl l) = absurd (none n f l (le-refl (suc n)) x)
+        at (inr (h, x)) (inl l) = absurd (homed n h l (le-refl (suc n)) x)
+        at z (inr l) = subst (λ (r : Servo). natAbs (k .run .profile .speed) ≤ natAbs (r .run .profile .speed)) (sym (only r (subst (λ (j : ℕ). Stands net cs i j r) l e))) (le-refl _)
 
     pub started-by : (f : Frame) → Started net cs i f n → (g : Frame) × Executed net cs i n g
     started-by f (itself x l h) = (f, x)
@@ -237,7 +262,7 @@ module _ (net : List ℕ) (cs : List Call) (i : ℕ) where
           record {
             move = λ q. absurd (not-in Velocity Trapezoid refl mode q);
             speed = λ q z. (n, v, c, gv, gc, begun f st (bits Speed e) (mode, aim, ap (λ (r : Run). r .profile .acceleration) run ∙ b .2 ∙ ec));
-            slowing = λ q a z. ((n, begun f st (bits Speed e .0) (inl mode)), just-now g x);
+            slowing = λ q a z. ((n, begun f st (bits Speed e .0) (inl mode)), just-now (inl (g, x)));
             pulse = λ q. absurd (not-in Velocity Pwm refl mode q);
             hold = λ q. absurd (not-in Velocity Hold refl mode q);
           }
@@ -287,7 +312,7 @@ module _ (net : List ℕ) (cs : List Call) (i : ℕ) where
       speed = λ q z. absurd (not-in Hold Velocity refl mode q);
       slowing = λ q a z. absurd (not-in Hold Velocity refl mode q);
       pulse = λ q. absurd (not-in Hold Pwm refl mode q);
-      hold = λ q. record {
+      hold = λ q. inl (record {
         by = n;
         stop = f;
         executed = e;
@@ -297,34 +322,55 @@ module _ (net : List ℕ) (cs : List Call) (i : ℕ) where
         earlier = le-refl (suc n);
         last = none-yet servo net cs i Halts n;
         since = since-first servo net cs i _ n k only (mode, subst (HeldAt m f) (sym (ap (λ (s : ℕ). encoder k (whole s)) at ∙ ap (encoder k) (whole-at x))) h);
-      };
+      });
     }
-      where
-        whole-at : (x : ℕ) → whole (setpointAt x) ≡ x
-        whole-at x = omega arith
+
+    -- a hold by homing's abrupt stop, at this raw count
+    pub homed-sent : (h : Homed net cs i Abrupt n) (f : Frame) (x : ℕ) → HomingSent net cs i f n → Has 4 f
+        → k .run .drive .mode ≡ Hold → k .run .profile .setpoint ≡ setpointAt x → encoder k x ≡ h .sample .raw → WasSent net cs i (suc n) k
+    homed-sent h f x s b mode at e = record {
+      move = λ q. absurd (not-in Hold Trapezoid refl mode q);
+      speed = λ q z. absurd (not-in Hold Velocity refl mode q);
+      slowing = λ q a z. absurd (not-in Hold Velocity refl mode q);
+      pulse = λ q. absurd (not-in Hold Pwm refl mode q);
+      hold = λ q. inr (record {
+        by = n;
+        homed = h;
+        asked = f;
+        sent = s;
+        bit = b;
+        earlier = le-refl (suc n);
+        last = none-yet servo net cs i Halts n;
+        since = since-first servo net cs i _ n k only (mode, ap (λ (s : ℕ). encoder k (whole s)) at ∙ ap (encoder k) (whole-at x) ∙ e);
+      });
+    }
 
     -- slowed down since some start
     abbrev Slowed : Type 0
     Slowed = (s : ℕ) × Began net cs i s (suc n) (Has 4) (λ before f m. (m .run .drive .mode ≡ Velocity) ⊎ (m .run .drive .mode ≡ Trapezoid))
 
-    -- a smooth stop of a servo that is on
-    pub slow-sent : (f : Frame) → Executed net cs i n f → Fits m → servoOff (m .run .drive .mode) ≡ false → Slows (m .run) (k .run)
+    -- a smooth stop of a servo that is on: it has just now gone to velocity mode with goal speed 0, and its speed's size has not grown
+    pub slow-sent : Lately → Fits m → servoOff (m .run .drive .mode) ≡ false → k .run .drive .mode ≡ Velocity → k .run .profile .aim ≡ pos 0
+        → natAbs (k .run .profile .speed) ≤ natAbs (m .run .profile .speed)
         → WasSent net cs i n m → WasSent net cs i (suc n) k
-    slow-sent f x t on s w = record {
-      move = λ q. absurd (not-in Velocity Trapezoid refl (s .mode) q);
-      speed = λ q z. absurd (z (s .aim));
-      slowing = λ q a z. (at (m .run .drive .mode) refl z, just-now f x);
-      pulse = λ q. absurd (not-in Velocity Pwm refl (s .mode) q);
-      hold = λ q. absurd (not-in Velocity Hold refl (s .mode) q);
+    slow-sent lately t on mode aim less w = record {
+      move = λ q. absurd (not-in Velocity Trapezoid refl mode q);
+      speed = λ q z. absurd (z aim);
+      slowing = λ q a z. (at (m .run .drive .mode) refl z, just-now lately);
+      pulse = λ q. absurd (not-in Velocity Pwm refl mode q);
+      hold = λ q. absurd (not-in Velocity Hold refl mode q);
     }
       where
+        rests : m .run .profile .speed ≡ pos 0 → k .run .profile .speed ≡ pos 0
+        rests e = zero-size (k .run .profile .speed) (subst (λ (z : ℤ). natAbs (k .run .profile .speed) ≤ natAbs z) e less)
+
         from : m .run .drive .mode ≡ Velocity → (k .run .profile .speed ≡ pos 0 → ⊥) → (m .run .profile .aim ≡ pos 0) ⊎ (m .run .profile .aim ≡ pos 0 → ⊥) → Slowed
-        from e z (inl a) = let (y, b) = w .slowing e a (λ q. z (s .speed ∙ q)) .0 in (y, began-on servo needed Drops net cs i y n k b only (λ f x. x) (λ before m f x. x) (λ before f x. inl (s .mode)))
-        from e z (inr a) = let (y, v, c, gv, gc, b) = w .speed e a in (y, began-on servo needed Drops net cs i y n k b only (λ f x. x .0) (λ before m f x. inl (x .0)) (λ before f x. inl (s .mode)))
+        from e z (inl a) = let (y, b) = w .slowing e a (λ q. z (rests q)) .0 in (y, began-on servo needed Drops net cs i y n k b only (λ f x. x) (λ before m f x. x) (λ before f x. inl mode))
+        from e z (inr a) = let (y, v, c, gv, gc, b) = w .speed e a in (y, began-on servo needed Drops net cs i y n k b only (λ f x. x .0) (λ before m f x. inl (x .0)) (λ before f x. inl mode))
 
         at : (d : Mode) → m .run .drive .mode ≡ d → (k .run .profile .speed ≡ pos 0 → ⊥) → Slowed
         at Off e z = absurd (false≢true (sym on ∙ ap servoOff e))
         at Pwm e z = absurd (false≢true (sym on ∙ ap servoOff e))
-        at Hold e z = absurd (z (s .speed ∙ subst (λ (d : Mode). InMode d (m .latched .power) (m .run)) e (good m t .sane .mode) .0))
+        at Hold e z = absurd (z (rests (subst (λ (d : Mode). InMode d (m .latched .power) (m .run)) e (good m t .sane .mode) .0)))
         at Velocity e z = from e z (zero? (m .run .profile .aim))
-        at Trapezoid e z = let (y, v, c, gv, gc, b) = w .move e in (y, began-on servo needed Drops net cs i y n k b only (λ f x. x .0) (λ before m f x. inr (x .0)) (λ before f x. inl (s .mode)))
+        at Trapezoid e z = let (y, v, c, gv, gc, b) = w .move e in (y, began-on servo needed Drops net cs i y n k b only (λ f x. x .0) (λ before m f x. inr (x .0)) (λ before f x. inl mode))

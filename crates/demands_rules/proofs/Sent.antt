@@ -4,14 +4,13 @@ use mathlib.Core.Logic.{_⊎_, inl, inr}
 use mathlib.Core.List.{List}
 use mathlib.Core.Bool.{Bool, true, false, cond, true≢false, false≢true}
 use mathlib.Core.Option.{some, none}
-use Prim.Native.Nat.{ℕ, suc, _+_, _%_, _^_, _<_}
+use Prim.Native.Nat.{ℕ, suc, _≤_}
 use native.Mathlib.Omega.{arith}
-use native.Mathlib.Nat.{le-refl}
-use lib.IntN.{pos}
+use native.Mathlib.Nat.{le-refl, le-of-eq}
+use lib.IntN.{ℤ, pos, natAbs}
 use lib.ListN.{length, getElem?}
 use lib.Dec.{eqb}
 use Rattle.base_integers.specs.Bits.{isSet}
-use Rattle.base_integers.specs.Whole.{less}
 use Rattle.line_receiver.specs.declared.Receiver.{Receiver}
 use Rattle.line_receiver.specs.declared.Answer.the-variants.{Ended}
 use Rattle.line_receiver.specs.Receive.{taken}
@@ -24,10 +23,11 @@ use Rattle.chain_rules.specs.Chain.{addresses, touched}
 use Rattle.servo_rules.specs.declared.Halt.{Halt}
 use Rattle.servo_rules.specs.declared.Halt.the-variants.{Keep, Release, Abrupt, Smooth, Here}
 use Rattle.servo_rules.specs.declared.Order.{Order}
-use Rattle.servo_rules.specs.declared.Order.the-variants.{ResetPosition, LoadTrajectory, Start, SetGain, Stop, ClearBits}
+use Rattle.servo_rules.specs.declared.Order.the-variants.{ResetPosition, LoadTrajectory, Start, SetGain, Stop, SetHoming, ClearBits}
 use Rattle.servo_rules.specs.declared.Mode.{Mode}
 use Rattle.servo_rules.specs.declared.Mode.the-variants.{Off, Pwm, Hold, Velocity, Trapezoid}
 use Rattle.servo_rules.specs.declared.Rates.{Rates}
+use Rattle.servo_rules.specs.declared.Run.{Run}
 use Rattle.servo_rules.specs.declared.Load.{Load}
 use Rattle.servo_rules.specs.declared.Carried.{Carried}
 use Rattle.servo_rules.specs.declared.Sample.{Sample}
@@ -35,17 +35,22 @@ use Rattle.servo_rules.specs.declared.Servo.{Servo}
 use Rattle.servo_rules.specs.Carried.{needed, carriedIn}
 use Rattle.servo_rules.specs.Asks.{haltOf, stopCount}
 use Rattle.servo_rules.specs.State.{position, servoOff, started}
-use Rattle.servo_rules.specs.Loads.{loaded, startsNow, start}
+use Rattle.servo_rules.specs.Loads.{loaded, startsNow, toSpeed, start}
+use Rattle.servo_rules.specs.Homing.{changed, homingHalt}
 use Rattle.servo_rules.specs.Perform.{resetPosition, stopped, can, perform}
-use Rattle.servo_rules.specs.Tick.{ticked}
+use Rattle.servo_rules.specs.Tick.{met, ticked}
 use Rattle.servo_rules.specs.Answers as Answers
 use Rattle.servo_rules.specs.Answers.{request, withCause, execute}
-use Rattle.servo_rules.proofs.Known.{Known, known, BitOf, haltBits, halt-bits}
+use Rattle.servo_rules.specs.HomingPromises.{Acts, Unstopped}
+use Rattle.servo_rules.proofs.Known.{spared as codeSpared, Known, known, BitOf, haltBits, halt-bits}
 use Rattle.servo_rules.proofs.Keeping.{by-test}
 use Rattle.servo_rules.proofs.Starting.{starts, start-now}
 use Rattle.servo_rules.proofs.Completing.{complete}
 use Rattle.servo_rules.proofs.Loading.{loads}
 use Rattle.servo_rules.proofs.Stopping.{stops}
+use Rattle.servo_rules.proofs.Meeting.{distinct as halts-differ}
+use Rattle.servo_rules.proofs.Ticking.{ticks}
+use Rattle.servo_rules.proofs.FindingHome.{homing-ticks, Meeting, ran, ended, stands as stands-by, slows, meeting}
 use Rattle.servo_slot_rules.specs.Promises.{Fits}
 use Rattle.servo_slot_rules.proofs.Good.{InMode, good}
 use Rattle.types_rules.specs.Table.{servo}
@@ -56,19 +61,21 @@ use Rattle.api_rules.specs.Table.{byteTable}
 use Rattle.api_rules.specs.Calls.{setupRecord}
 use Rattle.api_rules.specs.Promises.{ValidRecord, Passes}
 use Rattle.api_rules.proofs.Kept.{kept}
-use Rattle.demands_history_rules.specs.Calls.{Call, byte, tick}
+use Rattle.demands_history_rules.specs.Calls.{Call, byte, tick, AllHanded}
+use Rattle.demands_history_rules.proofs.Events.{below}
 use Rattle.demands_rules.specs.Motion.{Moves}
 use Rattle.demands_rules.specs.Question.{IsStart}
 use Rattle.demands_rules.specs.Place.{after}
-use Rattle.demands_rules.specs.ServoPlace.{servoSampleAt, Stands, Executed}
+use Rattle.demands_rules.specs.ServoPlace.{servoSampleAt, Stands, Executed, Ticked, Homed}
 use Rattle.demands_rules.specs.Loaded.{control, Has, Lacks, itself, byStart}
 use Rattle.demands_rules.specs.Sent.{WholeLoad, Halts, Drops, encoder, Loaded, Given, WasSent, WhatMovesWasSent, numberIn}
 use Rattle.demands_rules.proofs.Reading.{spares, not-keep, keep-spares}
-use Rattle.demands_rules.proofs.Alike.{Alike, alike, shift-alike, tick-alike}
+use Rattle.demands_rules.proofs.Alike.{Alike, alike, raw-back, shift-alike, Goes, tick-goes, tick-alike}
 use Rattle.demands_rules.proofs.Making.{fits-at, Silent, Made, same, framed, timed, set-up-is}
 use Rattle.demands_rules.proofs.Placing.{valid-after, untouched, stood-before, executed-by, Carries, carried}
 use Rattle.demands_rules.proofs.Since.{none-yet, loaded-on}
-use Rattle.demands_rules.proofs.Sending.{Only, Replaces, brought, off-sent, alike-sent, start-sent, hold-sent, slow-sent}
+use Rattle.demands_rules.proofs.Arming.{Armed, armed-on, started-armed}
+use Rattle.demands_rules.proofs.Sending.{Only, Replaces, brought, off-sent, alike-sent, start-sent, hold-sent, homed-sent, slow-sent}
 
 -- what takes a number's place drops a waiting load too
 replaces-drops : (k : ℕ) (f : Frame) → Replaces k f → Drops f
@@ -93,6 +100,17 @@ caused-alike m k c a = record {
   slower = a .slower;
 }
 
+-- a byte that asks for an abrupt stop has bit 4
+abrupt-bit : (b : ℕ) → homingHalt b ≡ Abrupt → isSet 4 b ≡ true
+unfolding homingHalt
+abrupt-bit b = at (isSet 2 b) (isSet 4 b) (isSet 5 b)
+  where
+    at : (a c d : Bool) → cond a Release (cond c Abrupt (cond d Smooth Keep)) ≡ Abrupt → c ≡ true
+    at true c d e = absurd (halts-differ Release Abrupt refl e)
+    at false true d e = refl
+    at false false true e = absurd (halts-differ Smooth Abrupt refl e)
+    at false false false e = absurd (halts-differ Keep Abrupt refl e)
+
 -- the numbers that a Load's bits 1 and 2 announce
 velocity-is : (f : Frame) → Has 1 f → carriedIn (f .content) .velocity ≡ numberIn 1 f
 unfolding carriedIn
@@ -101,10 +119,6 @@ velocity-is f h = ap (λ (t : Bool). cond t (numberIn 1 f) 0) h
 acceleration-is : (f : Frame) → Has 2 f → carriedIn (f .content) .acceleration ≡ numberIn 2 f
 unfolding carriedIn
 acceleration-is f h = ap (λ (t : Bool). cond t (numberIn 2 f) 0) h
-
--- the raw count, from the position that is less by the offset
-back : (raw offset : ℕ) → raw < 2 ^ 32 → offset < 2 ^ 32 → (less raw offset + offset) % 2 ^ 32 ≡ raw
-back raw offset h k = omega arith
 
 module _ (net : List ℕ) (cs : List Call) (i : ℕ) where
   -- the number was loaded by the last Load among the first n calls that carried it
@@ -234,9 +248,6 @@ module _ (net : List ℕ) (cs : List Call) (i : ℕ) where
         unfolding stopped
         counts-kept h y = refl
 
-        raw-back : encoder m (position m) ≡ m .latched .raw
-        raw-back = let g = good m t in back (m .latched .raw) (m .counts .offset) (omega (arith, g .latched .1 .1)) (omega (arith, g .counts .0))
-
         stop-told : (h : Halt) → h ≡ haltOf (control f) → x ≡ numberIn 0 f → length (f .content) ≡ stopCount (control f)
             → Only net cs i (suc n) (withCause 0 (stopped a h x m)) → Told (suc n) (withCause 0 (stopped a h x m))
         stop-told h e y len o = at h (subst (λ (h : Halt). BitOf h (haltBits (control f))) (sym e) (halt-bits (control f))) o
@@ -246,14 +257,16 @@ module _ (net : List ℕ) (cs : List Call) (i : ℕ) where
 
             smooth : (d : Bool) → servoOff (m .run .drive .mode) ≡ d → Only net cs i (suc n) (withCause 0 (stopped a Smooth x m)) → WasSent net cs i (suc n) (withCause 0 (stopped a Smooth x m))
             smooth true q o = off-sent net cs i (suc n) _ (stops a x m .slowOff q .mode)
-            smooth false q o = slow-sent net cs i n m _ stands o f exec t q (stops a x m .slow q) (told .sent)
+            smooth false q o =
+                let s = stops a x m .slow q in
+                slow-sent net cs i n m _ stands o (inl (f, exec)) t q (s .mode) (s .aim) (le-of-eq (ap natAbs (s .speed))) (told .sent)
 
             at : (h : Halt) → BitOf h (haltBits (control f))
                 → Only net cs i (suc n) (withCause 0 (stopped a h x m)) → Told (suc n) (withCause 0 (stopped a h x m))
             at Keep b o = keep-told (keep-spares f code b) o
             at Release b o = dropped-by Release (not-keep Release refl) (off-sent net cs i (suc n) _ (stops a x m .release .mode))
             at Abrupt b o = dropped-by Abrupt (not-keep Abrupt refl)
-                (hold-sent net cs i n m _ stands o f (position m) exec code (stops a x m .abrupt .mode) (stops a x m .abrupt .setpoint) (inl (b, counts-kept Abrupt (position m) ∙ raw-back)))
+                (hold-sent net cs i n m _ stands o f (position m) exec code (stops a x m .abrupt .mode) (stops a x m .abrupt .setpoint) (inl (b, counts-kept Abrupt (position m) ∙ raw-back m t)))
             at Smooth b o = dropped-by Smooth (not-keep Smooth refl) (smooth (servoOff (m .run .drive .mode)) refl o)
             at Here b o = dropped-by Here (not-keep Here refl)
                 (hold-sent net cs i n m _ stands o f x exec code (stops a x m .here .mode) (stops a x m .here .setpoint) (inr (b, len ∙ ap (λ (t : Bool). cond t 5 1) b, counts-kept Here x ∙ ap (encoder m) y)))
@@ -284,6 +297,8 @@ module _ (net : List ℕ) (cs : List Call) (i : ℕ) where
       order-told (SetGain g) k q d o =
           alike-told (withCause 0 (perform (SetGain g) m)) o refl refl (spared Drops (spares f k)) (alike m (withCause 0 (perform (SetGain g) m)) refl refl refl refl)
       order-told (Stop a h x) (c, e, y, l, b, w) q d o = stop-told a x c h e y l o
+      order-told (SetHoming b) k q d o =
+          alike-told (withCause 0 (perform (SetHoming b) m)) o refl refl (spared Drops (spares f (ap codeSpared (k .0)))) (alike m (withCause 0 (perform (SetHoming b) m)) refl refl refl refl)
       order-told ClearBits k q d o =
           alike-told (withCause 0 (perform ClearBits m)) o refl refl (spared Drops (spares f k)) (alike m (withCause 0 (perform ClearBits m)) refl refl refl refl)
 
@@ -354,18 +369,73 @@ module _ (net : List ℕ) (cs : List Call) (i : ℕ) where
           subst (Told (suc n)) (sym q)
           (settled-told alone e (request ending alone) (known ending alone) (subst (Stands net cs i (suc n)) q st) (subst (Only net cs i (suc n)) q o))
 
-    made-told : (c : Call) (k : Servo) → getElem? cs n ≡ some c → Made servo (after net cs i n) i m c k → Stands net cs i (suc n) k → Only net cs i (suc n) k → Told (suc n) k
-    unfolding ticked
-    made-told _ _ e (same c s _) st o = idle-told m o (silent-none c e s) refl refl (inr (alike m m refl refl refl refl))
-    made-told _ _ e (framed mark x room d goes a u) st o = framed-told mark x room e goes u d _ a st o
-    made-told _ _ e (timed samples _ _) st o =
-        let x : Sample = servoSampleAt samples i in
-        idle-told (ticked x m) o (silent-none (tick samples) e tt) refl refl (tick-alike x m)
+    -- a tick: what it meets ran before, has ended, is held or slowed down by homing
+    tick-told : (x : Sample) → Fits (ticked x m) → Ticked net cs i n x → Armed net cs i n m → Only net cs i (suc n) (ticked x m)
+        → ((g : Frame) → Executed net cs i n g → ⊥) → Told (suc n) (ticked x m)
+    unfolding toSpeed changed
+    tick-told x t′ tk armed o still = by (meeting x m)
+      where
+        rates : ticked x m .settings .rates ≡ m .settings .rates
+        rates = ticks x m .rates
+
+        homed : (h : Halt) → Acts h x m → Homed net cs i h n
+        homed h a = record { sample = x; ticked = tk; before = m; stood = stands; acts = a }
+
+        -- where homing's stop has dropped the load
+        drops : (h : Halt) → Acts h x m → WasSent net cs i (suc n) (ticked x m) → Told (suc n) (ticked x m)
+        drops h a = drop-told (ticked x m) rates (ap (λ (l : Load). l .waits) (homing-ticks x m .drops h a)) (λ b g z. absurd (still g z))
+
+        off-told : WasSent net cs i (suc n) (ticked x m) → ((h : Halt) × Acts h x m) ⊎ Unstopped x m → Told (suc n) (ticked x m)
+        off-told s (inl (h, a)) = drops h a s
+        off-told s (inr u) = quiet-told (ticked x m) o rates (homing-ticks x m .load u) (λ g z d. still g z) s
+
+        -- homing in progress has a byte
+        searching : Acts Abrupt x m → m .homing .byte ≡ 0 → ⊥
+        searching a z = true≢false (sym (a .found) ∙ ap (λ (b : ℕ). changed b (m .latched .inputs) (x .inputs)) z)
+
+        abrupt : Acts Abrupt x m → WasSent net cs i (suc n) (ticked x m)
+        abrupt a =
+            let (f, c, s) = armed (searching a) in
+            let g = homing-ticks x m .holds a in
+            homed-sent net cs i n m (ticked x m) stands o (homed Abrupt a) f (position (ticked x m)) s (abrupt-bit (control f) (ap homingHalt c ∙ a .asked))
+            (g .mode) (g .setpoint) (raw-back (ticked x m) t′ ∙ ap (λ (y : Sample). y .raw) (ticks x m .latched))
+
+        -- after a smooth stop: off, or slower toward speed 0
+        smooth : Acts Smooth x m → servoOff (m .run .drive .mode) ≡ false
+            → met x m .run ≡ toSpeed (m .run .profile .setpoint) (pos 0) (m .run .profile .acceleration) (m .run)
+            → Goes (met x m .run) (ticked x m .run) → WasSent net cs i (suc n) (ticked x m)
+        smooth a on e (inl z) = off-sent net cs i (suc n) (ticked x m) z
+        smooth a on e (inr (d, u, q)) =
+            let v : met x m .run .drive .mode ≡ Velocity = ap (λ (r : Run). r .drive .mode) e in
+            let z : met x m .run .profile .aim ≡ pos 0 = ap (λ (r : Run). r .profile .aim) e in
+            slow-sent net cs i n m (ticked x m) stands o (inr (Smooth, homed Smooth a)) t on (d ∙ v) (q .aim ∙ z)
+            (subst (λ (w : ℤ). natAbs (ticked x m .run .profile .speed) ≤ natAbs w) (ap (λ (r : Run). r .profile .speed) e) (q .slower v z)) (told .sent)
+
+        by : Meeting x m → Told (suc n) (ticked x m)
+        by (ran u e) = idle-told (ticked x m) o still rates (homing-ticks x m .load u) (tick-alike x m e)
+        by (ended e) = off-told (off-sent net cs i (suc n) (ticked x m) (ap (λ (k : Servo). k .run .drive .mode) (ticks x m .off e) ∙ e)) (homing-ticks x m .either)
+        by (stands-by a) = drops Abrupt a (abrupt a)
+        by (slows a on e) = drops Smooth a (smooth a on e (tick-goes x m))
+
+    made-told : (c : Call) (k : Servo) → getElem? cs n ≡ some c → Made servo (after net cs i n) i m c k → Stands net cs i (suc n) k → Only net cs i (suc n) k
+        → Fits k → Armed net cs i n m → Told (suc n) k
+    made-told _ _ e (same c s _) st o t′ armed = idle-told m o (silent-none c e s) refl refl (inr (alike m m refl refl refl refl))
+    made-told _ _ e (framed mark x room d goes a u) st o t′ armed = framed-told mark x room e goes u d _ a st o
+    made-told _ _ e (timed samples q _) st o t′ armed =
+        tick-told (servoSampleAt samples i) t′ (record { samples = samples; call = e; done = q; own = refl }) armed o (silent-none (tick samples) e tt)
 
 -- ---- through any calls
 
-told-on : (net : List ℕ) (cs : List Call) (i : ℕ) → Carries servo net cs i (Told net cs i)
-told-on net cs i n c m k g w st d st′ o told = made-told net cs i n m st (fits-at servo (after net cs i n) i m w st) told c k g d st′ o
+-- what was sent, and which Set Homing
+abbrev Both : List ℕ → List Call → ℕ → ℕ → Servo → Type 0
+Both net cs i n m = Told net cs i n m × Armed net cs i n m
+
+told-on : (net : List ℕ) (cs : List Call) (i : ℕ) → ValidRecord net → AllHanded cs → Carries servo net cs i (Both net cs i)
+told-on net cs i v h n c m k g w st d st′ o (told, armed) = (
+  made-told net cs i n m st (fits-at servo (after net cs i n) i m w st) told c k g d st′ o
+      (fits-at servo (after net cs i (suc n)) i k (valid-after net cs i (suc n) v h (below cs n c g)) st′) armed,
+  armed-on net cs i v h n c m k g w st d st′ o armed,
+)
 
 -- at power-up nothing was sent
 started-told : (net : List ℕ) (cs : List Call) (i : ℕ) → Told net cs i 0 started
@@ -396,5 +466,6 @@ what-moves-was-sent net types cs i n k p h l e =
     let r : List ℕ = setupRecord net types in
     let v : ValidRecord r = kept .setup net types p in
     let (s, q) = stood-before servo r cs i n k v h l e in
-    let told = carried servo r cs i (Told r cs i) v h (told-on r cs i) s q (subst (Told r cs i 0) (set-up-is servo net types i s p q) (started-told r cs i)) n l k e in
+    let first = subst (Both r cs i 0) (set-up-is servo net types i s p q) (started-told r cs i, started-armed r cs i) in
+    let (told, armed) = carried servo r cs i (Both r cs i) v h (told-on r cs i v h) s q first n l k e in
     (in-motion k (fits-at servo (after r cs i n) i k (valid-after r cs i n v h l) e), told .sent)

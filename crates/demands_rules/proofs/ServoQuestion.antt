@@ -1,8 +1,11 @@
 -- The mill's question of a servo. Assumes nothing.
 use mathlib.Core.Path.{_≡_, refl, ap, _∙_}
 use mathlib.Core.Bool.{Bool, false, _&&_, and-false}
-use mathlib.Core.Logic.{inl, inr}
+use mathlib.Core.Logic.{_⊎_, inl, inr}
+use Rattle.servo_rules.specs.declared.Halt.{Halt}
 use Rattle.servo_rules.specs.declared.Halt.the-variants.{Here}
+use Rattle.servo_rules.specs.declared.Load.{Load}
+use Rattle.servo_rules.specs.declared.Sample.{Sample}
 use Rattle.servo_rules.specs.declared.Order.the-variants.{LoadTrajectory, Start, Stop}
 use Rattle.servo_rules.specs.declared.Servo.{Servo}
 use Rattle.servo_rules.specs.Carried.{needed}
@@ -11,6 +14,8 @@ use Rattle.servo_rules.specs.Loads.{complete, startable, loaded}
 use Rattle.servo_rules.specs.Perform.{perform}
 use Rattle.servo_rules.specs.Tick.{ticked}
 use Rattle.servo_rules.specs.Answers.{withCause, execute}
+use Rattle.servo_rules.specs.HomingPromises.{Acts, Unstopped}
+use Rattle.servo_rules.proofs.FindingHome.{homing-ticks}
 use Rattle.servo_rules.proofs.Starting.{starts, start-now, twice as twice-from}
 use Rattle.servo_rules.proofs.Stopping.{stops, stops-now}
 use Rattle.types_rules.specs.Table.{servo}
@@ -32,15 +37,18 @@ unready m (inr e) =
 
 -- what a servo hands in
 loads : Loading servo needed NoneReady NoLoad
-unfolding ticked
 loads = record {
   start = Start;
   miscounted = short-asks;
   asks = start-asks;
   unready = unready;
   none = λ m e. inl e;
-  tick = λ x m e. e;
+  tick = λ x m e. by x m e (homing-ticks x m .either);
 }
+  where
+    by : (x : Sample) (m : Servo) → NoLoad m → ((h : Halt) × Acts h x m) ⊎ Unstopped x m → NoLoad (ticked x m)
+    by x m e (inl (h, a)) = ap (λ (l : Load). l .waits) (homing-ticks x m .drops h a)
+    by x m e (inr u) = ap (λ (l : Load). l .waits) (homing-ticks x m .load u) ∙ e
 
 pub missed-tells : MissedTells
 missed-tells = Any.missed-tells servo needed NoneReady NoLoad loads

@@ -18,7 +18,8 @@ use Rattle.chain_rules.specs.Chain.{Net, addresses, touched, byteStep}
 use Rattle.servo_rules.specs.Carried.{needed}
 use Rattle.servo_rules.specs.Asks.{loadMeant, own}
 use Rattle.servo_rules.specs.State.{started}
-use Rattle.servo_rules.specs.Tick.{ran, ticked}
+use Rattle.servo_rules.specs.Homing.{changed, homed}
+use Rattle.servo_rules.specs.Tick.{byPower, ticked, met}
 use Rattle.servo_rules.specs.Answers.{withCause}
 use Rattle.types_rules.specs.Types.{Module, kind, slots}
 use Rattle.net_rules.specs.Record.{netIn}
@@ -71,7 +72,7 @@ cs = spread 0 room line
 
 -- the Start ends with call 32, and all that ends before it is the short load
 quiet : allPass ends 32 cs (setUp types) ≡ true
-unfolding samplesIn taken byteStep Any.execute Any.request asked own loadMeant ticked ran ones
+unfolding samplesIn taken byteStep Any.execute Any.request asked own loadMeant ticked byPower ones met homed changed
 quiet = refl
 
 abbrev go : Frame
@@ -85,7 +86,7 @@ before-start =
 reads-go : (frameIn (through (spread 0 room (take 16 line)) (setUp types) .receiver) false ≡ go)
     × (taken (through (spread 0 room (take 16 line)) (setUp types) .receiver) 5 false .answer ≡ Ended false)
     × (touched true 0 (addresses kind (through (spread 0 room (take 16 line)) (setUp types) .modules)) 0 ≡ true)
-unfolding samplesIn taken byteStep Any.execute Any.request asked own loadMeant ticked ran ones
+unfolding samplesIn taken byteStep Any.execute Any.request asked own loadMeant ticked byPower ones met homed changed
 reads-go = (refl, refl, refl)
 
 start-touches : Touched lent cs 0 32 go

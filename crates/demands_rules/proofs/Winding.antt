@@ -20,8 +20,10 @@ use Rattle.servo_rules.specs.Carried.{carriedIn, inRange}
 use Rattle.servo_rules.specs.Asks.{loadMeant, gainsIn, gainsFit, gainMeant, haltOf, stopMeant, own}
 use Rattle.servo_rules.specs.State.{idled, off}
 use Rattle.servo_rules.specs.Loads.{wayOf, loadOf, loaded, complete, startable, signedBy, start}
-use Rattle.servo_rules.specs.Perform.{shifted, resetPosition, holding, stopped}
-use Rattle.servo_rules.specs.Tick.{advanced, putOut, servoed, pulsed, ran, ticked}
+use Rattle.servo_rules.specs.Stops.{holding}
+use Rattle.servo_rules.specs.Perform.{shifted, resetPosition, stopped}
+use Rattle.servo_rules.specs.Homing.{changed, homed}
+use Rattle.servo_rules.specs.Tick.{advanced, putOut, servoed, pulsed, byPower, ticked, met}
 use Rattle.servo_rules.specs.Answers.{done, statusOf, numbersOf, outputsFrom}
 use Rattle.servo_rules.specs.CutPromises.{Blanks}
 use Rattle.servo_rules.proofs.Remembering.{remembers}
@@ -55,13 +57,13 @@ winds-up-no-more net cs i m k v h e q cut kept =
 -- ---- computed
 
 pub blocked : Blocked
-unfolding taken byteStep asked request execute report reply replyOf ones gainsIn gainsFit gainMeant haltOf stopMeant own holding stopped difference signed held drive limited filtered putOut advanced servoed ran ticked done statusOf numbersOf outputsFrom
+unfolding taken byteStep asked request execute report reply replyOf ones gainsIn gainsFit gainMeant haltOf stopMeant own holding stopped difference signed held drive limited filtered putOut advanced servoed byPower ticked done statusOf numbersOf outputsFrom met homed changed
 blocked = (refl, (refl, (refl, (refl, (refl, (refl, (refl, (refl, (refl, (refl, (refl, (refl, (refl, tt)))))))))))))
 
 pub clears : Clears
-unfolding taken byteStep asked request execute report reply replyOf ones carriedIn inRange loadMeant gainsIn gainsFit gainMeant haltOf stopMeant own idled off wayOf loadOf loaded complete startable signedBy start shifted resetPosition holding stopped same-number difference signed held drive limited filtered putOut advanced servoed pulsed ran ticked done statusOf numbersOf outputsFrom
+unfolding taken byteStep asked request execute report reply replyOf ones carriedIn inRange loadMeant gainsIn gainsFit gainMeant haltOf stopMeant own idled off wayOf loadOf loaded complete startable signedBy start shifted resetPosition holding stopped same-number difference signed held drive limited filtered putOut advanced servoed pulsed byPower ticked done statusOf numbersOf outputsFrom met homed changed
 clears = (refl, (refl, (refl, (refl, (refl, (refl, (refl, (refl, tt))))))))
 
 pub lowered : Lowered
-unfolding taken byteStep asked request execute report reply replyOf ones gainsIn gainsFit gainMeant haltOf stopMeant own holding stopped difference signed held drive limited filtered putOut advanced servoed ran ticked done statusOf numbersOf outputsFrom
+unfolding taken byteStep asked request execute report reply replyOf ones gainsIn gainsFit gainMeant haltOf stopMeant own holding stopped difference signed held drive limited filtered putOut advanced servoed byPower ticked done statusOf numbersOf outputsFrom met homed changed
 lowered = (refl, (refl, (refl, (refl, tt))))

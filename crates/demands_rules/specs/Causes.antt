@@ -44,8 +44,8 @@ gain sr = replicate 12 0 ++ sr ∷ 0 ∷ 1 ∷ []
 
 abbrev pub table : List Row
 table =
-    -- 4 an unknown code, with any data; an I/O module has codes 8 and 12, a servo has code 11; a step-motor module has no Reset Position
-    row 9 [] individual 4 4 4
+    -- 4 an unknown code, with any data; an I/O module has codes 8 and 12, a servo has codes 9 and 11; a step-motor module has no Reset Position
+    row 9 (0x21 ∷ []) individual 0 4 4
     ∷ row 13 (replicate 15 0) individual 4 4 4
     ∷ row 8 (0 ∷ []) individual 4 0 4
     ∷ row 11 [] individual 0 4 4
@@ -78,6 +78,11 @@ table =
     ∷ row 7 (0x06 ∷ []) individual 5 2 5
     ∷ row 7 (0x20 ∷ []) individual 5 2 5
     ∷ row 7 (0x20 ∷ 0 ∷ []) individual 2 2 2
+    -- Set Homing: no byte; two stops, and with a byte too many; no watch bit (02 P8)
+    ∷ row 9 [] individual 2 4 4
+    ∷ row 9 (0x31 ∷ []) individual 5 4 4
+    ∷ row 9 (0x31 ∷ 0 ∷ []) individual 2 4 4
+    ∷ row 9 (0x20 ∷ []) individual 5 4 4
     -- 3 not now: an abrupt stop without power, a Start without a load; an I/O module's code 5 is Synch Output
     ∷ row 7 (0x04 ∷ []) individual 3 2 0
     ∷ row 5 [] individual 3 0 3

@@ -8,11 +8,13 @@ use mathlib.Core.Bool.{Bool, true, false}
 use lib.ListN.{length, take, replicate}
 use Rattle.base_integers.specs.Bits.{isSet}
 use Rattle.line_receiver.specs.Frames.{Frame, clean, written}
+use Rattle.servo_motion.specs.Setpoint.{whole}
+use Rattle.servo_rules.specs.declared.Halt.the-variants.{Abrupt}
 use Rattle.servo_rules.specs.declared.Servo.{Servo}
 use Rattle.servo_rules.specs.Answers.{typeNumber, enableLine}
 use Rattle.servo_rules.specs.StopPromises.{Released}
 use Rattle.servo_rules.specs.TickPromises.{Switches}
-use Rattle.servo_rules.specs.RestPromises.{TurnsOn}
+use Rattle.servo_rules.specs.RestPromises.{Resting, TurnsOn}
 use Rattle.types_rules.specs.Table.{servo}
 use Rattle.types_rules.specs.Types.{AnySample, kind}
 use Rattle.net_rules.specs.Calls.{setUp, outputsAt}
@@ -23,8 +25,9 @@ use Rattle.api_rules.specs.Promises.{Passes, ValidRecord}
 use Rattle.demands_history_rules.specs.Events.{Event, sent, ticked, run}
 use Rattle.demands_history_rules.specs.Calls.{Call, tick, AllHanded, leaves, leftBy}
 use Rattle.demands_rules.specs.Motion.{AtRest, StartedBy}
-use Rattle.demands_rules.specs.ServoPlace.{At, servoSampleAt, Stands, Executed, None}
+use Rattle.demands_rules.specs.ServoPlace.{At, servoSampleAt, Stands, Executed, Homed, None}
 use Rattle.demands_rules.specs.Loaded.{control}
+use Rattle.demands_rules.specs.Sent.{encoder}
 use Rattle.demands_rules.specs.Meaning.{gives, Holds}
 
 -- from m to k the enable line has come back: with power 1 latched before and after it is what it was, and with any other power it is low
@@ -42,14 +45,23 @@ ComesBack =
     → ((j : ℕ) (f : Frame) → Executed net cs i j f → Switches f → ⊥)
     → Returns m k
 
+-- 02 P8: homing's abrupt stop acted in one of these calls, and the servo is at rest since, with its setpoint at the encoder's count of that very tick
+pub record HeldByHoming (net : List ℕ) (cs : List Call) (i : ℕ) (k : Servo) : Type 0 where
+  pub by : ℕ
+  pub homed : Homed net cs i Abrupt by
+  pub rests : Resting k
+  pub place : encoder k (whole (k .run .profile .setpoint)) ≡ homed .sample .raw
+
 -- After a tick that finds power 0 at place i, through any calls cs, whatever powers their ticks find: the servo is off and drives nothing until a
--- frame is executed here that turns it on, so with none in the dip it is off after it; and it is at rest until a load is started.
+-- frame is executed here that turns it on, so with none in the dip it is off after it, or held where it was by homing's abrupt stop (02 P8); and it is
+-- at rest until a load is started.
 abbrev pub OffUntilStarted : Type 0
 OffUntilStarted =
     (net samples : List ℕ) (cs : List Call) (i : ℕ) (m k : Servo)
     → ValidRecord net → Bytes samples → AllHanded cs → At net i m
     → Passes (tickTable net samples) → servoSampleAt samples i .power ≡ 0 → At (leftBy cs (leaves net (tick samples))) i k
-    → (((j : ℕ) (f : Frame) → Executed (leaves net (tick samples)) cs i j f → TurnsOn f → ⊥) → Released (k .run))
+    → (((j : ℕ) (f : Frame) → Executed (leaves net (tick samples)) cs i j f → TurnsOn f → ⊥)
+    → Released (k .run) ⊎ HeldByHoming (leaves net (tick samples)) cs i k)
     × ((AtRest k → ⊥) → StartedBy cs (leaves net (tick samples)) i)
 
 module _ (net : List ℕ) (cs : List Call) (i : ℕ) where
@@ -87,7 +99,7 @@ abbrev pub sending : ℕ → List ℕ → History
 sending code ds = sent (clean (written 0 code ds)) ∷ []
 
 abbrev pub tickAtCount : ℕ → ℕ → History
-tickAtCount power raw = ticked ((servo, record { raw = raw; power = power; ad = 0 }) ∷ []) ∷ []
+tickAtCount power raw = ticked ((servo, record { raw = raw; power = power; ad = 0; inputs = 0 }) ∷ []) ∷ []
 
 abbrev pub tickAt : ℕ → History
 tickAt power = tickAtCount power 0

@@ -12,4 +12,5 @@ pub mod Quickest
 pub mod Numbering
 pub mod Causes
 pub mod Dip
+pub mod HomingRun
 pub mod Winding

@@ -23,7 +23,7 @@ use Rattle.servo_rules.specs.declared.Sample.{Sample}
 use Rattle.servo_rules.specs.declared.Servo.{Servo}
 use Rattle.servo_rules.specs.State.{started}
 use Rattle.servo_rules.specs.Answers.{execute}
-use Rattle.servo_rules.specs.Tick.{ticked}
+use Rattle.servo_rules.specs.Tick.{met, ticked}
 use Rattle.servo_rules.specs.Promises.{Samples, ItemsAre}
 use Rattle.servo_rules.specs.StopPromises.{Released}
 use Rattle.servo_rules.specs.TickPromises.{GoesOn}
@@ -55,14 +55,15 @@ ReadBack =
     → taking kind (clean (take (writtenOf address code ds room .len) (roomAfter address code ds room))) n
     ≡ handedAlong (frame address code ds) n
 
--- A tick and the profile: from p to q, by the mode before and after it.
+-- A tick and the profile: from p to q, by the mode that the tick meets after power and homing, and the mode after it. After a smooth stop of homing's
+-- the commanded speed is 0 (02 P8).
 pub record Speeds (x : Sample) (m : Servo) (p q : Profile) : Type 0 where
   -- velocity mode goes toward the commanded speed by at most the acceleration, and never past it
-  pub velocity : m .run .drive .mode ≡ Velocity → ticked x m .run .drive .mode ≡ Velocity → Toward (p .acceleration) (p .aim) (p .speed) (q .speed)
+  pub velocity : met x m .run .drive .mode ≡ Velocity → ticked x m .run .drive .mode ≡ Velocity → Toward (p .acceleration) (p .aim) (p .speed) (q .speed)
   -- a trapezoid's speed is the greatest that the text allows, so never above the commanded one, and it can still stop within what is left
-  pub trapezoid : m .run .drive .mode ≡ Trapezoid → ticked x m .run .drive .mode ≡ Trapezoid
+  pub trapezoid : met x m .run .drive .mode ≡ Trapezoid → ticked x m .run .drive .mode ≡ Trapezoid
       → Asked (p .acceleration) (p .top) (natAbs (left p)) (natAbs (p .speed)) (natAbs (q .speed)) × Running q
-  -- where a tick ends in off, by low power or too large an error, speed and output are 0
+  -- where a tick ends in off, by low power, too large an error or homing, speed and output are 0
   pub off : (m .run .drive .mode ≡ Off → ⊥) → ticked x m .run .drive .mode ≡ Off → Released (ticked x m .run)
 
 -- The whole of demand 2 beside the exact contracts of the calls (crate doljurven).
@@ -84,7 +85,7 @@ pub record Meaning : Type 0 where
   -- no frame raises a speed: only a tick does, and the setpoint moves by that speed, in either mode
   pub noFrameRaises : NoFrameRaises
   pub goesOn : GoesOn
-  pub speeds : (x : Sample) (m : Servo) → Fits m → Speeds x m (m .run .profile) (ticked x m .run .profile)
+  pub speeds : (x : Sample) (m : Servo) → Fits m → Speeds x m (met x m .run .profile) (ticked x m .run .profile)
   -- the motor's output is within OL; on the same memory it is what document 01 puts out, cut or not; u is within 2,684,141,572, which it reaches
   pub output : (x : Sample) (m : Servo) → Fits m → natAbs (ticked x m .run .drive .output) ≤ m .settings .tuning .gains .ol
   pub asTheBase : Filter.OnlyTheIntegral

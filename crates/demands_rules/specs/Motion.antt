@@ -13,7 +13,7 @@ use Rattle.module_rules.specs.Promises.{Cause, CauseTested}
 use Rattle.chain_rules.specs.Chain.{flat}
 use Rattle.servo_motion.specs.Profile.{left}
 use Rattle.servo_rules.specs.declared.Carried.{Carried}
-use Rattle.servo_rules.specs.declared.Halt.the-variants.{Here}
+use Rattle.servo_rules.specs.declared.Halt.the-variants.{Abrupt, Here}
 use Rattle.servo_rules.specs.declared.Order.{Order}
 use Rattle.servo_rules.specs.declared.Order.the-variants.{LoadTrajectory, Start, Stop}
 use Rattle.servo_rules.specs.declared.Mode.the-variants.{Velocity, Trapezoid}
@@ -24,6 +24,7 @@ use Rattle.servo_rules.specs.Loads.{loaded, startsNow}
 use Rattle.servo_rules.specs.Answers.{request, execute}
 use Rattle.servo_rules.specs.LoadPromises.{Ready, Startable}
 use Rattle.servo_rules.specs.RestPromises.{following}
+use Rattle.servo_rules.specs.HomingPromises.{Acts, HeldHere}
 use Rattle.types_rules.specs.Table.{ModuleType, servo, rulesOf}
 use Rattle.types_rules.specs.Types.{kind, slots}
 use Rattle.net_rules.specs.Record.{netIn, stored}
@@ -33,7 +34,7 @@ use Rattle.api_rules.specs.Calls.{setupRecord}
 use Rattle.api_rules.specs.Promises.{Passes, Refuses, ValidRecord}
 use Rattle.demands_history_rules.specs.Events.{run}
 use Rattle.demands_history_rules.specs.Calls.{Call, tick, Handed, AllHanded, refusals, leaves, leftBy, writtenBy, doneBy}
-use Rattle.demands_rules.specs.ServoPlace.{At}
+use Rattle.demands_rules.specs.ServoPlace.{At, servoSampleAt}
 use Rattle.demands_rules.specs.SettingOut as Any
 
 -- Setup, unless it is refused, leaves a valid record of the modules at power-up, whatever was lent.
@@ -118,12 +119,14 @@ CallStarts = Any.CallStarts servo
 
 -- Every call, with the servo m at place i before it and k after it. What begins motion is the last byte of one of the three, and what sets a
 -- servo out is that of a load's start; a tick, which is no command, only goes on toward a goal that m had, and gives none, whatever list it
--- takes; after setup every servo is at rest.
+-- takes, and it turns a servo on only by homing's abrupt stop, at the position of that very tick (02 P8); after setup every servo is at rest.
 pub record EveryCall : Type 0 where
   pub command : (net : List ℕ) (c : Call) (i : ℕ) (m k : Servo) → Handed c → ValidRecord net → At net i m → At (leaves net c) i k
       → ((samples : List ℕ) → c ≡ tick samples → ⊥) → (Begins m k → CallStarts Starts net i m c) × (SetsOut m k → CallStarts LoadStarts net i m c)
   pub tick : (net samples : List ℕ) (i : ℕ) (m k : Servo) → Bytes samples → ValidRecord net → At net i m → At (leaves net (tick samples)) i k
-      → ((Moves m → ⊥) → Moves k → Bound m) × (Bound k → Bound m)
+      → ((Moves m → ⊥) → Moves k → Bound m)
+      × (Bound k → Bound m)
+      × (servoOff (m .run .drive .mode) ≡ true → servoOff (k .run .drive .mode) ≡ false → Acts Abrupt (servoSampleAt samples i) m × HeldHere k)
   pub setup : (net types : List ℕ) (i : ℕ) (k : Servo) → Passes (setupTable net types) → At (setupRecord net types) i k → AtRest k
 
 -- one of the calls started a load of the servo at place i

@@ -22,6 +22,7 @@ use Rattle.servo_rules.specs.State.{setpointAt}
 use Rattle.servo_rules.specs.Loads.{signedBy}
 use Rattle.servo_rules.specs.Answers.{status}
 use Rattle.servo_rules.specs.TickPromises.{followed}
+use Rattle.servo_rules.specs.HomingPromises.{Unstopped}
 use Rattle.types_rules.specs.Table.{servo}
 use Rattle.api_rules.specs.Promises.{ValidRecord}
 use Rattle.demands_history_rules.specs.Calls.{Call, Handed, AllHanded, leaves, leftBy}
@@ -127,9 +128,9 @@ Mirrored =
 abbrev pub Disturbs : Frame → Type 0
 Disturbs f = (f .code ≡ 0) ⊎ (((f .code ≡ 4) × Has 7 f) ⊎ ((f .code ≡ 5) ⊎ ((f .code ≡ 15) ⊎ Halts f)))
 
--- a tick that a move goes on with: it hands the servo power 1 or 2 and finds a following error within EL
+-- a tick that a move goes on with: it hands the servo power 1 or 2, finds a following error within EL, and no stop of homing's acts in it (02 P8)
 abbrev pub Follows : Sample → Servo → Type 0
-Follows x m = (x .power ≡ 0 → ⊥) × (natAbs (followed x m) ≤ m .settings .tuning .gains .el)
+Follows x m = (x .power ≡ 0 → ⊥) × (natAbs (followed x m) ≤ m .settings .tuning .gains .el) × Unstopped x m
 
 -- Undisturbed: through these calls no such frame is executed at place i, and each tick there is such a one. Polls, loads that wait, frames that are
 -- refused or for others, ticks that are refused and everything else may come.

@@ -11,6 +11,8 @@ use Rattle.base_integers.specs.Bits.{bit, isSet}
 use Rattle.base_layout.specs.Bytes.{ofLe, readAt}
 use Rattle.line_receiver.specs.Frames.{Frame}
 use Rattle.servo_motion.specs.Setpoint.{whole}
+use Rattle.servo_rules.specs.declared.Halt.{Halt}
+use Rattle.servo_rules.specs.declared.Halt.the-variants.{Abrupt}
 use Rattle.servo_rules.specs.declared.Mode.the-variants.{Pwm, Hold, Velocity, Trapezoid}
 use Rattle.servo_rules.specs.declared.Servo.{Servo}
 use Rattle.servo_rules.specs.Carried.{needed}
@@ -22,7 +24,7 @@ use Rattle.demands_history_rules.specs.Calls.{Call, AllHanded}
 use Rattle.demands_rules.specs.Motion.{Moves}
 use Rattle.demands_rules.specs.Loaded as Any
 use Rattle.demands_rules.specs.Loaded.{control, Has, Lacks}
-use Rattle.demands_rules.specs.ServoPlace.{Stands, Executed, None, Since}
+use Rattle.demands_rules.specs.ServoPlace.{Stands, Executed, Homed, None, Since}
 
 -- 01 Load Trajectory: behind the control byte come four bytes for each of bits 0 to 2 that is set, and one for bit 3. How many bytes stand ahead of
 -- the number of bit k, and that number: 0 position, 1 velocity, 2 acceleration; the PWM byte is behind all three
@@ -92,11 +94,13 @@ module _ (net : List ℕ) (cs : List Call) (i : ℕ) where
   abbrev pub PulseSent : ℕ → Type 0
   PulseSent n = (s : ℕ) × Began s n (λ f. Lacks 4 f × Has 3 f) (λ before f m. (m .run .drive .mode ≡ Pwm) × (m .run .drive .pulse ≡ signedIn f (pulseIn f)))
 
-  -- A speed left on the way to speed 0: there was such a start, and since the last frame executed here the speed's size has not grown.
+  -- A speed left on the way to speed 0: there was such a start, and since the last frame executed here, or the last stop of homing's, the speed's size
+  -- has not grown.
   abbrev pub SlowingSent : ℕ → Servo → Type 0
   SlowingSent n k =
       ((s : ℕ) × Began s n (Has 4) (λ before f m. (m .run .drive .mode ≡ Velocity) ⊎ (m .run .drive .mode ≡ Trapezoid)))
       × ((j : ℕ) (m : Servo) → j ≤ n → Stands net cs i j m → ((x : ℕ) (f : Frame) → j ≤ x → x < n → Executed net cs i x f → ⊥)
+      → ((x : ℕ) (h : Halt) → j ≤ x → x < n → Homed net cs i h x → ⊥)
       → natAbs (k .run .profile .speed) ≤ natAbs (m .run .profile .speed))
 
   -- A hold: the last executed Stop with one of bits 1 to 4 had bit 2 or 4, and since then the servo holds what that Stop said.
@@ -111,13 +115,33 @@ module _ (net : List ℕ) (cs : List Call) (i : ℕ) where
     pub last : None net cs i Halts by n
     pub since : Since net cs i by n (λ m. (m .run .drive .mode ≡ Hold) × HeldAt before stop (encoder m (whole (m .run .profile .setpoint))))
 
+  -- 02 P8: the Set Homing f was executed here among the first n calls, and since then neither another nor a Hard Reset
+  pub record HomingSent (f : Frame) (n : ℕ) : Type 0 where
+    pub by : ℕ
+    pub earlier : by < n
+    pub executed : Executed net cs i by f
+    pub code : f .code ≡ 9
+    pub last : None net cs i (λ g. (g .code ≡ 9) ⊎ (g .code ≡ 15)) by n
+
+  -- A hold that no Stop has sent: a Set Homing with bit 4 was sent, a tick found its switch, and since then the servo holds the encoder's count of that
+  -- very tick.
+  pub record HoldHomed (n : ℕ) : Type 0 where
+    pub by : ℕ
+    pub homed : Homed net cs i Abrupt by
+    pub asked : Frame
+    pub sent : HomingSent asked by
+    pub bit : Has 4 asked
+    pub earlier : by < n
+    pub last : None net cs i Halts by n
+    pub since : Since net cs i by n (λ m. (m .run .drive .mode ≡ Hold) × (encoder m (whole (m .run .profile .setpoint)) ≡ homed .sample .raw))
+
   -- what the servo k does after n calls, and what was sent for it
   pub record WasSent (n : ℕ) (k : Servo) : Type 0 where
     pub move : k .run .drive .mode ≡ Trapezoid → MoveSent n
     pub speed : k .run .drive .mode ≡ Velocity → (k .run .profile .aim ≡ pos 0 → ⊥) → SpeedSent n
     pub slowing : k .run .drive .mode ≡ Velocity → k .run .profile .aim ≡ pos 0 → (k .run .profile .speed ≡ pos 0 → ⊥) → SlowingSent n k
     pub pulse : k .run .drive .mode ≡ Pwm → PulseSent n
-    pub hold : k .run .drive .mode ≡ Hold → HoldSent n
+    pub hold : k .run .drive .mode ≡ Hold → HoldSent n ⊎ HoldHomed n
 
 -- From setup, through any calls: what moves is in a mode that moves, and what moves or holds was sent.
 abbrev pub WhatMovesWasSent : Type 0

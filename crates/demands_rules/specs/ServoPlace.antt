@@ -2,8 +2,10 @@
 use Prim.Native.Nat.{ℕ}
 use mathlib.Core.List.{List}
 use Rattle.line_receiver.specs.Frames.{Frame}
+use Rattle.servo_rules.specs.declared.Halt.{Halt}
 use Rattle.servo_rules.specs.declared.Sample.{Sample}
 use Rattle.servo_rules.specs.declared.Servo.{Servo}
+use Rattle.servo_rules.specs.HomingPromises.{Acts}
 use Rattle.types_rules.specs.Table.{servo}
 use Rattle.demands_history_rules.specs.Calls.{Call}
 use Rattle.demands_rules.specs.Place as Any
@@ -26,6 +28,14 @@ module _ (net : List ℕ) (cs : List Call) (i : ℕ) where
 
   abbrev pub Ticked : ℕ → Sample → Type 0
   Ticked = Any.Ticked servo net cs i
+
+  -- 02 P8: call n was a tick in which homing's stop of this kind acted on the servo there
+  pub record Homed (h : Halt) (n : ℕ) : Type 0 where
+    pub sample : Sample
+    pub ticked : Ticked n sample
+    pub before : Servo
+    pub stood : Stands n before
+    pub acts : Acts h sample before
 
   -- no frame such as P executed between two calls; the servo such as P after each of some calls
   abbrev pub None : (Frame → Type 0) → ℕ → ℕ → Type 0

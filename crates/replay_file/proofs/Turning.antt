@@ -23,7 +23,7 @@ body-short k =
     let P : ℕ → Type 0 = λ n. n ≤ 10 in
     by-cond P (eqb k 0) 1 _ (λ q. omega arith)
     (λ q. by-cond P (eqb k 1) 2 _ (λ q. omega arith)
-    (λ q. by-cond P (eqb k 2) 7 _ (λ q. omega arith)
+    (λ q. by-cond P (eqb k 2) 8 _ (λ q. omega arith)
     (λ q. by-cond P (eqb k 3) 10 _ (λ q. omega arith)
     (λ q. by-cond P (eqb k 5) 2 0 (λ q. omega arith) (λ q. omega arith)))))
 

@@ -67,12 +67,12 @@ Examples =
 pub record Bodies : Type 0 where
   pub joins : bodyLength 0 ≡ 1
   pub lineByte : bodyLength 1 ≡ 2
-  pub servoSample : bodyLength 2 ≡ 7
+  pub servoSample : bodyLength 2 ≡ 8
   pub ioSample : bodyLength 3 ≡ 10
   pub tick : bodyLength 4 ≡ 0
   pub stepperSample : bodyLength 5 ≡ 2
-  pub servo : (place power ad r0 r1 r2 r3 : ℕ)
-      → measured 0 (place ∷ power ∷ ad ∷ r0 ∷ r1 ∷ r2 ∷ r3 ∷ []) ≡ 0 ∷ power ∷ ad ∷ r0 ∷ r1 ∷ r2 ∷ r3 ∷ 0 ∷ 0 ∷ 0 ∷ []
+  pub servo : (place power ad r0 r1 r2 r3 limits : ℕ)
+      → measured 0 (place ∷ power ∷ ad ∷ r0 ∷ r1 ∷ r2 ∷ r3 ∷ limits ∷ []) ≡ 0 ∷ power ∷ ad ∷ r0 ∷ r1 ∷ r2 ∷ r3 ∷ limits ∷ 0 ∷ 0 ∷ []
   pub inout : (place i0 i1 ad1 ad2 ad3 c0 c1 c2 c3 : ℕ)
       → measured 2 (place ∷ i0 ∷ i1 ∷ ad1 ∷ ad2 ∷ ad3 ∷ c0 ∷ c1 ∷ c2 ∷ c3 ∷ [])
       ≡ 2 ∷ i0 ∷ i1 ∷ ad1 ∷ ad2 ∷ ad3 ∷ c0 ∷ c1 ∷ c2 ∷ c3 ∷ []
@@ -92,7 +92,7 @@ Sampled =
     ++ (32 ∷ 55 ∷ 56 ∷ 32 ∷ 53 ∷ 54 ∷ 32 ∷ 51 ∷ 52 ∷ 32 ∷ 49 ∷ 50 ∷ 32 ∷ 53 ∷ 56 ∷ 10 ∷ []))
     × (replayed
     (0 ∷ 2 ∷ 0 ∷ 0 ∷ onLine (0xAA ∷ 0 ∷ 0x21 ∷ 1 ∷ 0xFF ∷ 0x21 ∷ [])
-    ++ (2 ∷ 1 ∷ 1 ∷ 0xAB ∷ 0x78 ∷ 0x56 ∷ 0x34 ∷ 0x12 ∷ 4 ∷ onLine (0xAA ∷ 0 ∷ 0x13 ∷ 3 ∷ 0x16 ∷ [])))
+    ++ (2 ∷ 1 ∷ 1 ∷ 0xAB ∷ 0x78 ∷ 0x56 ∷ 0x34 ∷ 0x12 ∷ 0 ∷ 4 ∷ onLine (0xAA ∷ 0 ∷ 0x13 ∷ 3 ∷ 0x16 ∷ [])))
     ≡ (48 ∷ 32 ∷ 48 ∷ 48 ∷ 32 ∷ 48 ∷ 48 ∷ 10 ∷ [])
     ++ (49 ∷ 32 ∷ 49 ∷ 57 ∷ 32 ∷ 55 ∷ 56 ∷ 32 ∷ 53 ∷ 54 ∷ 32 ∷ 51 ∷ 52 ∷ 32 ∷ 49 ∷ 50 ∷ 32 ∷ 65 ∷ 66 ∷ 32 ∷ 68 ∷ 56 ∷ 10 ∷ []))
 
@@ -114,6 +114,16 @@ Stepped =
     ++ (4 ∷ 4 ∷ askedPlace ++ (5 ∷ 0 ∷ 1 ∷ 4 ∷ askedPlace))))
     ≡ (48 ∷ 32 ∷ 48 ∷ 48 ∷ 32 ∷ 48 ∷ 48 ∷ 10 ∷ [])
     ++ ((48 ∷ 32 ∷ 48 ∷ 49 ∷ 32 ∷ 48 ∷ 49 ∷ 10 ∷ []) ++ (toldTwelve 49 68 ++ toldTwelve 48 67))
+
+-- 02 P8: a servo that homes on limit 1: at count 5 it is sent Set Homing, at count 7 the input is 1, and it is asked for home. Printed are "0 99 99" and
+-- "0 39 07 00 00 00 40".
+abbrev pub Homed : Type 0
+Homed =
+    replayed
+    (0 ∷ 0 ∷ 2 ∷ 0 ∷ 1 ∷ 0 ∷ 5 ∷ 0 ∷ 0 ∷ 0 ∷ 0 ∷ 4 ∷ onLine (0xAA ∷ 0 ∷ 0x19 ∷ 1 ∷ 0x1A ∷ [])
+    ++ (2 ∷ 0 ∷ 1 ∷ 0 ∷ 7 ∷ 0 ∷ 0 ∷ 0 ∷ 1 ∷ 4 ∷ onLine (0xAA ∷ 0 ∷ 0x13 ∷ 0x10 ∷ 0x23 ∷ [])))
+    ≡ (48 ∷ 32 ∷ 57 ∷ 57 ∷ 32 ∷ 57 ∷ 57 ∷ 10 ∷ [])
+    ++ (48 ∷ 32 ∷ 51 ∷ 57 ∷ 32 ∷ 48 ∷ 55 ∷ 32 ∷ 48 ∷ 48 ∷ 32 ∷ 48 ∷ 48 ∷ 32 ∷ 48 ∷ 48 ∷ 32 ∷ 52 ∷ 48 ∷ 10 ∷ [])
 
 -- 02 P11: an I/O module that is asked for its first A/D value: after two samples and a tick it shows the later one, and so it does after another tick; after
 -- a tick with no sample it shows 0, and a sample shows no sooner than its tick. Printed are "0 00 09 09", "0 00 00 00" and "0 00 00 00".
@@ -146,11 +156,15 @@ pub record Bad : Type 0 where
   -- a line byte that is cut, and one with mark 2
   pub cut : replayed (0 ∷ 2 ∷ 1 ∷ 0 ∷ []) ≡ badAt 2
   pub mark : replayed (0 ∷ 2 ∷ 1 ∷ 2 ∷ 0 ∷ []) ≡ badAt 2
-  -- a servo sample for an I/O module, beyond the chain, and with power 3; with power 2 it is taken
-  pub other : replayed (0 ∷ 2 ∷ 2 ∷ 0 ∷ 1 ∷ 0 ∷ 0 ∷ 0 ∷ 0 ∷ 0 ∷ []) ≡ badAt 2
-  pub beyond : replayed (0 ∷ 0 ∷ 2 ∷ 1 ∷ 1 ∷ 0 ∷ 0 ∷ 0 ∷ 0 ∷ 0 ∷ []) ≡ badAt 2
-  pub power : replayed (0 ∷ 0 ∷ 2 ∷ 0 ∷ 3 ∷ 0 ∷ 0 ∷ 0 ∷ 0 ∷ 0 ∷ []) ≡ badAt 2
-  pub high : replayed (0 ∷ 0 ∷ 2 ∷ 0 ∷ 2 ∷ 0 ∷ 0 ∷ 0 ∷ 0 ∷ 0 ∷ []) ≡ []
+  -- a servo sample for an I/O module, beyond the chain, with power 3, and with an input beyond the two; with power 2 and both inputs it is taken
+  pub other : replayed (0 ∷ 2 ∷ 2 ∷ 0 ∷ 1 ∷ 0 ∷ 0 ∷ 0 ∷ 0 ∷ 0 ∷ 0 ∷ []) ≡ badAt 2
+  pub beyond : replayed (0 ∷ 0 ∷ 2 ∷ 1 ∷ 1 ∷ 0 ∷ 0 ∷ 0 ∷ 0 ∷ 0 ∷ 0 ∷ []) ≡ badAt 2
+  pub power : replayed (0 ∷ 0 ∷ 2 ∷ 0 ∷ 3 ∷ 0 ∷ 0 ∷ 0 ∷ 0 ∷ 0 ∷ 0 ∷ []) ≡ badAt 2
+  pub limits : replayed (0 ∷ 0 ∷ 2 ∷ 0 ∷ 2 ∷ 0 ∷ 0 ∷ 0 ∷ 0 ∷ 0 ∷ 4 ∷ []) ≡ badAt 2
+  pub high : replayed (0 ∷ 0 ∷ 2 ∷ 0 ∷ 2 ∷ 0 ∷ 0 ∷ 0 ∷ 0 ∷ 0 ∷ 3 ∷ []) ≡ []
+  -- a servo sample from before it had inputs, at the file's end and before a tick, whose kind is then taken for its inputs (02 P8)
+  pub servoCut : replayed (0 ∷ 0 ∷ 2 ∷ 0 ∷ 1 ∷ 0 ∷ 0 ∷ 0 ∷ 0 ∷ 0 ∷ []) ≡ badAt 2
+  pub older : replayed (0 ∷ 0 ∷ 2 ∷ 0 ∷ 1 ∷ 0 ∷ 0 ∷ 0 ∷ 0 ∷ 0 ∷ 4 ∷ 4 ∷ []) ≡ badAt 2
   -- an I/O sample with inputs 4,096; with 4,095 it is taken
   pub inputs : replayed (0 ∷ 2 ∷ 3 ∷ 0 ∷ 0 ∷ 0x10 ∷ 0 ∷ 0 ∷ 0 ∷ 0 ∷ 0 ∷ 0 ∷ 0 ∷ []) ≡ badAt 2
   pub most : replayed (0 ∷ 2 ∷ 3 ∷ 0 ∷ 0xFF ∷ 0x0F ∷ 0 ∷ 0 ∷ 0 ∷ 0 ∷ 0 ∷ 0 ∷ 0 ∷ []) ≡ []

@@ -16,13 +16,13 @@ use Rattle.net_rules.specs.Calls.{setUp, samplesFor, tickStep, byteOf, ofType}
 use Rattle.replay_print.specs.Text.{lines, badLine}
 use Rattle.net_rules.specs.Record.{chainMost}
 
--- 01 Replay file: how many bytes follow the kind byte: module 1, line byte 2, servo sample 7, I/O sample 10, tick none, step-motor sample 2
--- (02 P3); an unknown kind is bad whatever follows it.
+-- 01 Replay file: how many bytes follow the kind byte: module 1, line byte 2, servo sample 8 (02 P8), I/O sample 10, tick none,
+-- step-motor sample 2 (02 P3); an unknown kind is bad whatever follows it.
 unfoldable pub bodyLength : ℕ → ℕ
 bodyLength k =
     cond (eqb k 0) 1
     (cond (eqb k 1) 2
-    (cond (eqb k 2) 7
+    (cond (eqb k 2) 8
     (cond (eqb k 3) 10
     (cond (eqb k 5) 2
     0))))

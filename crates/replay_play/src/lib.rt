@@ -20,7 +20,7 @@ fn body_len(kind: u8) -> usize
     match kind {
         0 => 1,
         1 => 2,
-        2 => 7,
+        2 => 8,
         3 => 10,
         5 => 2,
         _ => 0,

@@ -72,7 +72,8 @@ fn put_reply(s: &[u8], f: Head, ds: &[u8], room: &mut [u8], from: usize) -> usiz
     let latched = servo_slot_read::latched_in(s);
     let counts = servo_slot_read::counts_in(s);
     let run = servo_slot_read::run_in(s);
-    servo_reply::put_reply(station, latched, counts, run, f, ds, room, from)
+    let homing = servo_slot_read::homing_in(s);
+    servo_reply::put_reply(station, latched, counts, run, homing, f, ds, room, from)
 }
 
 // A frame that touches the servo in a slot: the servo after it, and its reply in the room from place from on; how many bytes that has.
@@ -95,13 +96,27 @@ pub fn touch(s: &mut [u8], f: Head, ds: &[u8], room: &mut [u8], from: usize) -> 
     0
 }
 
-// The servo in a slot, after a tick with this sample; what a tick leaves is neither read nor put.
+// A tick in which homing finds its switch: the whole servo is put.
+fn tick_found(s: &mut [u8], x: Sample)
+    requires { ⌜ (length (now s) ≡ slotSize) × (okOf (now s) ≡ true) ⌝ }
+    ensures { λ _. ⌜ now (s .exit) ≡ pasted 0 (encodeOf (ticked x (decodeOf (now (s .entry))))) (now (s .entry)) ⌝ }
+{
+    let before = servo_slot_read::decode(s);
+    servo_slot_put::put(s, servo_tick::ticked(before, x));
+}
+
+// The servo in a slot, after a tick with this sample; what a tick in which homing finds nothing leaves is neither read nor put.
 pub fn tick(s: &mut [u8], x: Sample)
     requires { ⌜ (length (now s) ≡ slotSize) × (okOf (now s) ≡ true) ⌝ }
     ensures { λ _. ⌜ now (s .exit) ≡ pasted 0 (encodeOf (ticked x (decodeOf (now (s .entry))))) (now (s .entry)) ⌝ }
 {
+    let latched = servo_slot_read::latched_in(s);
+    if servo_homing::is_changed(s[servo_slot_rules::HOMING_AT], latched.inputs, x.inputs) {
+        tick_found(s, x);
+        return;
+    }
     let counts = servo_slot_read::counts_in(s);
-    let last = servo_run::position(servo_slot_read::latched_in(s), counts);
+    let last = servo_run::position(latched, counts);
     let here = servo_run::position(x, counts);
     let gains = servo_slot_read::gains_in(s);
     let run = servo_slot_read::run_in(s);

@@ -5,7 +5,7 @@ ghost use Rattle.base_layout.specs.Bytes.{ofLe, readAt};
 ghost use Rattle.module_rules.specs.Touch.{frameOf};
 ghost use Rattle.module_rules.specs.Rules.{wants, counted, ranged, asking};
 ghost use Rattle.servo_rules.specs.Carried.{needed, carriedAt, carriedIn, inRange};
-ghost use Rattle.servo_rules.specs.Asks.{asksOf, loadMeant, gainsIn, gainsFit, gainMeant, haltOf, oneHalt, stopCount, stopMeant, own};
+ghost use Rattle.servo_rules.specs.Asks.{asksOf, loadMeant, gainsIn, gainsFit, gainMeant, haltOf, oneHalt, stopCount, stopMeant, homingMeant, own};
 ghost use Rattle.servo_rules.specs.Answers.{request};
 use module_rules::Asked;
 use module_rules::Fault;
@@ -199,6 +199,17 @@ fn stop_request(ds: &[u8]) -> Request
     counted(stop_count(c), ds, ranged(is_one_halt(c), order))
 }
 
+fn homing_request(ds: &[u8]) -> Request
+    ensures { λ r. ⌜ asksOf r ≡ asking (now (ds .entry)) (homingMeant (now (ds .entry))) ⌝ }
+{
+    let byte = base_layout::byte_at(ds, 0);
+    counted(
+        1,
+        ds,
+        ranged(servo_homing::is_good(byte), Order::SetHoming(byte)),
+    )
+}
+
 // What the type's own codes ask.
 fn own_request(code: u8, ds: &[u8]) -> Request
     ensures { λ r. ⌜ asksOf r ≡ asking (now (ds .entry)) (own code (now (ds .entry))) ⌝ }
@@ -209,6 +220,7 @@ fn own_request(code: u8, ds: &[u8]) -> Request
         5 => counted(0, ds, Request::Wants(Order::Start)),
         6 => gain_request(ds),
         7 => stop_request(ds),
+        9 => homing_request(ds),
         11 => counted(0, ds, Request::Wants(Order::ClearBits)),
         _ => Request::Malformed(Fault::Unknown),
     }

@@ -2,7 +2,7 @@
 ghost use mathlib.Core.Path.{_≡_};
 ghost use Rattle.servo_motion.specs.Profile.{Ranged};
 ghost use Rattle.servo_rules.specs.State.{noSettings, noRun, fresh, started};
-ghost use Rattle.servo_rules.specs.Perform.{can, perform};
+ghost use Rattle.servo_rules.specs.Perform.{shifted, resetPosition, can, perform};
 use servo_filter::Gains;
 use servo_motion::Profile;
 use servo_rules::Counts;
@@ -81,6 +81,7 @@ pub fn fresh(x: Sample) -> Servo
         },
         settings: no_settings(),
         run: no_run(),
+        homing: servo_homing::none(),
     }
 }
 
@@ -91,7 +92,42 @@ pub fn power_up() -> Servo
         raw: 0,
         power: 0,
         ad: 0,
+        inputs: 0,
     })
+}
+
+// Setpoint and goal relative to a position.
+fn shifted(mut p: Profile, x: u32) -> Profile
+    requires { ⌜ Ranged p ⌝ }
+    ensures { λ r. ⌜ r ≡ shifted x p ⌝ }
+{
+    let back = 0x1_0000_0000_0000 - servo_run::setpoint_at(x);
+    let setpoint = (p.setpoint + back) % 0x1_0000_0000_0000;
+    let goal = base_integers::less(p.goal, x);
+    p.setpoint = setpoint;
+    p.goal = goal;
+    p
+}
+
+// Everything that is a position becomes relative to here.
+fn position_reset(mut m: Servo) -> Servo
+    requires { ⌜ Ranged (m .run .profile) ⌝ }
+    ensures { λ r. ⌜ r ≡ resetPosition m ⌝ }
+{
+    let here = servo_run::position(m.latched, m.counts);
+    let counts = Counts {
+        offset: m.latched.raw,
+        last: base_integers::less(m.counts.last, here),
+    };
+    let s = m.settings;
+    let r = m.run;
+    let p = r.profile;
+    let h = m.homing;
+    m.counts = counts;
+    m.settings = servo_run::dropped(s);
+    m.run = servo_run::with_profile(r, shifted(p, here));
+    m.homing = servo_homing::home_from(h, here);
+    m
 }
 
 // Whether an order can be carried out now.
@@ -105,6 +141,7 @@ pub fn can(m: Servo, c: Order) -> bool
         Order::Start => servo_start::is_startable(m),
         Order::SetGain(_) => true,
         Order::Stop(_, halt, _) => servo_stop::can_halt(m, halt),
+        Order::SetHoming(_) => true,
         Order::ClearBits => true,
     }
 }
@@ -115,6 +152,14 @@ fn with_tuning(mut m: Servo, t: Tuning) -> Servo
     let mut s = m.settings;
     s.tuning = t;
     m.settings = s;
+    m
+}
+
+fn with_homing(mut m: Servo, byte: u8) -> Servo
+    ensures { λ r. ⌜ r ≡ perform (Order.SetHoming byte) m ⌝ }
+{
+    let h = m.homing;
+    m.homing = servo_homing::by_byte(h, byte);
     m
 }
 
@@ -131,11 +176,12 @@ pub fn perform(m: Servo, c: Order) -> Servo
     ensures { λ r. ⌜ r ≡ perform c m ⌝ }
 {
     match c {
-        Order::ResetPosition => servo_stop::position_reset(m),
+        Order::ResetPosition => position_reset(m),
         Order::LoadTrajectory(x) => servo_start::with_load(m, x),
         Order::Start => servo_start::start(m),
         Order::SetGain(t) => with_tuning(m, t),
         Order::Stop(amplifier, halt, x) => servo_stop::stopped(m, amplifier, halt, x),
+        Order::SetHoming(byte) => with_homing(m, byte),
         Order::ClearBits => with_error_clear(m),
     }
 }

@@ -14,6 +14,7 @@ use module_rules::Station;
 use servo_filter::Memory;
 use servo_rules::Counts;
 use servo_rules::Drive;
+use servo_rules::Homing;
 use servo_rules::Mode;
 use servo_rules::Run;
 use servo_rules::Sample;
@@ -45,19 +46,20 @@ fn bit_at(n: u8, b: bool) -> u8
     if b { n } else { 0 }
 }
 
-fn status(cause: u8, power: u8, r: Run) -> u8
+fn status(cause: u8, x: Sample, r: Run, h: Homing) -> u8
     requires { ⌜ Ranged (r .profile) ⌝ }
-    ensures { λ q. ⌜ q ≡ statusOf cause power r ⌝ }
+    ensures { λ q. ⌜ q ≡ statusOf cause x r h ⌝ }
 {
     bit_at(1, is_done(r))
         + module_station::cause_bit(cause)
         + bit_at(4, r.drive.cut)
-        + bit_at(8, power == 1)
+        + bit_at(8, x.power == 1)
         + bit_at(16, r.drive.error)
+        + servo_homing::status_bits(x.inputs, h)
 }
 
-fn numbers(x: Sample, k: Counts, y: Memory) -> [u32; 8]
-    ensures { λ r. ⌜ r ≡ numbersOf x k y ⌝ }
+fn numbers(x: Sample, k: Counts, y: Memory, h: Homing) -> [u32; 8]
+    ensures { λ r. ⌜ r ≡ numbersOf x k y h ⌝ }
 {
     let here = servo_run::position(x, k);
     let change = base_integers::less(here, k.last) % 65536;
@@ -67,7 +69,7 @@ fn numbers(x: Sample, k: Counts, y: Memory) -> [u32; 8]
         x.ad as u32,
         change,
         0,
-        0,
+        h.home,
         servo_rules::TYPE_AND_VERSION,
         error,
         0,
@@ -80,6 +82,7 @@ pub fn put_reply(
     x: Sample,
     k: Counts,
     r: Run,
+    h: Homing,
     f: Head,
     ds: &[u8],
     room: &mut [u8],
@@ -87,8 +90,8 @@ pub fn put_reply(
 ) -> usize
     requires { ⌜ Ranged (r .profile) ⌝ }
     requires { ⌜ from + replySize ≤ length (now room) ⌝ }
-    ensures { λ n. ⌜ n ≡ length (replyOf (frameOf f (now (ds .entry))) s (statusOf (s .cause) (x .power) r) sizes (numbersOf x k (r .memory))) ⌝ }
-    ensures { λ _. ⌜ now (room .exit) ≡ pasted from (replyOf (frameOf f (now (ds .entry))) s (statusOf (s .cause) (x .power) r) sizes (numbersOf x k (r .memory))) (now (room .entry)) ⌝ }
+    ensures { λ n. ⌜ n ≡ length (replyOf (frameOf f (now (ds .entry))) s (statusOf (s .cause) x r h) sizes (numbersOf x k (r .memory) h)) ⌝ }
+    ensures { λ _. ⌜ now (room .exit) ≡ pasted from (replyOf (frameOf f (now (ds .entry))) s (statusOf (s .cause) x r h) sizes (numbersOf x k (r .memory) h)) (now (room .entry)) ⌝ }
 {
     module_reply::put_reply(
         room,
@@ -96,9 +99,9 @@ pub fn put_reply(
         f,
         ds,
         s,
-        status(s.cause, x.power, r),
+        status(s.cause, x, r, h),
         servo_rules::SIZES,
-        numbers(x, k, r.memory),
+        numbers(x, k, r.memory, h),
     )
 }
 

@@ -6,7 +6,7 @@ use mathlib.Core.Bool.{Bool, true, false, false≢true}
 use lib.IntN.{pos}
 use Rattle.line_receiver.specs.Frames.{Frame}
 use Rattle.servo_rules.specs.declared.Order.{Order}
-use Rattle.servo_rules.specs.declared.Order.the-variants.{ResetPosition, LoadTrajectory, Start, SetGain, Stop, ClearBits}
+use Rattle.servo_rules.specs.declared.Order.the-variants.{ResetPosition, LoadTrajectory, Start, SetGain, Stop, SetHoming, ClearBits}
 use Rattle.servo_rules.specs.declared.Sample.{Sample}
 use Rattle.servo_rules.specs.declared.Mode.the-variants.{Off, Pwm}
 use Rattle.servo_rules.specs.declared.Drive.{Drive}
@@ -15,14 +15,15 @@ use Rattle.servo_rules.specs.declared.Servo.{Servo}
 use Rattle.servo_rules.specs.State.{position, servoOff, idled, off}
 use Rattle.servo_rules.specs.Loads.{loaded, startsNow, start}
 use Rattle.servo_rules.specs.Perform.{resetPosition, stopped, perform}
-use Rattle.servo_rules.specs.Tick.{tripped, pulsed, ticked}
+use Rattle.servo_rules.specs.Tick.{tripped, pulsed, met, ticked}
 use Rattle.servo_rules.specs.Answers.{execute}
 use Rattle.servo_rules.specs.TickPromises.{Between, Silent, DrivenOnly}
 use Rattle.servo_rules.specs.CutPromises.{Uncut, CutBit}
 use Rattle.servo_rules.proofs.Keeping.{either, Undriven, still, not-off, distinct, started-keeps, halted-keeps}
 use Rattle.servo_rules.proofs.Framed.{leaves}
+use Rattle.servo_rules.proofs.Meeting.{met-undriven}
 use Rattle.servo_rules.proofs.Ends.{tick-ends}
-use Rattle.servo_rules.proofs.Ticking.{ticks}
+use Rattle.servo_rules.proofs.Ticking.{met-silent, ticks}
 
 -- the latched sample as it was, and no new output
 abbrev pub Quiet : Servo → Servo → Type 0
@@ -40,6 +41,7 @@ order-quiet (LoadTrajectory c) m =
 order-quiet Start m = start-quiet m
 order-quiet (SetGain t) m = (refl, still (m .run .drive))
 order-quiet (Stop a h x) m = (refl, halted-keeps h (position m) x (m .run) .undriven)
+order-quiet (SetHoming b) m = (refl, still (m .run .drive))
 order-quiet ClearBits m = (refl, still (m .run .drive))
 
 pub frame-quiet : (f : Frame) (alone : Bool) (m : Servo) → Quiet m (execute f alone m)
@@ -72,34 +74,38 @@ tick-off : (x : Sample) (m : Servo) → Silent m → ticked x m .run .drive .mod
 unfolding pulsed tripped idled off
 tick-off x m s =
     tick-ends (λ (r : Run). r .drive .mode ≡ Off → r .drive .output ≡ pos 0) x m (record {
-      low = λ e k. refl;
-      off = λ e k. s .off k;
+      off = λ e. met-silent x m (s .off);
       pwm = λ q k. absurd (distinct Pwm Off refl (sym q ∙ k));
-      output = λ q t z k. absurd (not-off (m .run .drive .mode) q k);
+      output = λ q t z k. absurd (not-off (met x m .run .drive .mode) q k);
       trip = λ q k. refl;
     })
 
 pub driven-only : DrivenOnly
-unfolding ticked
 driven-only = record {
   power = record { off = λ e. refl; unpowered = λ p. refl };
   frame = λ f alone m s. quiet-silent m (execute f alone m) (frame-quiet f alone m) s;
-  tick = λ x m s. record { off = tick-off x m s; unpowered = λ p. ticks x m .unpowered p (s .off) };
+  tick = λ x m s. record {
+    off = tick-off x m s;
+    unpowered = λ p. ticks x m .unpowered (λ e. p (ap (λ (x : Sample). x .power) (ticks x m .latched) ∙ e)) (s .off);
+  };
 }
 
 -- ---- the cut bit
 
-quiet-uncut : (m n : Servo) → Undriven (m .run .drive) (n .run .drive) → Uncut m → Uncut n
-quiet-uncut m n (inl h) u e = h .1 ∙ u (h .3 e)
-quiet-uncut m n (inr h) u e = h .1
+abbrev Whole : Drive → Type 0
+Whole d = servoOff (d .mode) ≡ true → d .cut ≡ false
+
+quiet-uncut : (d e : Drive) → Undriven d e → Whole d → Whole e
+quiet-uncut d e (inl h) u k = h .1 ∙ u (h .3 k)
+quiet-uncut d e (inr h) u k = h .1
 
 tick-uncut : (x : Sample) (m : Servo) → Uncut m → Uncut (ticked x m)
 unfolding pulsed tripped idled off
 tick-uncut x m u =
-    tick-ends (λ (r : Run). servoOff (r .drive .mode) ≡ true → r .drive .cut ≡ false) x m (record {
-      low = λ e k. refl;
-      off = λ e k. u k;
-      pwm = λ q k. u k;
+    let w : Whole (met x m .run .drive) = met-undriven x m Whole quiet-uncut u in
+    tick-ends (λ (r : Run). Whole (r .drive)) x m (record {
+      off = λ e. w;
+      pwm = λ q. w;
       output = λ q t z k. absurd (false≢true (sym q ∙ k));
       trip = λ q k. refl;
     })
@@ -108,7 +114,7 @@ pub cut-bit : CutBit
 cut-bit = record {
   between = λ f alone m. by m (execute f alone m .run .drive) (frame-quiet f alone m .1);
   power = λ e. refl;
-  frame = λ f alone m. quiet-uncut m (execute f alone m) (frame-quiet f alone m .1);
+  frame = λ f alone m. quiet-uncut (m .run .drive) (execute f alone m .run .drive) (frame-quiet f alone m .1);
   tick = tick-uncut;
 }
   where

@@ -20,6 +20,7 @@ clears f alone m d k e =
       latched = refl;
       counts = refl;
       settings = refl;
+      homing = refl;
       profile = refl;
       memory = refl;
       mode = refl;
@@ -30,4 +31,4 @@ clears f alone m d k e =
     })
 
 pub always-now : AlwaysNow
-always-now m = (refl, λ t. refl)
+always-now m = (refl, λ t. refl, λ b. refl)

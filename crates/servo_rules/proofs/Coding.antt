@@ -29,6 +29,7 @@ codes f alone = record {
   start = λ c. own-line f alone 0 _ (rw c refl);
   setGain = λ c. rw c refl;
   stop = λ c. rw c refl;
+  setHoming = λ c. rw c refl;
   clearBits = λ c. own-line f alone 0 _ (rw c refl);
   setAddress = λ c. (λ n. rw (c, eq-eqb _ _ n) refl, λ n. rw (c, ne-eqb _ _ n) refl);
   defineStatus = λ c. (λ n. rw (c, eq-eqb _ _ n) refl, λ n. rw (c, ne-eqb _ _ n) refl);

@@ -19,7 +19,7 @@ use Rattle.servo_filter.specs.Filter.{Told}
 use Rattle.servo_filter.proofs.Answers.{works, Ends, tripped, plain, cut, ends}
 use Rattle.servo_rules.specs.declared.Halt.{Halt}
 use Rattle.servo_rules.specs.declared.Order.{Order}
-use Rattle.servo_rules.specs.declared.Order.the-variants.{ResetPosition, LoadTrajectory, Start, SetGain, Stop, ClearBits}
+use Rattle.servo_rules.specs.declared.Order.the-variants.{ResetPosition, LoadTrajectory, Start, SetGain, Stop, SetHoming, ClearBits}
 use Rattle.servo_rules.specs.declared.Sample.{Sample}
 use Rattle.servo_rules.specs.declared.Run.{Run}
 use Rattle.servo_rules.specs.declared.Servo.{Servo}
@@ -27,7 +27,7 @@ use Rattle.servo_rules.specs.Asks.{haltOf, oneHalt, stopCount, stopMeant
 use Rattle.servo_rules.specs.State.{positionAt, position, idled, off}
 use Rattle.servo_rules.specs.Loads.{loaded, startsNow, start}
 use Rattle.servo_rules.specs.Perform.{resetPosition, stopped, can, perform}
-use Rattle.servo_rules.specs.Tick.{tripped as tripping, followedAt, pulsed, ticked}
+use Rattle.servo_rules.specs.Tick.{tripped as tripping, followedAt, pulsed, met, ticked}
 use Rattle.servo_rules.specs.Answers.{servo, request, withCause, execute}
 use Rattle.servo_rules.specs.TickPromises.{followed, ErrorBit, Switches, AmplifierBit}
 use Rattle.servo_rules.proofs.Keeping.{either, started-keeps, halted-keeps}
@@ -35,6 +35,7 @@ use Rattle.servo_rules.proofs.Known.{Known, known}
 use Rattle.servo_rules.proofs.Coding.{codes}
 use Rattle.servo_rules.proofs.Apart.{apart}
 use Rattle.servo_rules.proofs.Framed.{leaves}
+use Rattle.servo_rules.proofs.Meeting.{met-error, met-amplifier}
 use Rattle.servo_rules.proofs.Ends.{answer, tick-ends}
 use Rattle.servo_rules.proofs.Ticking.{ticks}
 use Rattle.servo_rules.proofs.Shown.{enabled}
@@ -64,6 +65,7 @@ order-as (LoadTrajectory c) m =
 order-as Start m = record { error = λ b. start-as m .0; amplifier = λ b. start-as m .1 }
 order-as (SetGain t) m = record { error = λ b. refl; amplifier = λ b. refl }
 order-as (Stop a h x) m = record { error = λ b. halted-keeps h (position m) x (m .run) .error; amplifier = λ b. absurd (b a h x refl) }
+order-as (SetHoming b) m = record { error = λ b. refl; amplifier = λ b. refl }
 order-as ClearBits m = record { error = λ b. absurd (b refl); amplifier = λ b. refl }
 
 -- a filter that trips has seen an error above the limit
@@ -87,11 +89,10 @@ tick-error : (x : Sample) (m : Servo) → Marked x m (ticked x m .run)
 unfolding pulsed tripping idled off
 tick-error x m =
     tick-ends (Marked x m) x m (record {
-      low = λ e. inl refl;
-      off = λ e. inl refl;
-      pwm = λ q. inl refl;
-      output = λ s t q. inl refl;
-      trip = λ q. inr (refl, trip-far (positionAt x (m .counts)) (m .settings .tuning .gains) (m .run) q);
+      off = λ e. inl (met-error x m);
+      pwm = λ q. inl (met-error x m);
+      output = λ s t q. inl (met-error x m);
+      trip = λ q. inr (refl, trip-far (positionAt x (m .counts)) (m .settings .tuning .gains) (met x m .run) q);
     })
 
 pub error-bit : ErrorBit
@@ -111,11 +112,10 @@ error-bit = record {
 tick-amplifier : (x : Sample) (m : Servo) → Amplifier m (ticked x m)
 unfolding pulsed tripping idled off
 tick-amplifier x m = tick-ends (λ (s : Run). s .drive .amplifier ≡ m .run .drive .amplifier) x m (record {
-  low = λ e. refl;
-  off = λ e. refl;
-  pwm = λ q. refl;
-  output = λ s t q. refl;
-  trip = λ q. refl;
+  off = λ e. met-amplifier x m;
+  pwm = λ q. met-amplifier x m;
+  output = λ s t q. met-amplifier x m;
+  trip = λ q. met-amplifier x m;
 })
 
 latched-power : (x : Sample) (m : Servo) → ticked x m .latched .power ≡ x .power

@@ -2,9 +2,9 @@
 use mathlib.Core.Path.{_≡_, refl, sym, ap, subst, _∙_}
 use mathlib.Core.Logic.{_⊎_, inl, inr}
 use mathlib.Core.Bool.{Bool, true, false, true≢false, false≢true}
-use Prim.Native.Nat.{_≤_}
+use Prim.Native.Nat.{ℕ, _≤_}
 use native.Mathlib.Omega.{arith}
-use borrow.Author.Tests.{eqb-true, eqb-false, leb-true, leb-false}
+use borrow.Author.Tests.{leb-true, leb-false}
 use lib.Dec.{eqb, leb}
 use lib.IntN.{ℤ, natAbs}
 use Rattle.base_integers.specs.Whole.{difference}
@@ -15,11 +15,12 @@ use Rattle.servo_rules.specs.declared.Mode.{Mode}
 use Rattle.servo_rules.specs.declared.Mode.the-variants.{Off, Pwm, Hold, Velocity, Trapezoid}
 use Rattle.servo_rules.specs.declared.Sample.{Sample}
 use Rattle.servo_rules.specs.declared.Servo.{Servo}
-use Rattle.servo_rules.specs.State.{position, servoOff}
-use Rattle.servo_rules.specs.Tick.{advancedBy, advanced, ticked}
+use Rattle.servo_rules.specs.State.{positionAt, position, servoOff}
+use Rattle.servo_rules.specs.Tick.{advancedBy, advanced, met, ticked}
 use Rattle.servo_rules.specs.LoadPromises.{OffModes, PutAt}
 use Rattle.servo_rules.specs.TickPromises.{followed, StillOn, GoesOn}
 use Rattle.servo_rules.proofs.Keeping.{number, distinct}
+use Rattle.servo_rules.proofs.Meeting.{met-is, tick-is}
 use Rattle.servo_rules.proofs.Ticking.{ticks}
 
 neither : (k : Mode) → eqb (number k) 0 ≡ false → eqb (number k) 1 ≡ false → (k ≡ Off) ⊎ (k ≡ Pwm) → ⊥
@@ -42,47 +43,45 @@ module _ (x : Sample) (m : Servo) (on : servoOff (ticked x m .run .drive .mode) 
   not-ended k o e = true≢false (sym o ∙ ap servoOff (sym e) ∙ on)
 
   -- the step of the profile, by the mode
-  steps : (q : Profile) (k : Mode) → m .run .drive .mode ≡ k → q ≡ advanced (m .run) → q ≡ advancedBy k (m .run .profile)
+  steps : (q : Profile) (k : Mode) → met x m .run .drive .mode ≡ k → q ≡ advanced (met x m .run) → q ≡ advancedBy k (met x m .run .profile)
   unfolding advanced
-  steps q k e s = s ∙ ap (λ (k : Mode). advancedBy k (m .run .profile)) e
+  steps q k e s = s ∙ ap (λ (k : Mode). advancedBy k (met x m .run .profile)) e
 
-  goes : (q : Profile) → q ≡ advanced (m .run) → (m .run .drive .mode ≡ Velocity) ⊎ (m .run .drive .mode ≡ Trapezoid) → q .setpoint ≡ moved (m .run .profile .setpoint) (q .speed)
-  goes q s (inl e) = subst (λ (q : Profile). q .setpoint ≡ moved (m .run .profile .setpoint) (q .speed)) (sym (steps q Velocity e s)) (moves (m .run .profile) .0)
-  goes q s (inr e) = subst (λ (q : Profile). q .setpoint ≡ moved (m .run .profile .setpoint) (q .speed)) (sym (steps q Trapezoid e s)) (moves (m .run .profile) .1)
+  goes : (q : Profile) → q ≡ advanced (met x m .run) → (met x m .run .drive .mode ≡ Velocity) ⊎ (met x m .run .drive .mode ≡ Trapezoid) → q .setpoint ≡ moved (met x m .run .profile .setpoint) (q .speed)
+  goes q s (inl e) = subst (λ (q : Profile). q .setpoint ≡ moved (met x m .run .profile .setpoint) (q .speed)) (sym (steps q Velocity e s)) (moves (met x m .run .profile) .0)
+  goes q s (inr e) = subst (λ (q : Profile). q .setpoint ≡ moved (met x m .run .profile .setpoint) (q .speed)) (sym (steps q Trapezoid e s)) (moves (met x m .run .profile) .1)
 
   -- the position that the filter saw is the one after the tick
-  seen : (q : Profile) → q ≡ advanced (m .run) → followed x m ≡ difference (whole (q .setpoint)) (position (ticked x m))
-  unfolding ticked
-  seen q s = ap (λ (q : Profile). difference (whole (q .setpoint)) (position (ticked x m))) (sym s)
+  seen : (q : Profile) → q ≡ advanced (met x m .run) → followed x m ≡ difference (whole (q .setpoint)) (position (ticked x m))
+  seen q s =
+      ap (λ (p : Profile). difference (whole (p .setpoint)) (positionAt x (m .counts))) (sym s)
+      ∙ ap (difference (whole (q .setpoint))) (sym (ap position (tick-is x m)))
 
-  went : (x .power ≡ 0 → ⊥) → servoOff (m .run .drive .mode) ≡ false → natAbs (followed x m) ≤ m .settings .tuning .gains .el → StillOn m (ticked x m)
-  went n k h =
-      let r = ticks x m .runs n k h in
+  went : servoOff (met x m .run .drive .mode) ≡ false → natAbs (followed x m) ≤ m .settings .tuning .gains .el → StillOn (met x m) (ticked x m)
+  went k h =
+      let r = ticks x m .runs k h in
       record {
         mode = r .mode;
         goes = goes (ticked x m .run .profile) (r .profile);
         holds = λ e. let s = steps (ticked x m .run .profile) Hold e (r .profile) in (ap (λ (p : Profile). p .setpoint) s, ap (λ (p : Profile). p .speed) s);
         previous = r .previous ∙ seen (ticked x m .run .profile) (r .profile);
-        within = subst (λ (z : ℤ). natAbs z ≤ m .settings .tuning .gains .el) (sym (r .previous)) h;
+        within = subst (λ (el : ℕ). natAbs (ticked x m .run .memory .previous) ≤ el) (sym (ap (λ (n : Servo). n .settings .tuning .gains .el) (met-is x m)))
+            (subst (λ (z : ℤ). natAbs z ≤ m .settings .tuning .gains .el) (sym (r .previous)) h);
       }
 
-  by-error : (x .power ≡ 0 → ⊥) → servoOff (m .run .drive .mode) ≡ false → (t : Bool) → leb (natAbs (followed x m)) (m .settings .tuning .gains .el) ≡ t → StillOn m (ticked x m)
-  by-error n k true h = went n k (leb-true _ _ h)
-  by-error n k false h = absurd (not-ended Off refl (ticks x m .trip n k (leb-false _ _ h) .0 .mode))
+  by-error : servoOff (met x m .run .drive .mode) ≡ false → (t : Bool) → leb (natAbs (followed x m)) (m .settings .tuning .gains .el) ≡ t → StillOn (met x m) (ticked x m)
+  by-error k true h = went k (leb-true _ _ h)
+  by-error k false h = absurd (not-ended Off refl (ticks x m .trip k (leb-false _ _ h) .0 .mode))
 
-  by-mode : (x .power ≡ 0 → ⊥) → (k : Mode) → m .run .drive .mode ≡ k → StillOn m (ticked x m)
-  by-mode n Off e = absurd (not-ended Off refl (ap (λ (s : Servo). s .run .drive .mode) (ticks x m .off n e) ∙ e))
-  by-mode n Pwm e = absurd (not-ended Pwm refl (ticks x m .pulse n e .2))
-  by-mode n Hold e = by-error n (ap servoOff e) _ refl
-  by-mode n Velocity e = by-error n (ap servoOff e) _ refl
-  by-mode n Trapezoid e = by-error n (ap servoOff e) _ refl
+  by-mode : (k : Mode) → met x m .run .drive .mode ≡ k → StillOn (met x m) (ticked x m)
+  by-mode Off e = absurd (not-ended Off refl (ap (λ (s : Servo). s .run .drive .mode) (ticks x m .off e) ∙ e))
+  by-mode Pwm e = absurd (not-ended Pwm refl (ticks x m .pulse e .2))
+  by-mode Hold e = by-error (ap servoOff e) _ refl
+  by-mode Velocity e = by-error (ap servoOff e) _ refl
+  by-mode Trapezoid e = by-error (ap servoOff e) _ refl
 
-  still-on : StillOn m (ticked x m)
-  still-on = at (eqb (x .power) 0) refl
-    where
-      at : (t : Bool) → eqb (x .power) 0 ≡ t → StillOn m (ticked x m)
-      at true e = absurd (not-ended Off refl (ticks x m .low (eqb-true _ _ e) .mode))
-      at false e = by-mode (eqb-false _ _ e) (m .run .drive .mode) refl
+  still-on : StillOn (met x m) (ticked x m)
+  still-on = by-mode (met x m .run .drive .mode) refl
 
 pub goes-on : GoesOn
 goes-on x m on = still-on x m on

@@ -17,7 +17,7 @@ use Rattle.servo_rules.specs.declared.Drive.{Drive}
 use Rattle.servo_rules.specs.declared.Run.{Run}
 use Rattle.servo_rules.specs.State.{servoOff, idled, off}
 use Rattle.servo_rules.specs.Loads.{servoing, toSpeed, toPlace, startedBy}
-use Rattle.servo_rules.specs.Perform.{holding, smooth, haltedBy}
+use Rattle.servo_rules.specs.Stops.{holding, smooth, haltedBy}
 use Rattle.servo_rules.specs.StopPromises.{Released}
 
 -- of one or another, by a test, with what it tells or without
@@ -71,7 +71,7 @@ pub off-released : (r : Run) → Released (off r)
 unfolding off idled
 off-released r = record { mode = refl; speed = refl; output = refl; pulse = refl; cut = refl; memory = refl }
 
-off-keeps : (r : Run) → Keeps r (off r)
+pub off-keeps : (r : Run) → Keeps r (off r)
 unfolding off idled
 off-keeps r = record { error = refl; amplifier = refl; undriven = inr (refl, refl, refl) }
 
@@ -91,3 +91,15 @@ halted-keeps Release here x r = off-keeps r
 halted-keeps Abrupt here x r = holding-keeps here r
 halted-keeps Smooth here x r = smooth-keeps r
 halted-keeps Here here x r = holding-keeps x r
+
+-- a stop that does not hold leaves off what is off
+smooth-released : (r : Run) → r .drive .mode ≡ Off → Released (smooth r)
+unfolding smooth
+smooth-released r e = rw (ap servoOff e) (off-released r)
+
+pub halted-released : (h : Halt) (here x : ℕ) (r : Run) → Released r → ((h ≡ Abrupt) ⊎ (h ≡ Here) → ⊥) → Released (haltedBy h here x r)
+halted-released Keep here x r q n = q
+halted-released Release here x r q n = off-released r
+halted-released Abrupt here x r q n = absurd (n (inl refl))
+halted-released Smooth here x r q n = smooth-released r (q .mode)
+halted-released Here here x r q n = absurd (n (inr refl))

@@ -13,9 +13,10 @@ use Rattle.module_rules.proofs.Settled.{Of, asks}
 use Rattle.servo_rules.specs.declared.Halt.{Halt}
 use Rattle.servo_rules.specs.declared.Halt.the-variants.{Keep, Release, Abrupt, Smooth, Here}
 use Rattle.servo_rules.specs.declared.Order.{Order}
-use Rattle.servo_rules.specs.declared.Order.the-variants.{ResetPosition, LoadTrajectory, Start, SetGain, Stop, ClearBits}
+use Rattle.servo_rules.specs.declared.Order.the-variants.{ResetPosition, LoadTrajectory, Start, SetGain, Stop, SetHoming, ClearBits}
 use Rattle.servo_rules.specs.Carried.{needed, carriedIn}
 use Rattle.servo_rules.specs.Asks.{loadMeant, gainMeant, haltOf, oneHalt, stopCount, stopMeant}
+use Rattle.servo_rules.specs.Homing.{goodByte}
 use Rattle.servo_rules.specs.Answers.{servo, request}
 use Rattle.servo_rules.proofs.Asks.{own-means}
 
@@ -43,6 +44,8 @@ Known f (wants (Stop a h x)) =
     × (length (f .content) ≡ stopCount (first f))
     × (a ≡ isSet 0 (first f))
     × (oneHalt (first f) ≡ true)
+Known f (wants (SetHoming b)) =
+    (f .code ≡ 9) × (b ≡ first f) × (length (f .content) ≡ 1) × (goodByte (first f) ≡ true)
 Known f (wants ClearBits) = spared (f .code) ≡ true
 
 pub known : (f : Frame) (alone : Bool) → Known f (request f alone)
@@ -61,6 +64,7 @@ known f alone = asks servo (Known f) f alone (record {
     start = λ c n g. (c, n);
     gain = λ c n g. ap spared c;
     stop = λ c n g. (c, refl, refl, n, refl, g);
+    homing = λ c n g. (c, refl, n, g);
     clearBits = λ c n g. ap spared c;
   });
 })

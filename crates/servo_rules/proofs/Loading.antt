@@ -5,7 +5,8 @@ use Rattle.base_integers.specs.Bits.{isSet}
 use Rattle.servo_rules.specs.declared.Settings.{Settings}
 use Rattle.servo_rules.specs.State.{dropped}
 use Rattle.servo_rules.specs.Loads.{wayOf, ratesOf, loaded, start}
-use Rattle.servo_rules.specs.Perform.{resetPosition, drops, stopped}
+use Rattle.servo_rules.specs.Stops.{drops}
+use Rattle.servo_rules.specs.Perform.{resetPosition, stopped}
 use Rattle.servo_rules.specs.LoadPromises.{Loads, Ways}
 use Rattle.servo_rules.proofs.Keeping.{either}
 

@@ -11,7 +11,7 @@ use Rattle.servo_motion.specs.Setpoint.{whole}
 use Rattle.servo_rules.specs.declared.Halt.{Halt}
 use Rattle.servo_rules.specs.declared.Halt.the-variants.{Keep, Release, Abrupt, Smooth, Here}
 use Rattle.servo_rules.specs.declared.Order.{Order}
-use Rattle.servo_rules.specs.declared.Order.the-variants.{ResetPosition, LoadTrajectory, Start, SetGain, Stop, ClearBits}
+use Rattle.servo_rules.specs.declared.Order.the-variants.{ResetPosition, LoadTrajectory, Start, SetGain, Stop, SetHoming, ClearBits}
 use Rattle.servo_rules.specs.declared.Way.{Way}
 use Rattle.servo_rules.specs.declared.Way.the-variants.{Pulse, Speed, Move}
 use Rattle.servo_rules.specs.declared.Settings.{Settings}
@@ -19,7 +19,8 @@ use Rattle.servo_rules.specs.declared.Run.{Run}
 use Rattle.servo_rules.specs.declared.Servo.{Servo}
 use Rattle.servo_rules.specs.State.{position, setpointAt, servoOff, idled, off}
 use Rattle.servo_rules.specs.Loads.{loaded, startsNow, beginningAt, toSpeed, toPlace, startedBy, start}
-use Rattle.servo_rules.specs.Perform.{resetPosition, holding, smooth, haltedBy, stopped, can, perform}
+use Rattle.servo_rules.specs.Stops.{holding, smooth, haltedBy}
+use Rattle.servo_rules.specs.Perform.{resetPosition, stopped, can, perform}
 use Rattle.servo_rules.specs.StopPromises.{Counted}
 use Rattle.servo_rules.specs.RestPromises.{following, OnlyHere}
 use Rattle.servo_rules.proofs.Keeping.{either}
@@ -74,6 +75,7 @@ order-placed (LoadTrajectory c) m k n = either (Placed m) (startsNow c) (start (
 order-placed Start m k n = start-placed m
 order-placed (SetGain t) m k n = inl refl
 order-placed (Stop a h x) m k n = halted-beside (position m) (omega arith) h x (m .run) (λ e. n a x (ap (λ (h : Halt). Stop a h x) e))
+order-placed (SetHoming b) m k n = inl refl
 order-placed ClearBits m k n = inl refl
 
 pub only-here : OnlyHere

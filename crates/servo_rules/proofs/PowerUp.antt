@@ -27,6 +27,7 @@ fresh-blank x = record {
   el = refl;
   cl = refl;
   sm = refl;
+  homing = (refl, refl);
   waits = refl;
   placed = (refl, refl);
   pulsed = (refl, refl);
@@ -49,7 +50,7 @@ unfolding statusOf done
 power-up = record {
   blank = fresh-blank _;
   renewed = λ m. fresh-blank (m .latched);
-  latched = (refl, refl, refl);
+  latched = (refl, refl, refl, refl);
   counts = (refl, refl);
   here = refl;
   status = refl;

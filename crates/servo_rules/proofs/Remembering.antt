@@ -12,12 +12,13 @@ use Rattle.module_rules.specs.declared.Fault.the-variants.{Unknown, Count, Valu
 use Rattle.module_rules.specs.Rules.{Request, malformed, set, reset, wants, faultCause}
 use Rattle.module_rules.proofs.Settled.{settles, cause}
 use Rattle.servo_filter.proofs.Answers.{cut-leaves}
+use Rattle.servo_filter.specs.declared.Memory.{Memory}
 use Rattle.servo_filter.specs.Filter.{blank, Told}
 use Rattle.servo_rules.specs.declared.Carried.{Carried}
 use Rattle.servo_rules.specs.declared.Halt.{Halt}
 use Rattle.servo_rules.specs.declared.Halt.the-variants.{Keep, Release, Abrupt, Smooth, Here}
 use Rattle.servo_rules.specs.declared.Order.{Order}
-use Rattle.servo_rules.specs.declared.Order.the-variants.{ResetPosition, LoadTrajectory, Start, SetGain, Stop, ClearBits}
+use Rattle.servo_rules.specs.declared.Order.the-variants.{ResetPosition, LoadTrajectory, Start, SetGain, Stop, SetHoming, ClearBits}
 use Rattle.servo_rules.specs.declared.Way.{Way}
 use Rattle.servo_rules.specs.declared.Way.the-variants.{Pulse, Speed, Move}
 use Rattle.servo_rules.specs.declared.Settings.{Settings}
@@ -26,11 +27,13 @@ use Rattle.servo_rules.specs.declared.Sample.{Sample}
 use Rattle.servo_rules.specs.declared.Servo.{Servo}
 use Rattle.servo_rules.specs.Carried.{carriedIn}
 use Rattle.servo_rules.specs.Asks.{oneHalt}
-use Rattle.servo_rules.specs.State.{positionAt, position, servoOff, idled, off}
+use Rattle.servo_rules.specs.State.{position, servoOff, idled, off}
 use Rattle.servo_rules.specs.Loads.{wayOf, loadOf, loaded, startsNow, toSpeed, toPlace, startedBy, start}
-use Rattle.servo_rules.specs.Perform.{resetPosition, holding, smooth, haltedBy, stopped, can, perform}
-use Rattle.servo_rules.specs.Tick.{followedAt, tripped, pulsed, ticked}
+use Rattle.servo_rules.specs.Stops.{holding, smooth, haltedBy}
+use Rattle.servo_rules.specs.Perform.{resetPosition, stopped, can, perform}
+use Rattle.servo_rules.specs.Tick.{followedAt, tripped, pulsed, met, ticked}
 use Rattle.servo_rules.specs.Answers.{servo, request, execute}
+use Rattle.servo_rules.specs.HomingPromises.{Acts}
 use Rattle.servo_rules.specs.CutPromises.{BlanksByStop, Blanks, Remembers}
 use Rattle.servo_rules.proofs.Keeping.{by-test}
 use Rattle.servo_rules.proofs.Loading.{ways}
@@ -39,7 +42,9 @@ use Rattle.servo_rules.proofs.Starting.{begins}
 use Rattle.servo_rules.proofs.Known.{spared, first, Known, known, BitOf, haltBits, halt-bits}
 use Rattle.servo_rules.proofs.Apart.{apart}
 use Rattle.servo_rules.proofs.Framed.{leaves}
+use Rattle.servo_rules.proofs.Meeting.{here, before, not-here, met-runs, by-power}
 use Rattle.servo_rules.proofs.Ends.{tick-ends}
+use Rattle.servo_rules.proofs.FindingHome.{uncut}
 
 -- the memory as it was
 abbrev Same : Servo → Servo → Type 0
@@ -52,6 +57,7 @@ Blanking (LoadTrajectory c) m = (startsNow c ≡ true) × (wayOf (c .control) �
 Blanking Start m = m .settings .load .way ≡ Pulse
 Blanking (SetGain t) m = ⊥
 Blanking (Stop a h x) m = ((h ≡ Release) ⊎ ((h ≡ Abrupt) ⊎ (h ≡ Here))) ⊎ ((h ≡ Smooth) × (servoOff (m .run .drive .mode) ≡ true))
+Blanking (SetHoming b) m = ⊥
 Blanking ClearBits m = ⊥
 
 started-same : (w : Way) (here : ℕ) (s : Settings) (r : Run) → (w ≡ Pulse → ⊥) → startedBy w here s r .memory ≡ r .memory
@@ -85,6 +91,7 @@ order-same (LoadTrajectory c) m n =
 order-same Start m n = start-same m n
 order-same (SetGain t) m n = refl
 order-same (Stop a h x) m n = halted-same h (position m) x (m .run) n
+order-same (SetHoming b) m n = refl
 order-same ClearBits m n = refl
 
 -- a control byte of a PWM load has bit 4 clear
@@ -120,6 +127,7 @@ blanks f (Stop a h x) m (c, e, y, n, b, w) o = inr (inr (inl (c, at o)))
     at (inl (inr (inl q))) = inr (inl (bits Abrupt q))
     at (inl (inr (inr q))) = inr (inr (inl (bits Here q)))
     at (inr (q, s)) = inr (inr (inr (bits Smooth q, s)))
+blanks f (SetHoming b) m k o = absurd o
 blanks f ClearBits m k o = absurd o
 
 frame-same : (f : Frame) (alone : Bool) (m : Servo) → (f .damaged ≡ false → execute f alone m .station .cause ≡ 0 → Blanks m f → ⊥) → Same m (execute f alone m)
@@ -205,6 +213,7 @@ order-blank Start m f (c, n) o = pulse-blank m (start-blanks m f c o)
 order-blank (SetGain t) m f k o = absurd (not-spared m f k o)
 order-blank (Stop a h x) m f (c, e, y, n, b, w) o =
     halt-blank h (position m) x m f (subst (λ (h : Halt). BitOf h (haltBits (first f))) (sym e) (halt-bits (first f))) w (stop-blanks m f c o)
+order-blank (SetHoming b) m f k o = absurd (not-spared m f (ap spared (k .0)) o)
 order-blank ClearBits m f k o = absurd (not-spared m f k o)
 
 fault-not-0 : (x : Fault) → faultCause x ≡ 0 → ⊥
@@ -227,20 +236,58 @@ frame-blank f alone m d z o = by (request f alone) refl (known f alone)
             let three = ap (λ (k : Servo). k .station .cause) (cause servo apart f alone m .notNow c d e t) in
             absurd (omega arith)
 
--- a tick that is cut
-tick-same : (x : Sample) (m : Servo) → ticked x m .run .drive .cut ≡ true → ticked x m .run .memory .integral ≡ m .run .memory .integral
-unfolding pulsed tripped idled off
-tick-same x m =
-    tick-ends (λ (s : Run). s .drive .cut ≡ true → s .memory .integral ≡ m .run .memory .integral) x m (record {
-      low = λ e c. absurd (false≢true c);
-      off = λ e c. refl;
-      pwm = λ q c. refl;
-      output = λ s t q c.
-          let here : ℕ = positionAt x (m .counts) in
-          sym (ap (λ (t : Told). t .memory .integral) q)
-          ∙ cut-leaves (m .settings .tuning .gains) (m .run .memory) (followedAt here (m .run)) (ap (λ (t : Told). t .cut) q ∙ c);
-      trip = λ q c. absurd (false≢true c);
-    })
+-- what a tick meets has the memory that there was, or is off, or holds by homing's abrupt stop
+module _ (x : Sample) (m : Servo) where
+  abbrev Remains : Run → Type 0
+  Remains r = (r .memory ≡ m .run .memory) ⊎ (((servoOff (r .drive .mode) ≡ true) × (r .drive .cut ≡ false)) ⊎ Acts Abrupt x m)
+
+  met-memory : Remains (met x m .run)
+  unfolding off idled smooth toSpeed
+  met-memory =
+      let p : Remains (before x m) = by-power Remains (x .power) (m .run) (λ e. inr (inl (refl, refl))) (λ n. inl refl) in
+      met-runs x m Remains p (λ h a. by h a p)
+    where
+      slow : (r : Run) → Remains r → Remains (smooth r)
+      slow r p = by-test Remains (servoOff (r .drive .mode)) (off r) (toSpeed (r .profile .setpoint) (pos 0) (r .profile .acceleration) r)
+          (λ e. inr (inl (refl, refl))) (λ e. on p e)
+        where
+          on : Remains r → servoOff (r .drive .mode) ≡ false → Remains (toSpeed (r .profile .setpoint) (pos 0) (r .profile .acceleration) r)
+          on (inl q) e = inl q
+          on (inr (inl q)) e = absurd (false≢true (sym e ∙ q .0))
+          on (inr (inr q)) e = inr (inr q)
+
+      by : (h : Halt) → Acts h x m → Remains (before x m) → Remains (haltedBy h (here x m) 0 (before x m))
+      by Keep a p = p
+      by Release a p = inr (inl (refl, refl))
+      by Abrupt a p = inr (inr a)
+      by Smooth a p = slow (before x m) p
+      by Here a p = absurd (not-here (m .homing .byte) (a .asked))
+
+  -- a tick that is cut
+  tick-same : ticked x m .run .drive .cut ≡ true → ticked x m .run .memory .integral ≡ m .run .memory .integral
+  unfolding pulsed tripped idled off
+  tick-same = by met-memory
+    where
+      by : Remains (met x m .run) → ticked x m .run .drive .cut ≡ true → ticked x m .run .memory .integral ≡ m .run .memory .integral
+      by (inl e) =
+          let kept = ap (λ (y : Memory). y .integral) e in
+          tick-ends (λ (s : Run). s .drive .cut ≡ true → s .memory .integral ≡ m .run .memory .integral) x m (record {
+            off = λ q c. kept;
+            pwm = λ q c. kept;
+            output = λ s t q c.
+                sym (ap (λ (t : Told). t .memory .integral) q)
+                ∙ cut-leaves (m .settings .tuning .gains) (met x m .run .memory) (followedAt (here x m) (met x m .run)) (ap (λ (t : Told). t .cut) q ∙ c)
+                ∙ kept;
+            trip = λ q c. absurd (false≢true c);
+          })
+      by (inr (inl (o, k))) =
+          tick-ends (λ (s : Run). s .drive .cut ≡ true → s .memory .integral ≡ m .run .memory .integral) x m (record {
+            off = λ q c. absurd (false≢true (sym k ∙ c));
+            pwm = λ q c. absurd (false≢true (sym k ∙ c));
+            output = λ s t q c. absurd (false≢true (sym s ∙ o));
+            trip = λ q c. absurd (false≢true c);
+          })
+      by (inr (inr a)) = λ c. absurd (false≢true (sym (uncut x m a) ∙ c))
 
 pub remembers : Remembers
 remembers = record { blanked = frame-blank; frame = frame-same; cut = tick-same }

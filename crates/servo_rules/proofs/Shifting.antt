@@ -86,6 +86,8 @@ resets-position m c =
       memory = refl;
       drive = refl;
       waits = refl;
+      home = ap (less (less (m .homing .home) x)) zero ∙ less-zero (less (m .homing .home) x) (omega arith);
+      homing = refl;
     }
 
 pub shifts-now : ShiftsNow

@@ -8,6 +8,7 @@ use lib.Dec.{eqb}
 use lib.IntN.{ℤ, pos, natAbs}
 use lib.Signed.{ltZ}
 use Rattle.base_integers.specs.Whole.{less}
+use Rattle.base_integers.specs.Bits.{bit}
 use Rattle.line_receiver.specs.Frames.{Frame}
 use Rattle.module_rules.specs.Commands.{asked}
 use Rattle.module_rules.specs.Rules as Any
@@ -19,12 +20,14 @@ use Rattle.module_rules.proofs.Replies.{resets as after-reset}
 use Rattle.servo_rules.specs.declared.Order.the-variants.{SetGain}
 use Rattle.servo_rules.specs.declared.Servo.{Servo}
 use Rattle.servo_rules.specs.Asks.{gainMeant, tuningIn, own}
-use Rattle.servo_rules.specs.State.{position, fresh}
+use Rattle.servo_rules.specs.State.{position, fresh, good}
 use Rattle.servo_rules.specs.Loads.{signedBy}
 use Rattle.servo_rules.specs.Tick.{ticked}
 use Rattle.servo_rules.specs.Answers.{bitAt, numbersOf, outputsFrom, servo, request, withCause, execute}
 use Rattle.servo_rules.specs.Promises.{Resets, Enabled, Gains, Samples}
 use Rattle.servo_rules.proofs.Between.{frame-quiet}
+use Rattle.servo_rules.proofs.Meeting.{tick-is}
+use Rattle.servo_rules.proofs.Reply.{status-bits}
 use Rattle.servo_rules.proofs.Taken.{gain-read}
 use Rattle.servo_rules.proofs.Apart.{apart}
 use Rattle.servo_rules.proofs.Signs.{signed-itself}
@@ -92,12 +95,16 @@ gains f alone m =
     }
 
 pub samples : Samples
-unfolding numbersOf ticked
-samples x m = record {
-  latched = refl;
-  kept = λ f alone. frame-quiet f alone m .0;
-  power = refl;
-  ad = refl;
-  place = refl;
-  change = refl;
-}
+unfolding numbersOf
+samples x m =
+    let e = tick-is x m in
+    let b = status-bits (ticked x m) in
+    record {
+      latched = ap (λ (n : Servo). n .latched) e;
+      kept = λ f alone. frame-quiet f alone m .0;
+      power = ap (λ (n : Servo). good (n .latched .power)) e;
+      ad = ap (λ (n : Servo). n .latched .ad) e;
+      limits = (b .limit1 ∙ ap (λ (n : Servo). bit 0 (n .latched .inputs)) e, b .limit2 ∙ ap (λ (n : Servo). bit 1 (n .latched .inputs)) e);
+      place = ap position e;
+      change = ap (λ (n : Servo). less (position (ticked x m)) (n .counts .last) % 65536) e;
+    }

@@ -5,7 +5,7 @@ use lib.IntN.{pos, natAbs}
 use Rattle.servo_rules.specs.declared.Halt.{Halt}
 use Rattle.servo_rules.specs.declared.Halt.the-variants.{Keep, Release, Abrupt, Smooth, Here}
 use Rattle.servo_rules.specs.declared.Order.{Order}
-use Rattle.servo_rules.specs.declared.Order.the-variants.{ResetPosition, LoadTrajectory, Start, SetGain, Stop, ClearBits}
+use Rattle.servo_rules.specs.declared.Order.the-variants.{ResetPosition, LoadTrajectory, Start, SetGain, Stop, SetHoming, ClearBits}
 use Rattle.servo_rules.specs.declared.Way.{Way}
 use Rattle.servo_rules.specs.declared.Way.the-variants.{Pulse, Speed, Move}
 use Rattle.servo_rules.specs.declared.Settings.{Settings}
@@ -13,7 +13,8 @@ use Rattle.servo_rules.specs.declared.Run.{Run}
 use Rattle.servo_rules.specs.declared.Servo.{Servo}
 use Rattle.servo_rules.specs.State.{position, servoOff, idled, off}
 use Rattle.servo_rules.specs.Loads.{loaded, startsNow, toSpeed, toPlace, startedBy, start}
-use Rattle.servo_rules.specs.Perform.{shifted, resetPosition, holding, smooth, haltedBy, stopped, perform}
+use Rattle.servo_rules.specs.Stops.{holding, smooth, haltedBy}
+use Rattle.servo_rules.specs.Perform.{shifted, resetPosition, stopped, perform}
 use Rattle.servo_rules.specs.RestPromises.{NoFrameRaises}
 use Rattle.servo_rules.proofs.Keeping.{either}
 use Rattle.servo_rules.proofs.Framed.{leaves}
@@ -49,6 +50,7 @@ order-slower (LoadTrajectory c) m =
 order-slower Start m = start-slower m
 order-slower (SetGain t) m = le-refl _
 order-slower (Stop a k x) m = halted-slower k (position m) x (m .run)
+order-slower (SetHoming b) m = le-refl _
 order-slower ClearBits m = le-refl _
 
 pub no-frame-raises : NoFrameRaises

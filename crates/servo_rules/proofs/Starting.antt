@@ -5,7 +5,7 @@ use mathlib.Core.Bool.{Bool, false, not, _||_}
 use Rattle.base_layout.proofs.Every.{every-hold, hold-every}
 use Rattle.module_rules.proofs.Settled.{cause}
 use Rattle.servo_rules.specs.declared.Order.{Order}
-use Rattle.servo_rules.specs.declared.Order.the-variants.{ResetPosition, LoadTrajectory, Start, SetGain, Stop, ClearBits}
+use Rattle.servo_rules.specs.declared.Order.the-variants.{ResetPosition, LoadTrajectory, Start, SetGain, Stop, SetHoming, ClearBits}
 use Rattle.servo_rules.specs.declared.Servo.{Servo}
 use Rattle.servo_rules.specs.State.{ready, idled}
 use Rattle.servo_rules.specs.Loads.{loaded, beginningAt, completeBy, complete, startable, toSpeed, toPlace, start}
@@ -41,6 +41,7 @@ used-up (LoadTrajectory c) m h = rw h refl
 used-up Start m h = refl
 used-up (SetGain t) m h = absurd h
 used-up (Stop a k x) m h = absurd h
+used-up (SetHoming b) m h = absurd h
 used-up ClearBits m h = absurd h
 
 pub twice : Twice

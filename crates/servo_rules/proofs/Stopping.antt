@@ -7,7 +7,8 @@ use Rattle.servo_rules.specs.declared.Halt.the-variants.{Keep, Release, 
 use Rattle.servo_rules.specs.declared.Servo.{Servo}
 use Rattle.servo_rules.specs.State.{position, servoOff, idled, off}
 use Rattle.servo_rules.specs.Loads.{toSpeed}
-use Rattle.servo_rules.specs.Perform.{holding, smooth, stopped}
+use Rattle.servo_rules.specs.Stops.{holding, smooth}
+use Rattle.servo_rules.specs.Perform.{stopped}
 use Rattle.servo_rules.specs.StopPromises.{Released, Slows, Stops, StopsNow}
 use Rattle.servo_rules.proofs.Readying.{ready-is, is-ready}
 use Rattle.servo_rules.proofs.Keeping.{halted-keeps}

@@ -37,6 +37,6 @@ stop-read ds = record {
 
 pub unknown : Unknown
 unfolding request asked own
-unknown f alone n0 n1 n2 n3 n4 n5 n6 n7 n10 n11 n14 n15 =
+unknown f alone n0 n1 n2 n3 n4 n5 n6 n7 n9 n10 n11 n14 n15 =
     rw (ne-eqb _ _ n1, ne-eqb _ _ n2, ne-eqb _ _ n3, ne-eqb _ _ n10, ne-eqb _ _ n14, ne-eqb _ _ n15)
-    (rw (ne-eqb _ _ n0, ne-eqb _ _ n4, ne-eqb _ _ n5, ne-eqb _ _ n6, ne-eqb _ _ n7, ne-eqb _ _ n11) refl)
+    (rw (ne-eqb _ _ n0, ne-eqb _ _ n4, ne-eqb _ _ n5, ne-eqb _ _ n6, ne-eqb _ _ n7, ne-eqb _ _ n9, ne-eqb _ _ n11) refl)

@@ -1,6 +1,7 @@
 -- What a tick does, by power, mode and following error. Assumes nothing.
 use mathlib.Core.Path.{_≡_, refl, sym, ap, subst, _∙_}
-use mathlib.Core.Bool.{Bool, true, false, cond, true≢false}
+use mathlib.Core.Logic.{inl, inr}
+use mathlib.Core.Bool.{Bool, true, false, cond, not, _&&_, true≢false, false≢true}
 use Prim.Native.Nat.{ℕ, _≤_, _<_}
 use native.Mathlib.Omega.{arith}
 use borrow.Author.Tests.{eq-eqb, ne-eqb, leb-true, leb-false}
@@ -11,14 +12,16 @@ use Rattle.servo_filter.specs.Filter.{held, summed, Told}
 use Rattle.servo_filter.proofs.Answers.{trips, works}
 use Rattle.servo_rules.specs.declared.Mode.{Mode}
 use Rattle.servo_rules.specs.declared.Mode.the-variants.{Off, Pwm, Hold, Velocity, Trapezoid}
+use Rattle.servo_rules.specs.declared.Drive.{Drive}
 use Rattle.servo_rules.specs.declared.Run.{Run}
 use Rattle.servo_rules.specs.declared.Sample.{Sample}
 use Rattle.servo_rules.specs.declared.Servo.{Servo}
-use Rattle.servo_rules.specs.State.{positionAt, position, servoOff, withLast, idled, off}
-use Rattle.servo_rules.specs.Tick.{advanced, putOut, tripped, workedTo, filteredTo, servoed, pulsed, drivenBy, ran, ticked}
+use Rattle.servo_rules.specs.State.{positionAt, good, servoOff, idled, off}
+use Rattle.servo_rules.specs.Tick.{advanced, putOut, tripped, workedTo, filteredTo, servoed, pulsed, drivenBy, byPower, met, ticked}
 use Rattle.servo_rules.specs.StopPromises.{Released}
 use Rattle.servo_rules.specs.TickPromises.{followed, reaching, worked, Winds, Runs, Ticks}
-use Rattle.servo_rules.proofs.Keeping.{off-released}
+use Rattle.servo_rules.proofs.Keeping.{Undriven, off-released}
+use Rattle.servo_rules.proofs.Meeting.{latchedWith, met-is, tick-is, by-power, met-released, met-undriven}
 use Rattle.servo_rules.proofs.Ends.{answer, tick-ends}
 
 pub tripped-released : (r : Run) → Released (tripped (advanced r) r) × (tripped (advanced r) r .drive .error ≡ true)
@@ -26,17 +29,8 @@ unfolding tripped idled off
 tripped-released r = (record { mode = refl; speed = refl; output = refl; pulse = refl; cut = refl; memory = refl }, refl)
 
 module _ (power here : ℕ) (g : Gains) (r : Run) where
-  -- what a tick makes of what runs at power 0, and at any other by the mode
-  at-low : power ≡ 0 → ran power here g r ≡ off r
-  unfolding ran
-  at-low e = rw (eq-eqb _ _ e) refl
-
-  by-mode : (power ≡ 0 → ⊥) → ran power here g r ≡ drivenBy (r .drive .mode) power here g r
-  unfolding ran
-  by-mode n = rw (ne-eqb _ _ n) refl
-
-  in-mode : (power ≡ 0 → ⊥) → (k : Mode) → r .drive .mode ≡ k → ran power here g r ≡ drivenBy k power here g r
-  in-mode n k e = by-mode n ∙ ap (λ (k : Mode). drivenBy k power here g r) e
+  in-mode : (k : Mode) → r .drive .mode ≡ k → drivenBy (r .drive .mode) power here g r ≡ drivenBy k power here g r
+  in-mode k e = ap (λ (k : Mode). drivenBy k power here g r) e
 
   -- a mode with a servo runs the filter
   by-filter : (k : Mode) → servoOff k ≡ false → drivenBy k power here g r ≡ filteredTo (answer here g r) power (advanced r) r
@@ -47,22 +41,41 @@ module _ (power here : ℕ) (g : Gains) (r : Run) where
   by-filter Velocity e = refl
   by-filter Trapezoid e = refl
 
-  answered : (power ≡ 0 → ⊥) → servoOff (r .drive .mode) ≡ false → (t : Told) → answer here g r ≡ t
-      → ran power here g r ≡ filteredTo t power (advanced r) r
-  answered n s t e = by-mode n ∙ by-filter (r .drive .mode) s ∙ ap (λ (t : Told). filteredTo t power (advanced r) r) e
+  answered : servoOff (r .drive .mode) ≡ false → (t : Told) → answer here g r ≡ t
+      → drivenBy (r .drive .mode) power here g r ≡ filteredTo t power (advanced r) r
+  answered s t e = by-filter (r .drive .mode) s ∙ ap (λ (t : Told). filteredTo t power (advanced r) r) e
+
+-- what has no output in off has none there after power and homing
+abbrev OffIsSilent : Drive → Type 0
+OffIsSilent d = d .mode ≡ Off → d .output ≡ pos 0
+
+undriven-silent : (d e : Drive) → Undriven d e → OffIsSilent d → OffIsSilent e
+undriven-silent d e (inl h) s k = h .0 ∙ s (h .2 k)
+undriven-silent d e (inr h) s k = h .0
+
+pub met-silent : (x : Sample) (m : Servo) → OffIsSilent (m .run .drive) → OffIsSilent (met x m .run .drive)
+met-silent x m = met-undriven x m OffIsSilent undriven-silent
 
 module _ (x : Sample) (m : Servo) where
+  run-is : ticked x m .run
+      ≡ drivenBy (met x m .run .drive .mode) (x .power) (positionAt x (m .counts)) (m .settings .tuning .gains) (met x m .run)
+  run-is = ap (λ (n : Servo). n .run) (tick-is x m)
+
   -- no output without power 1
-  no-output : (x .power ≡ 1 → ⊥) → (m .run .drive .mode ≡ Off → m .run .drive .output ≡ pos 0)
-      → ticked x m .run .drive .output ≡ pos 0
+  no-output : (x .power ≡ 1 → ⊥) → OffIsSilent (m .run .drive) → ticked x m .run .drive .output ≡ pos 0
   unfolding pulsed putOut tripped idled off
   no-output n h = tick-ends (λ (s : Run). s .drive .output ≡ pos 0) x m (record {
-    low = λ e. refl;
-    off = h;
+    off = met-silent x m h;
     pwm = λ q. rw (ne-eqb _ _ n) refl;
     output = λ s t q. rw (ne-eqb _ _ n) refl;
     trip = λ q. refl;
   })
+
+  -- at low power all is off: homing's abrupt stop is left out
+  pub low-off : x .power ≡ 0 → Released (met x m .run)
+  low-off e =
+      met-released x m (by-power Released (x .power) (m .run) (λ z. off-released (m .run)) (λ n. absurd (n e)))
+      (λ a. false≢true (ap (λ (p : ℕ). good p && not (byPower (x .power) (m .run) .drive .error)) (sym e) ∙ a .now true))
 
   abbrev place : ℕ
   place = positionAt x (m .counts)
@@ -73,11 +86,10 @@ module _ (x : Sample) (m : Servo) where
       record { trips = false; memory = record { integral = integral; previous = followed x m }; output = worked x m; cut = cut }
 
   -- a tick that runs, by what is told
-  module _ (n : x .power ≡ 0 → ⊥) (k : servoOff (m .run .drive .mode) ≡ false) (integral : ℤ) (cut : Bool)
-      (q : answer place (m .settings .tuning .gains) (m .run) ≡ stored integral cut) where
-    made : ticked x m .run ≡ workedTo (stored integral cut) (x .power) (advanced (m .run)) (m .run)
-    unfolding ticked
-    made = answered (x .power) place (m .settings .tuning .gains) (m .run) n k (stored integral cut) q
+  module _ (k : servoOff (met x m .run .drive .mode) ≡ false) (integral : ℤ) (cut : Bool)
+      (q : answer place (m .settings .tuning .gains) (met x m .run) ≡ stored integral cut) where
+    made : ticked x m .run ≡ workedTo (stored integral cut) (x .power) (advanced (met x m .run)) (met x m .run)
+    made = run-is ∙ answered (x .power) place (m .settings .tuning .gains) (met x m .run) k (stored integral cut) q
 
     put-out : x .power ≡ 1 → ticked x m .run .drive .output ≡ worked x m
     unfolding putOut
@@ -87,8 +99,8 @@ module _ (x : Sample) (m : Servo) where
     winds = (ap (λ (s : Run). s .memory .integral) made, ap (λ (s : Run). s .drive .cut) made)
 
     going : (natAbs (reaching x m) ≤ m .settings .tuning .gains .ol
-        → Winds (summed (m .settings .tuning .gains) (m .run .memory) (followed x m)) false (ticked x m))
-        → (m .settings .tuning .gains .ol < natAbs (reaching x m) → Winds (m .run .memory .integral) true (ticked x m))
+        → Winds (summed (m .settings .tuning .gains) (met x m .run .memory) (followed x m)) false (ticked x m))
+        → (m .settings .tuning .gains .ol < natAbs (reaching x m) → Winds (met x m .run .memory .integral) true (ticked x m))
         → Runs x m (ticked x m)
     going p c = record {
       profile = ap (λ (s : Run). s .profile) made;
@@ -100,47 +112,44 @@ module _ (x : Sample) (m : Servo) where
       cut = c;
     }
 
-  runs : (x .power ≡ 0 → ⊥) → servoOff (m .run .drive .mode) ≡ false
+  runs : servoOff (met x m .run .drive .mode) ≡ false
       → natAbs (followed x m) ≤ m .settings .tuning .gains .el → Runs x m (ticked x m)
-  runs n k h = at (leb (natAbs (reaching x m)) (m .settings .tuning .gains .ol)) refl
+  runs k h = at (leb (natAbs (reaching x m)) (m .settings .tuning .gains .ol)) refl
     where
       at : (t : Bool) → leb (natAbs (reaching x m)) (m .settings .tuning .gains .ol) ≡ t → Runs x m (ticked x m)
       at true e =
           let l = leb-true _ _ e in
-          let q = works _ (m .run .memory) (followed x m) h .plain l in
-          going n k _ false q (λ l. winds n k _ false q) (λ z. absurd (omega arith))
+          let q = works _ (met x m .run .memory) (followed x m) h .plain l in
+          going k _ false q (λ l. winds k _ false q) (λ z. absurd (omega arith))
       at false e =
           let l = leb-false _ _ e in
-          let q = works _ (m .run .memory) (followed x m) h .cut l in
-          going n k _ true q (λ z. absurd (omega arith)) (λ l. winds n k _ true q)
+          let q = works _ (met x m .run .memory) (followed x m) h .cut l in
+          going k _ true q (λ z. absurd (omega arith)) (λ l. winds k _ true q)
 
 pub ticks : Ticks
-unfolding ticked pulsed putOut
+unfolding pulsed putOut
 ticks x m =
-    let power : ℕ = x .power in
     let here : ℕ = positionAt x (m .counts) in
     let g : Gains = m .settings .tuning .gains in
-    let r : Run = m .run in
+    let r : Run = met x m .run in
+    let e = tick-is x m in
+    let in-run : (k : Mode) → r .drive .mode ≡ k → ticked x m .run ≡ drivenBy k (x .power) here g r =
+    λ k q. run-is x m ∙ in-mode (x .power) here g r k q in
     record {
-      latched = refl;
-      last = refl;
-      offset = refl;
-      station = refl;
-      tuning = refl;
-      rates = refl;
-      load = refl;
-      low = λ e. subst Released (sym (at-low power here g r e)) (off-released r);
+      latched = ap (λ (n : Servo). n .latched) e;
+      last = ap (λ (n : Servo). n .counts .last) e;
+      offset = ap (λ (n : Servo). n .counts .offset) e;
+      station = ap (λ (n : Servo). n .station) e;
+      tuning = ap (λ (n : Servo). n .settings .tuning) e;
+      rates = ap (λ (n : Servo). n .settings .rates) e;
+      low = λ z. let q = low-off x m z in subst Released (sym (in-run Off (q .mode))) q;
       unpowered = no-output x m;
-      off = λ n e.
-          ap (λ (s : Run). record {
-            station = m .station;
-            latched = x;
-            counts = withLast (position m) (m .counts);
-            settings = m .settings;
-            run = s;
-          }) (in-mode power here g r n Off e);
-      pulse = λ n k.
-          let e : ran power here g r ≡ pulsed power (g .ol) r = in-mode power here g r n Pwm k in (
+      off = λ k.
+          e
+          ∙ ap (λ (r : Run). latchedWith x m (met x m .settings .load) r (met x m .homing)) (in-mode (x .power) here g r Off k)
+          ∙ sym (met-is x m);
+      pulse = λ k.
+          let e : ticked x m .run ≡ pulsed (x .power) (g .ol) r = in-run Pwm k in (
             ap (λ (s : Run). s .profile) e,
             ap (λ (s : Run). s .memory) e,
             ap (λ (s : Run). s .drive .mode) e ∙ k,
@@ -148,8 +157,8 @@ ticks x m =
             λ p. ap (λ (s : Run). s .drive .output) e ∙ ap (λ (t : Bool). cond t (held (g .ol) (r .drive .pulse)) (pos 0)) (eq-eqb _ _ p),
             ap (λ (s : Run). s .drive .cut) e,
           );
-      trip = λ n k h.
+      trip = λ k h.
           subst (λ (s : Run). Released s × (s .drive .error ≡ true))
-          (sym (answered power here g r n k _ (trips g (r .memory) (followed x m) h))) (tripped-released r);
+          (sym (run-is x m ∙ answered (x .power) here g r k _ (trips g (r .memory) (followed x m) h))) (tripped-released r);
       runs = runs x m;
     }

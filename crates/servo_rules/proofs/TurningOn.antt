@@ -10,7 +10,7 @@ use Rattle.servo_motion.specs.Setpoint.{whole}
 use Rattle.servo_rules.specs.declared.Halt.{Halt}
 use Rattle.servo_rules.specs.declared.Halt.the-variants.{Keep, Release, Abrupt, Smooth, Here}
 use Rattle.servo_rules.specs.declared.Order.{Order}
-use Rattle.servo_rules.specs.declared.Order.the-variants.{ResetPosition, LoadTrajectory, Start, SetGain, Stop, ClearBits}
+use Rattle.servo_rules.specs.declared.Order.the-variants.{ResetPosition, LoadTrajectory, Start, SetGain, Stop, SetHoming, ClearBits}
 use Rattle.servo_rules.specs.declared.Way.{Way}
 use Rattle.servo_rules.specs.declared.Way.the-variants.{Pulse, Speed, Move}
 use Rattle.servo_rules.specs.declared.Settings.{Settings}
@@ -18,7 +18,8 @@ use Rattle.servo_rules.specs.declared.Run.{Run}
 use Rattle.servo_rules.specs.declared.Servo.{Servo}
 use Rattle.servo_rules.specs.State.{position, servoOff, withStation, idled, off}
 use Rattle.servo_rules.specs.Loads.{loaded, startsNow, beginningAt, toSpeed, toPlace, startedBy, start}
-use Rattle.servo_rules.specs.Perform.{resetPosition, holding, smooth, haltedBy, stopped, can, perform}
+use Rattle.servo_rules.specs.Stops.{holding, smooth, haltedBy}
+use Rattle.servo_rules.specs.Perform.{resetPosition, stopped, can, perform}
 use Rattle.servo_rules.specs.RestPromises.{following, TurnsOnHere}
 use Rattle.servo_rules.proofs.Keeping.{either}
 use Rattle.servo_rules.proofs.Framed.{leaves}
@@ -71,6 +72,7 @@ order-here (LoadTrajectory c) m was n =
 order-here Start m was n = start-here m was
 order-here (SetGain t) m was n = stays-off m was (perform (SetGain t) m) refl
 order-here (Stop a k x) m was n = halted-here (position m) (omega arith) (m .run) was k x (λ e. n a x (ap (λ (k : Halt). Stop a k x) e))
+order-here (SetHoming b) m was n = stays-off m was (perform (SetHoming b) m) refl
 order-here ClearBits m was n = stays-off m was (perform ClearBits m) refl
 
 pub turns-on-here : TurnsOnHere

@@ -17,11 +17,13 @@ use Rattle.servo_rules.specs.declared.Mode.{Mode}
 use Rattle.servo_rules.specs.declared.Mode.the-variants.{Off, Pwm, Hold, Velocity, Trapezoid}
 use Rattle.servo_rules.specs.declared.Drive.{Drive}
 use Rattle.servo_rules.specs.declared.Run.{Run}
+use Rattle.servo_rules.specs.declared.Homing.{Homing}
 use Rattle.servo_rules.specs.declared.Servo.{Servo}
 use Rattle.servo_rules.specs.declared.Order.{Order}
 use Rattle.servo_rules.specs.Asks.{own}
 use Rattle.servo_rules.specs.State.{positionAt, good, withStation, fresh, started}
 use Rattle.servo_rules.specs.Loads.{atRest}
+use Rattle.servo_rules.specs.Homing.{homingBits}
 use Rattle.servo_rules.specs.Perform.{can, perform}
 use Rattle.servo_rules.specs.Tick.{ticked}
 
@@ -31,10 +33,6 @@ typeNumber = 0
 
 abbrev pub typeAndVersion : ℕ
 typeAndVersion = 2560
-
--- 01 Servo, Items: home is 0
-abbrev pub home : ℕ
-home = 0
 
 -- 01 Tick, Move done: off, PWM, holding; goal speed reached; no distance and no speed left
 abbrev pub doneBy : Mode → Run → Bool
@@ -50,28 +48,34 @@ done r = doneBy (r .drive .mode) r
 abbrev pub bitAt : ℕ → Bool → ℕ
 bitAt n b = cond b n 0
 
--- 01 Servo, Status bits; 02 P5: 0 move done, 1 cause not 0, 2 the last filter tick was cut, 3 power good, 4 position error
-unfoldable pub statusOf : ℕ → ℕ → Run → ℕ
-statusOf cause power r = bitAt 1 (done r) + causeBit cause + bitAt 4 (r .drive .cut) + bitAt 8 (good power) + bitAt 16 (r .drive .error)
+-- 01 Servo, Status bits; 02 P5, P8: 0 move done, 1 cause not 0, 2 the last filter tick was cut, 3 power good, 4 position error, 5 to 7 homing's
+unfoldable pub statusOf : ℕ → Sample → Run → Homing → ℕ
+statusOf cause x r h =
+    bitAt 1 (done r)
+    + causeBit cause
+    + bitAt 4 (r .drive .cut)
+    + bitAt 8 (good (x .power))
+    + bitAt 16 (r .drive .error)
+    + homingBits (x .inputs) h
 
 abbrev pub status : Servo → ℕ
-status m = statusOf (m .station .cause) (m .latched .power) (m .run)
+status m = statusOf (m .station .cause) (m .latched) (m .run) (m .homing)
 
--- 01 Servo, Items 0 to 7: position, A/D, last tick's change, 0, home, type and version, previous error, 0; and how many bytes each has
-unfoldable pub numbersOf : Sample → Counts → Memory → List ℕ
-numbersOf x k y =
+-- 01 Servo, Items 0 to 7; 02 P8: position, A/D, last tick's change, 0, home, type and version, previous error, 0; and how many bytes each has
+unfoldable pub numbersOf : Sample → Counts → Memory → Homing → List ℕ
+numbersOf x k y h =
     positionAt x k
     ∷ x .ad
     ∷ less (positionAt x k) (k .last) % 65536
     ∷ 0
-    ∷ home
+    ∷ h .home
     ∷ typeAndVersion
     ∷ word (y .previous) % 65536
     ∷ 0
     ∷ []
 
 abbrev pub numbers : Servo → List ℕ
-numbers m = numbersOf (m .latched) (m .counts) (m .run .memory)
+numbers m = numbersOf (m .latched) (m .counts) (m .run .memory) (m .homing)
 
 abbrev pub sizes : List ℕ
 sizes = 4 ∷ 1 ∷ 2 ∷ 1 ∷ 4 ∷ 2 ∷ 2 ∷ 1 ∷ []

@@ -16,7 +16,7 @@ use Rattle.module_rules.specs.declared.Setting.the-variants.{Assign, Define, Ra
 use Rattle.module_rules.specs.declared.Fault.the-variants as Faults
 use Rattle.module_rules.specs.Rules.{Request, malformed, set, reset, wants, asking}
 use Rattle.servo_rules.specs.Carried.{needed, carriedIn, inRange}
-use Rattle.servo_rules.specs.Asks.{loadMeant, gainsIn, tuningIn, gainsFit, gainMeant, haltOf, oneHalt, stopCount, stopMeant}
+use Rattle.servo_rules.specs.Asks.{loadMeant, gainsIn, tuningIn, gainsFit, gainMeant, haltOf, oneHalt, stopCount, stopMeant, homingMeant}
 use Rattle.servo_rules.specs.Answers.{request}
 
 -- A load is taken if its data bytes are as many as its control byte asks for and its values are in range; with another number of them the
@@ -81,7 +81,8 @@ abbrev pub Line : ℕ → Request Order → Frame → Bool → Type 0
 Line count asks f alone =
     (length (f .content) ≡ count → request f alone ≡ asks) × ((length (f .content) ≡ count → ⊥) → request f alone ≡ malformed Faults.Count)
 
--- Each code with its count, and what it asks (01 Commands of both types, Servo). Load Trajectory, Set Gain and Stop look at their data, too.
+-- Each code with its count, and what it asks (01 Commands of both types, Servo). Load Trajectory, Set Gain, Stop and
+-- Set Homing look at their data, too.
 pub record Code (f : Frame) (alone : Bool) : Type 0 where
   pub resetPosition : f .code ≡ 0 → Line 0 (wants ResetPosition) f alone
   pub setAddress : f .code ≡ 1 → Line 2 (set (Assign (getD (f .content) 0 0) (getD (f .content) 1 0))) f alone
@@ -91,6 +92,7 @@ pub record Code (f : Frame) (alone : Bool) : Type 0 where
   pub start : f .code ≡ 5 → Line 0 (wants Start) f alone
   pub setGain : f .code ≡ 6 → request f alone ≡ asking (f .content) (gainMeant (f .content))
   pub stop : f .code ≡ 7 → request f alone ≡ asking (f .content) (stopMeant (f .content))
+  pub setHoming : f .code ≡ 9 → request f alone ≡ asking (f .content) (homingMeant (f .content))
   pub setBaud : f .code ≡ 10 → alone ≡ false → Line 1 (set (Rate (getD (f .content) 0 0))) f alone
   pub baudAlone : f .code ≡ 10 → alone ≡ true → request f alone ≡ malformed Faults.Unknown
   pub clearBits : f .code ≡ 11 → Line 0 (wants ClearBits) f alone
@@ -100,7 +102,7 @@ pub record Code (f : Frame) (alone : Bool) : Type 0 where
 abbrev pub Codes : Type 0
 Codes = (f : Frame) (alone : Bool) → Code f alone
 
--- 02 P1: any other code than the twelve is unknown, with any data.
+-- 02 P1: any other code than the thirteen is unknown, with any data.
 abbrev pub Unknown : Type 0
 Unknown =
     (f : Frame) (alone : Bool)
@@ -112,6 +114,7 @@ Unknown =
     → (f .code ≡ 5 → ⊥)
     → (f .code ≡ 6 → ⊥)
     → (f .code ≡ 7 → ⊥)
+    → (f .code ≡ 9 → ⊥)
     → (f .code ≡ 10 → ⊥)
     → (f .code ≡ 11 → ⊥)
     → (f .code ≡ 14 → ⊥)

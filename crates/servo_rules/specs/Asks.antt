@@ -13,10 +13,11 @@ use Rattle.servo_rules.specs.declared.Tuning.{Tuning}
 use Rattle.servo_rules.specs.declared.Halt.{Halt}
 use Rattle.servo_rules.specs.declared.Halt.the-variants.{Keep, Release, Abrupt, Smooth, Here}
 use Rattle.servo_rules.specs.declared.Order.{Order}
-use Rattle.servo_rules.specs.declared.Order.the-variants.{ResetPosition, LoadTrajectory, Start, SetGain, Stop, ClearBits}
+use Rattle.servo_rules.specs.declared.Order.the-variants.{ResetPosition, LoadTrajectory, Start, SetGain, Stop, SetHoming, ClearBits}
 use Rattle.servo_rules.specs.declared.Request as Code
 use Rattle.servo_rules.specs.declared.Request.the-variants as Codes
 use Rattle.servo_rules.specs.Carried.{needed, carriedIn, inRange}
+use Rattle.servo_rules.specs.Homing.{goodByte}
 
 -- the case of the code's request in the request of any type
 abbrev pub asksOf : Code.Request → Request Order
@@ -77,7 +78,12 @@ stopMeant ds =
     takes (stopCount (getD ds 0 0)) (oneHalt (getD ds 0 0))
     (Stop (isSet 0 (getD ds 0 0)) (haltOf (getD ds 0 0)) (ofLe (readAt 4 1 ds)))
 
--- the type's own codes: 0 Reset Position (0), 4 Load Trajectory, 5 Start (0), 6 Set Gain (15), 7 Stop, 11 Clear Bits (0); any other is unknown
+-- 9 Set Homing (02 P8)
+abbrev pub homingMeant : List ℕ → Meaning Order
+homingMeant ds = takes 1 (goodByte (getD ds 0 0)) (SetHoming (getD ds 0 0))
+
+-- the type's own codes: 0 Reset Position (0), 4 Load Trajectory, 5 Start (0), 6 Set Gain (15), 7 Stop, 9 Set Homing (1), 11 Clear Bits (0); any other
+-- is unknown
 unfoldable pub own : ℕ → List ℕ → Meaning Order
 own code ds =
     cond (eqb code 0) (takes 0 true ResetPosition)
@@ -85,5 +91,6 @@ own code ds =
     (cond (eqb code 5) (takes 0 true Start)
     (cond (eqb code 6) (gainMeant ds)
     (cond (eqb code 7) (stopMeant ds)
+    (cond (eqb code 9) (homingMeant ds)
     (cond (eqb code 11) (takes 0 true ClearBits)
-    unknown)))))
+    unknown))))))

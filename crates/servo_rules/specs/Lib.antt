@@ -2,6 +2,8 @@ pub mod Carried
 pub mod Asks
 pub mod State
 pub mod Loads
+pub mod Stops
+pub mod Homing
 pub mod Perform
 pub mod Tick
 pub mod Answers
@@ -11,5 +13,6 @@ pub mod Promises
 pub mod LoadPromises
 pub mod StopPromises
 pub mod TickPromises
+pub mod HomingPromises
 pub mod CutPromises
 pub mod RestPromises

@@ -13,7 +13,7 @@ use Rattle.servo_filter.specs.Filter.{blank}
 use Rattle.servo_rules.specs.declared.Carried.{Carried}
 use Rattle.servo_rules.specs.declared.Halt.{Halt}
 use Rattle.servo_rules.specs.declared.Order.{Order}
-use Rattle.servo_rules.specs.declared.Order.the-variants.{ResetPosition, LoadTrajectory, Start, SetGain, Stop, ClearBits}
+use Rattle.servo_rules.specs.declared.Order.the-variants.{ResetPosition, LoadTrajectory, Start, SetGain, Stop, SetHoming, ClearBits}
 use Rattle.servo_rules.specs.declared.Mode.{Mode}
 use Rattle.servo_rules.specs.declared.Mode.the-variants.{Off, Pwm, Velocity, Trapezoid}
 use Rattle.servo_rules.specs.declared.Way.{Way}
@@ -64,6 +64,7 @@ Starting (LoadTrajectory c) = startsNow c ≡ true
 Starting Start = Unit {0}
 Starting (SetGain t) = ⊥
 Starting (Stop a h x) = ⊥
+Starting (SetHoming b) = ⊥
 Starting ClearBits = ⊥
 
 -- A load starts once: after an executed start nothing waits, and a Start that follows is not now.

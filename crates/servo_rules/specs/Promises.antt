@@ -1,8 +1,8 @@
 -- What is promised of a servo's frames, answers, power-up and samples, besides what is promised of every module type; Ask-, Byte-,
--- Load-, Stop-, Tick-, Cut- and RestPromises have the rest. Each is proved under its name, with small letters, in proofs/.
+-- Load-, Stop-, Tick-, Homing-, Cut- and RestPromises have the rest. Each is proved under its name, with small letters, in proofs/.
 use mathlib.Core.Path.{_≡_}
 use mathlib.Core.Logic.{_↔_}
-use Prim.Native.Nat.{_%_, _^_, _<_}
+use Prim.Native.Nat.{ℕ, _%_, _^_, _<_}
 use mathlib.Core.List.{[], _∷_}
 use mathlib.Core.Bool.{Bool, true, false, not}
 use lib.ListN.{length, getD, drop}
@@ -16,7 +16,7 @@ use Rattle.line_receiver.specs.Frames.{Frame}
 use Rattle.module_rules.specs.Report.{Fit}
 use Rattle.servo_motion.specs.Profile.{left}
 use Rattle.servo_rules.specs.declared.Tuning.{Tuning}
-use Rattle.servo_rules.specs.declared.Order.the-variants.{SetGain, ClearBits}
+use Rattle.servo_rules.specs.declared.Order.the-variants.{SetGain, SetHoming, ClearBits}
 use Rattle.servo_rules.specs.declared.Sample.{Sample}
 use Rattle.servo_rules.specs.declared.Mode.the-variants.{Off, Velocity, Trapezoid}
 use Rattle.servo_rules.specs.declared.Servo.{Servo}
@@ -27,15 +27,18 @@ use Rattle.servo_rules.specs.Perform.{can, perform}
 use Rattle.servo_rules.specs.Tick.{ticked}
 use Rattle.servo_rules.specs.Answers.{done, bitAt, status, numbers, sizes, outputsOf, servo, withCause, execute, reply}
 
--- The status byte: bit 0 move done, 1 cause not 0, 2 the cut bit, 3 power 1, 4 the error bit, and no other bit (01 Servo, Status bits; 02 P5).
+-- The status byte: bit 0 move done, 1 cause not 0, 2 the cut bit, 3 power 1, 4 the error bit, 5 and 6 the latched inputs, 7 homing in progress (01
+-- Servo, Status bits; 02 P5, P8).
 pub record Status (m : Servo) : Type 0 where
   pub finished : bit 0 (status m) ≡ bitAt 1 (done (m .run))
   pub refused : bit 1 (status m) ≡ bitAt 1 (not (eqb (m .station .cause) 0))
   pub cut : bit 2 (status m) ≡ bitAt 1 (m .run .drive .cut)
   pub good : bit 3 (status m) ≡ bitAt 1 (powered m)
   pub error : bit 4 (status m) ≡ bitAt 1 (m .run .drive .error)
-  pub others : (bit 5 (status m) ≡ 0) × (bit 6 (status m) ≡ 0) × (bit 7 (status m) ≡ 0)
-  pub small : status m < 32
+  pub limit1 : bit 5 (status m) ≡ bit 0 (m .latched .inputs)
+  pub limit2 : bit 6 (status m) ≡ bit 1 (m .latched .inputs)
+  pub homing : bit 7 (status m) ≡ bitAt 1 (not (eqb (m .homing .byte) 0))
+  pub small : status m < 256
 
 abbrev pub StatusBits : Type 0
 StatusBits = (m : Servo) → Status m
@@ -52,15 +55,16 @@ MoveDone = (m : Servo) → Finished m
 
 -- Every item's number fits into its bytes, so that a reply spells it whole.
 abbrev pub NumbersFit : Type 0
-NumbersFit = (m : Servo) → m .latched .ad < 256 → Fit sizes (numbers m)
+NumbersFit = (m : Servo) → m .latched .ad < 256 → m .homing .home < 2 ^ 32 → Fit sizes (numbers m)
 
--- Each item by its number, of as many bytes as its size; the type's byte comes before the version's (01 Servo, Items).
+-- Each item by its number, of as many bytes as its size; the type's byte comes before the version's (01 Servo, Items;
+-- 02 P8).
 pub record Items (m : Servo) : Type 0 where
   pub place : getD (numbers m) 0 0 ≡ less (m .latched .raw) (m .counts .offset)
   pub ad : getD (numbers m) 1 0 ≡ m .latched .ad
   pub change : getD (numbers m) 2 0 ≡ less (position m) (m .counts .last) % 65536
   pub zero : (getD (numbers m) 3 0 ≡ 0) × (getD (numbers m) 7 0 ≡ 0)
-  pub home : getD (numbers m) 4 0 ≡ 0
+  pub home : getD (numbers m) 4 0 ≡ m .homing .home
   pub version : le (getD sizes 5 0) (getD (numbers m) 5 0) ≡ 0 ∷ 10 ∷ []
   pub error : getD (numbers m) 6 0 ≡ word (m .run .memory .previous) % 65536
   pub bytes : sizes ≡ 4 ∷ 1 ∷ 2 ∷ 1 ∷ 4 ∷ 2 ∷ 2 ∷ 1 ∷ []
@@ -68,7 +72,8 @@ pub record Items (m : Servo) : Type 0 where
 abbrev pub ItemsAre : Type 0
 ItemsAre = (m : Servo) → Items m
 
--- what a servo is after power-up and after Hard Reset: off and done, the error bit set, SM 1, nothing loaded, nothing assigned, the rest 0
+-- what a servo is after power-up and after Hard Reset: off and done, the error bit set, SM 1, nothing loaded, nothing assigned,
+-- not homing, the rest 0
 pub record Blank (m : Servo) : Type 0 where
   pub mode : m .run .drive .mode ≡ Off
   pub finished : done (m .run) ≡ true
@@ -89,6 +94,7 @@ pub record Blank (m : Servo) : Type 0 where
   pub el : m .settings .tuning .gains .el ≡ 0
   pub cl : m .settings .tuning .cl ≡ 0
   pub sm : m .settings .tuning .sm ≡ 1
+  pub homing : (m .homing .home ≡ 0) × (m .homing .byte ≡ 0)
   pub waits : m .settings .load .waits ≡ false
   pub placed : (m .settings .load .placed ≡ false) × (m .settings .load .place ≡ 0)
   pub pulsed : (m .settings .load .pulsed ≡ false) × (m .settings .load .pulse ≡ 0)
@@ -109,7 +115,7 @@ pub record Blank (m : Servo) : Type 0 where
 pub record PowerUp : Type 0 where
   pub blank : Blank started
   pub renewed : (m : Servo) → Blank (servo .renewed m)
-  pub latched : (started .latched .raw ≡ 0) × (started .latched .power ≡ 0) × (started .latched .ad ≡ 0)
+  pub latched : (started .latched .raw ≡ 0) × (started .latched .power ≡ 0) × (started .latched .ad ≡ 0) × (started .latched .inputs ≡ 0)
   pub counts : (started .counts .offset ≡ 0) × (started .counts .last ≡ 0)
   pub here : position started ≡ 0
   pub status : status started ≡ 17
@@ -170,6 +176,7 @@ pub record Cleared (m n : Servo) : Type 0 where
   pub latched : n .latched ≡ m .latched
   pub counts : n .counts ≡ m .counts
   pub settings : n .settings ≡ m .settings
+  pub homing : n .homing ≡ m .homing
   pub profile : n .run .profile ≡ m .run .profile
   pub memory : n .run .memory ≡ m .run .memory
   pub mode : n .run .drive .mode ≡ m .run .drive .mode
@@ -182,9 +189,9 @@ pub record Cleared (m n : Servo) : Type 0 where
 abbrev pub Clears : Type 0
 Clears = (f : Frame) (alone : Bool) (m : Servo) → f .damaged ≡ false → f .code ≡ 11 → f .content ≡ [] → Cleared m (execute f alone m)
 
--- Clear Bits and Set Gain are never refused as not now, whatever runs or waits (01 Set Gain, Clear Bits).
+-- Clear Bits, Set Gain and Set Homing are never refused as not now, whatever runs or waits (01 Set Gain, Clear Bits; 02 P8).
 abbrev pub AlwaysNow : Type 0
-AlwaysNow = (m : Servo) → (can ClearBits m ≡ true) × ((t : Tuning) → can (SetGain t) m ≡ true)
+AlwaysNow = (m : Servo) → (can ClearBits m ≡ true) × ((t : Tuning) → can (SetGain t) m ≡ true) × ((b : ℕ) → can (SetHoming b) m ≡ true)
 
 -- A tick latches the sample that it is handed, whatever was latched before; until the next one no frame changes it (01 Servo, Sample; 02 P11).
 pub record Sampling (x : Sample) (m : Servo) : Type 0 where
@@ -192,6 +199,7 @@ pub record Sampling (x : Sample) (m : Servo) : Type 0 where
   pub kept : (f : Frame) (alone : Bool) → execute f alone m .latched ≡ m .latched
   pub power : powered (ticked x m) ≡ good (x .power)
   pub ad : getD (numbers (ticked x m)) 1 0 ≡ x .ad
+  pub limits : (bit 5 (status (ticked x m)) ≡ bit 0 (x .inputs)) × (bit 6 (status (ticked x m)) ≡ bit 1 (x .inputs))
   pub place : position (ticked x m) ≡ less (x .raw) (m .counts .offset)
   pub change : getD (numbers (ticked x m)) 2 0 ≡ less (position (ticked x m)) (position m) % 65536
 

@@ -12,7 +12,7 @@ use Rattle.module_rules.specs.Rules.{wants}
 use Rattle.servo_motion.specs.declared.Profile.{Profile}
 use Rattle.servo_motion.specs.Setpoint.{whole}
 use Rattle.servo_motion.specs.Profile.{left}
-use Rattle.servo_rules.specs.declared.Halt.the-variants.{Here}
+use Rattle.servo_rules.specs.declared.Halt.the-variants.{Abrupt, Here}
 use Rattle.servo_rules.specs.declared.Order.{Order}
 use Rattle.servo_rules.specs.declared.Order.the-variants.{Stop}
 use Rattle.servo_rules.specs.declared.Sample.{Sample}
@@ -25,6 +25,7 @@ use Rattle.servo_rules.specs.Tick.{ticked}
 use Rattle.servo_rules.specs.Answers.{request, execute}
 use Rattle.servo_rules.specs.LoadPromises.{Starting}
 use Rattle.servo_rules.specs.StopPromises.{Released, Counted}
+use Rattle.servo_rules.specs.HomingPromises.{Acts, HeldHere}
 
 -- neither moving nor about to: no speed, no PWM value, no goal speed, no distance left
 pub record Rests (p : Profile) (mode : Mode) (value : ℤ) : Type 0 where
@@ -36,7 +37,8 @@ pub record Rests (p : Profile) (mode : Mode) (value : ℤ) : Type 0 where
 abbrev pub Resting : Servo → Type 0
 Resting m = Rests (m .run .profile) (m .run .drive .mode) (m .run .drive .pulse)
 
--- A servo at rest stays at rest, and its setpoint where it is, until a Start or a load with bit 7 is carried out.
+-- A servo at rest stays at rest until a Start or a load with bit 7 is carried out; a tick leaves its setpoint where it is, but for homing's abrupt stop,
+-- which puts it at the position of that very tick (02 P8).
 pub record StaysResting : Type 0 where
   pub power : Resting started
   pub frame : (f : Frame) (alone : Bool) (m : Servo)
@@ -47,7 +49,8 @@ pub record StaysResting : Type 0 where
   pub tick : (x : Sample) (m : Servo)
       → m .run .profile .setpoint < 2 ^ 48
       → Resting m
-      → Resting (ticked x m) × (ticked x m .run .profile .setpoint ≡ m .run .profile .setpoint)
+      → Resting (ticked x m)
+      × ((ticked x m .run .profile .setpoint ≡ m .run .profile .setpoint) ⊎ (Acts Abrupt x m × HeldHere (ticked x m)))
 
 -- 01 Load Trajectory, Start, Stop: the frames that turn a servo on, or start PWM, where they are executed: a Load with bit 7, a Start, a Stop with
 -- bit 2 or bit 4
@@ -57,13 +60,13 @@ TurnsOn f =
     ⊎ ((f .code ≡ 5)
     ⊎ ((f .code ≡ 7) × ((isSet 2 (getD (f .content) 0 0) ≡ true) ⊎ (isSet 4 (getD (f .content) 0 0) ≡ true))))
 
--- A servo that is off stays off and drives nothing until such a frame is executed.
+-- A servo that is off stays off and drives nothing until such a frame is executed, or homing's abrupt stop holds it where it is (02 P8).
 pub record StaysOff : Type 0 where
   pub frame : (f : Frame) (alone : Bool) (m : Servo)
       → Released (m .run)
       → (f .damaged ≡ false → execute f alone m .station .cause ≡ 0 → TurnsOn f → ⊥)
       → Released (execute f alone m .run)
-  pub tick : (x : Sample) (m : Servo) → Released (m .run) → Released (ticked x m .run)
+  pub tick : (x : Sample) (m : Servo) → Released (m .run) → Released (ticked x m .run) ⊎ (Acts Abrupt x m × HeldHere (ticked x m))
 
 -- how far the setpoint is from the position
 abbrev pub following : Servo → ℤ

@@ -20,6 +20,7 @@ use Rattle.servo_rules.specs.declared.Mode.{Mode}
 use Rattle.servo_rules.specs.declared.Mode.the-variants.{Off, Pwm, Hold, Velocity, Trapezoid}
 use Rattle.servo_rules.specs.declared.Drive.{Drive}
 use Rattle.servo_rules.specs.declared.Run.{Run}
+use Rattle.servo_rules.specs.declared.Homing.{Homing}
 use Rattle.servo_rules.specs.declared.Servo.{Servo}
 
 -- 01 Servo: the position is the raw count less the offset
@@ -71,6 +72,9 @@ noRun = record {
   drive = record { mode = Off; pulse = pos 0; output = pos 0; error = true; amplifier = false; cut = false };
 }
 
+abbrev pub noHoming : Homing
+noHoming = record { home = 0; byte = 0 }
+
 abbrev pub fresh : Sample → Servo
 fresh x = record {
   station = powerUp;
@@ -78,10 +82,11 @@ fresh x = record {
   counts = record { offset = x .raw; last = 0 };
   settings = noSettings;
   run = noRun;
+  homing = noHoming;
 }
 
 abbrev pub noSample : Sample
-noSample = record { raw = 0; power = 0; ad = 0 }
+noSample = record { raw = 0; power = 0; ad = 0; inputs = 0 }
 
 abbrev pub started : Servo
 started = fresh noSample
@@ -92,16 +97,19 @@ withLast x k = record { offset = k .offset; last = x }
 
 -- a servo with one of its parts replaced
 abbrev pub withStation : Station → Servo → Servo
-withStation x m = record { station = x; latched = m .latched; counts = m .counts; settings = m .settings; run = m .run }
+withStation x m = record { station = x; latched = m .latched; counts = m .counts; settings = m .settings; run = m .run; homing = m .homing }
 
 abbrev pub withCounts : Counts → Servo → Servo
-withCounts x m = record { station = m .station; latched = m .latched; counts = x; settings = m .settings; run = m .run }
+withCounts x m = record { station = m .station; latched = m .latched; counts = x; settings = m .settings; run = m .run; homing = m .homing }
 
 abbrev pub withSettings : Settings → Servo → Servo
-withSettings x m = record { station = m .station; latched = m .latched; counts = m .counts; settings = x; run = m .run }
+withSettings x m = record { station = m .station; latched = m .latched; counts = m .counts; settings = x; run = m .run; homing = m .homing }
 
 abbrev pub withRun : Run → Servo → Servo
-withRun x m = record { station = m .station; latched = m .latched; counts = m .counts; settings = m .settings; run = x }
+withRun x m = record { station = m .station; latched = m .latched; counts = m .counts; settings = m .settings; run = x; homing = m .homing }
+
+abbrev pub withHoming : Homing → Servo → Servo
+withHoming x m = record { station = m .station; latched = m .latched; counts = m .counts; settings = m .settings; run = m .run; homing = x }
 
 -- what frames store, with one of its parts replaced
 abbrev pub withTuning : Tuning → Settings → Settings

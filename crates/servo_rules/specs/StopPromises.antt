@@ -73,8 +73,8 @@ pub record HaltsNow (a : Bool) (x : ℕ) (m : Servo) : Type 0 where
 abbrev pub StopsNow : Type 0
 StopsNow = (a : Bool) (x : ℕ) (m : Servo) → HaltsNow a x m
 
--- Reset Position puts the position to 0 and moves nothing against anything else: last tick's change, distance left, following error and the
--- setpoint's fraction are as they were, and so is what drives; no load waits (01 Reset Position).
+-- Reset Position puts the position to 0 and moves nothing against anything else: last tick's change, distance left, following error, the
+-- setpoint's fraction and how far home is are as they were, and so is what drives; homing goes on, and no load waits (01 Reset Position; 02 P8).
 pub record Shifts (m : Servo) : Type 0 where
   pub zero : position (resetPosition m) ≡ 0
   pub change : less (position (resetPosition m)) (resetPosition m .counts .last) ≡ less (position m) (m .counts .last)
@@ -86,6 +86,8 @@ pub record Shifts (m : Servo) : Type 0 where
   pub memory : resetPosition m .run .memory ≡ m .run .memory
   pub drive : resetPosition m .run .drive ≡ m .run .drive
   pub waits : resetPosition m .settings .load .waits ≡ false
+  pub home : less (resetPosition m .homing .home) (position (resetPosition m)) ≡ less (m .homing .home) (position m)
+  pub homing : resetPosition m .homing .byte ≡ m .homing .byte
 
 -- the counts fit into their 32 bits
 pub record Counted (m : Servo) : Type 0 where

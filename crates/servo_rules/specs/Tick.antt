@@ -1,4 +1,5 @@
--- The servo's tick (document 01, "Tick" and "Filter"; document 02, P4 and P5): the sample is latched, then power, then the profile, then the filter.
+-- The servo's tick (document 01, "Tick" and "Filter"; document 02, P4, P5 and P8): the sample is latched, then power, then homing, then the profile,
+-- then the filter.
 use mathlib.Core.Path.{_≡_}
 use Prim.Native.Nat.{ℕ, _<_, _≤_}
 use mathlib.Core.Bool.{true, cond}
@@ -15,7 +16,8 @@ use Rattle.servo_rules.specs.declared.Mode.the-variants.{Off, Pwm, Hold,
 use Rattle.servo_rules.specs.declared.Run.{Run}
 use Rattle.servo_rules.specs.declared.Sample.{Sample}
 use Rattle.servo_rules.specs.declared.Servo.{Servo}
-use Rattle.servo_rules.specs.State.{positionAt, position, good, withLast, running, withProfile, withDrive, putting, erring, off}
+use Rattle.servo_rules.specs.State.{position, good, withLast, withRun, running, withProfile, withDrive, putting, erring, off}
+use Rattle.servo_rules.specs.Homing.{homed}
 
 -- 01 Tick: the profile's step
 abbrev pub advancedBy : Mode → Profile → Profile
@@ -62,20 +64,34 @@ drivenBy Hold power here g r = servoed power here g r
 drivenBy Velocity power here g r = servoed power here g r
 drivenBy Trapezoid power here g r = servoed power here g r
 
--- what a tick makes of what runs, at the latched power and the position here, with these gains and limits. 01 Tick, 02 P4: at power 0 servo and PWM
--- go off, and the amplifier bit stays.
-unfoldable pub ran : ℕ → ℕ → Gains → Run → Run
-ran power here g r = cond (eqb power 0) (off r) (drivenBy (r .drive .mode) power here g r)
+-- 01 Tick, 02 P4: at power 0 servo and PWM go off, and the amplifier bit stays
+unfoldable pub byPower : ℕ → Run → Run
+byPower power r = cond (eqb power 0) (off r) r
 
--- 01 Tick, 02 P11: the tick's sample is latched and the position before the tick kept; then what runs goes on, at the new power and position
-unfoldable pub ticked : Sample → Servo → Servo
-ticked x m = record {
+-- the steps of a tick. 01 Tick, 02 P11: the tick's sample is latched and the position before the tick kept.
+abbrev pub latching : Sample → Servo → Servo
+latching x m = record {
   station = m .station;
   latched = x;
   counts = withLast (position m) (m .counts);
   settings = m .settings;
-  run = ran (x .power) (positionAt x (m .counts)) (m .settings .tuning .gains) (m .run);
+  run = m .run;
+  homing = m .homing;
 }
+
+abbrev pub powering : Servo → Servo
+powering m = withRun (byPower (m .latched .power) (m .run)) m
+
+-- 01 Tick: the profile and the filter, at the latched power and the position, with the gains and limits
+abbrev pub driven : Servo → Servo
+driven m = withRun (drivenBy (m .run .drive .mode) (m .latched .power) (position m) (m .settings .tuning .gains) (m .run)) m
+
+-- 01 Tick, 02 P8: latch, power, homing; what profile and filter then meet
+unfoldable pub met : Sample → Servo → Servo
+met x m = homed (m .latched .inputs) (powering (latching x m))
+
+unfoldable pub ticked : Sample → Servo → Servo
+ticked x m = driven (met x m)
 
 -- what every stored servo's run has, and a tick's arithmetic needs
 pub record Steady (r : Run) : Type 0 where

@@ -16,19 +16,19 @@ use Rattle.servo_rules.specs.declared.Order.the-variants.{ClearBits}
 use Rattle.servo_rules.specs.declared.Sample.{Sample}
 use Rattle.servo_rules.specs.declared.Mode.the-variants.{Off, Pwm, Hold, Velocity, Trapezoid}
 use Rattle.servo_rules.specs.declared.Servo.{Servo}
-use Rattle.servo_rules.specs.State.{positionAt, position, servoOff, started, withLast, withRun, erring}
+use Rattle.servo_rules.specs.State.{positionAt, position, servoOff, started, withRun, erring}
 use Rattle.servo_rules.specs.Perform.{perform}
-use Rattle.servo_rules.specs.Tick.{advanced, followedAt, ticked}
+use Rattle.servo_rules.specs.Tick.{advanced, followedAt, met, ticked}
 use Rattle.servo_rules.specs.Answers.{enableLine, servo, request, execute}
 use Rattle.servo_rules.specs.StopPromises.{Released}
 
--- the following error that a tick's filter sees: at the new setpoint and the new position
+-- the following error that a tick's filter sees, of what it meets after power and homing: at the new setpoint and the new position
 abbrev pub followed : Sample → Servo → ℤ
-followed x m = followedAt (positionAt x (m .counts)) (m .run)
+followed x m = followedAt (positionAt x (m .counts)) (met x m .run)
 
 -- the u that the filter works out of it, a 256th of that, and what of it is put out
 abbrev pub drivenTo : Sample → Servo → ℤ
-drivenTo x m = driven (m .settings .tuning .gains) (m .run .memory) (followed x m)
+drivenTo x m = driven (m .settings .tuning .gains) (met x m .run .memory) (followed x m)
 
 abbrev pub reaching : Sample → Servo → ℤ
 reaching x m = scaled (drivenTo x m)
@@ -43,16 +43,17 @@ Winds integral cut n = (n .run .memory .integral ≡ integral) × (n .run .drive
 -- n is m after a tick with the sample x in which profile and filter ran: the filter's output is put out at power 1; a tick that OL does not cut stores the new integral,
 -- one that it cuts the former one, at whatever power (01 Tick, Filter; 02 P5)
 pub record Runs (x : Sample) (m n : Servo) : Type 0 where
-  pub profile : n .run .profile ≡ advanced (m .run)
+  pub profile : n .run .profile ≡ advanced (met x m .run)
   pub previous : n .run .memory .previous ≡ followed x m
-  pub mode : n .run .drive .mode ≡ m .run .drive .mode
-  pub error : n .run .drive .error ≡ m .run .drive .error
+  pub mode : n .run .drive .mode ≡ met x m .run .drive .mode
+  pub error : n .run .drive .error ≡ met x m .run .drive .error
   pub output : x .power ≡ 1 → n .run .drive .output ≡ worked x m
   pub plain : natAbs (reaching x m) ≤ m .settings .tuning .gains .ol
-      → Winds (summed (m .settings .tuning .gains) (m .run .memory) (followed x m)) false n
-  pub cut : m .settings .tuning .gains .ol < natAbs (reaching x m) → Winds (m .run .memory .integral) true n
+      → Winds (summed (m .settings .tuning .gains) (met x m .run .memory) (followed x m)) false n
+  pub cut : m .settings .tuning .gains .ol < natAbs (reaching x m) → Winds (met x m .run .memory .integral) true n
 
--- A tick latches its sample and keeps the position before it; station, tuning, rates and load never change in it (01 Tick).
+-- A tick latches its sample and keeps the position before it; station, tuning and rates never change in it (01 Tick). What it meets after power and
+-- homing is told in HomingPromises: without a stop of homing's, at any power but 0, that is what ran before the tick.
 pub record Ticking (x : Sample) (m : Servo) : Type 0 where
   pub latched : ticked x m .latched ≡ x
   pub last : ticked x m .counts .last ≡ position m
@@ -60,44 +61,35 @@ pub record Ticking (x : Sample) (m : Servo) : Type 0 where
   pub station : ticked x m .station ≡ m .station
   pub tuning : ticked x m .settings .tuning ≡ m .settings .tuning
   pub rates : ticked x m .settings .rates ≡ m .settings .rates
-  pub load : ticked x m .settings .load ≡ m .settings .load
   -- power 0 ends in off
   pub low : x .power ≡ 0 → Released (ticked x m .run)
   -- no power but 1 has an output
   pub unpowered : (x .power ≡ 1 → ⊥) → (m .run .drive .mode ≡ Off → m .run .drive .output ≡ pos 0)
       → ticked x m .run .drive .output ≡ pos 0
-  -- off with any power but 0: only the latched sample and the last position change
-  pub off : (x .power ≡ 0 → ⊥) → m .run .drive .mode ≡ Off
-      → ticked x m
-      ≡ record {
-        station = m .station;
-        latched = x;
-        counts = withLast (position m) (m .counts);
-        settings = m .settings;
-        run = m .run;
-      }
+  -- off: it stays as homing leaves it
+  pub off : met x m .run .drive .mode ≡ Off → ticked x m ≡ met x m
   -- PWM stays as it is, and at power 1 the loaded value is put out, held to OL
-  pub pulse : (x .power ≡ 0 → ⊥) → m .run .drive .mode ≡ Pwm
-      → (ticked x m .run .profile ≡ m .run .profile)
-      × (ticked x m .run .memory ≡ m .run .memory)
+  pub pulse : met x m .run .drive .mode ≡ Pwm
+      → (ticked x m .run .profile ≡ met x m .run .profile)
+      × (ticked x m .run .memory ≡ met x m .run .memory)
       × (ticked x m .run .drive .mode ≡ Pwm)
-      × (ticked x m .run .drive .pulse ≡ m .run .drive .pulse)
-      × (x .power ≡ 1 → ticked x m .run .drive .output ≡ held (m .settings .tuning .gains .ol) (m .run .drive .pulse))
-      × (ticked x m .run .drive .cut ≡ m .run .drive .cut)
+      × (ticked x m .run .drive .pulse ≡ met x m .run .drive .pulse)
+      × (x .power ≡ 1 → ticked x m .run .drive .output ≡ held (m .settings .tuning .gains .ol) (met x m .run .drive .pulse))
+      × (ticked x m .run .drive .cut ≡ met x m .run .drive .cut)
   -- a following error above EL sets the error bit and ends in off
-  pub trip : (x .power ≡ 0 → ⊥) → servoOff (m .run .drive .mode) ≡ false
+  pub trip : servoOff (met x m .run .drive .mode) ≡ false
       → m .settings .tuning .gains .el < natAbs (followed x m)
       → Released (ticked x m .run) × (ticked x m .run .drive .error ≡ true)
   -- with any other the profile makes its step, and the filter its own
-  pub runs : (x .power ≡ 0 → ⊥) → servoOff (m .run .drive .mode) ≡ false
+  pub runs : servoOff (met x m .run .drive .mode) ≡ false
       → natAbs (followed x m) ≤ m .settings .tuning .gains .el
       → Runs x m (ticked x m)
 
 abbrev pub Ticks : Type 0
 Ticks = (x : Sample) (m : Servo) → Ticking x m
 
--- n is m after a tick that left the servo on: the setpoint has moved by the new speed, and in a hold neither has changed; the error of the new
--- setpoint and the new position is within EL, and is the next previous error
+-- n is m after a profile's and a filter's step that left the servo on: the setpoint has moved by the new speed, and in a hold neither has changed; the
+-- error of the new setpoint and the new position is within EL, and is the next previous error
 pub record StillOn (m n : Servo) : Type 0 where
   pub mode : n .run .drive .mode ≡ m .run .drive .mode
   pub goes : (m .run .drive .mode ≡ Velocity) ⊎ (m .run .drive .mode ≡ Trapezoid)
@@ -107,9 +99,9 @@ pub record StillOn (m n : Servo) : Type 0 where
   pub previous : n .run .memory .previous ≡ difference (whole (n .run .profile .setpoint)) (position n)
   pub within : natAbs (n .run .memory .previous) ≤ m .settings .tuning .gains .el
 
--- So it is after every tick that leaves the servo on (01 Tick, Filter).
+-- So it is after every tick that leaves the servo on, of what it met (01 Tick, Filter).
 abbrev pub GoesOn : Type 0
-GoesOn = (x : Sample) (m : Servo) → servoOff (ticked x m .run .drive .mode) ≡ false → StillOn m (ticked x m)
+GoesOn = (x : Sample) (m : Servo) → servoOff (ticked x m .run .drive .mode) ≡ false → StillOn (met x m) (ticked x m)
 
 -- Between ticks only going off and a PWM start change the output, and then to 0 (01 Filter).
 abbrev pub Between : Type 0

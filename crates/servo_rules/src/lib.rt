@@ -14,11 +14,12 @@ pub const SIZES: [u8; 8] = [4, 1, 2, 1, 4, 2, 2, 1];
 // The item of type and version: the type's number, and the version above it.
 pub const TYPE_AND_VERSION: u32 = 2560;
 
-// What the board measures: the raw count, power 0 low, 1 good, 2 high, and an A/D byte.
+// What the board measures: the raw count, power 0 low, 1 good, 2 high, an A/D byte, and the limit inputs: bit 0 limit 1, bit 1 limit 2.
 pub struct Sample {
     pub raw: u32,
     pub power: u8,
     pub ad: u8,
+    pub inputs: u8,
 }
 
 // The position is the raw count less the offset; last is the position before the last tick.
@@ -93,6 +94,12 @@ pub struct Run {
     pub drive: Drive,
 }
 
+// The position where homing last found its switch, and the byte of Set Homing while homing is in progress, else 0.
+pub struct Homing {
+    pub home: u32,
+    pub byte: u8,
+}
+
 // The latched sample is the one that the last tick was handed.
 pub struct Servo {
     pub station: Station,
@@ -100,6 +107,7 @@ pub struct Servo {
     pub counts: Counts,
     pub settings: Settings,
     pub run: Run,
+    pub homing: Homing,
 }
 
 // What a Load Trajectory carries; 0 for what it does not.
@@ -127,6 +135,7 @@ pub enum Order {
     Start,
     SetGain(Tuning),
     Stop(bool, Halt, u32),
+    SetHoming(u8),
     ClearBits,
 }
 

@@ -4,10 +4,11 @@ ghost use mathlib.Core.List.{[], _∷_, _++_};
 ghost use Rattle.base_integers.specs.Whole.{word};
 ghost use Rattle.base_layout.specs.Bytes.{le};
 ghost use Rattle.base_layout.specs.Codec.{bit};
-ghost use Rattle.servo_slot_rules.specs.Slot.{wayByte, modeByte, sample, counts, tuning, rates, load, memory, drive};
+ghost use Rattle.servo_slot_rules.specs.Slot.{wayByte, modeByte, sample, counts, tuning, rates, load, memory, drive, homing};
 use servo_filter::Memory;
 use servo_rules::Counts;
 use servo_rules::Drive;
+use servo_rules::Homing;
 use servo_rules::Load;
 use servo_rules::Mode;
 use servo_rules::Rates;
@@ -52,6 +53,7 @@ pub fn sample_bytes(x: Sample) -> [u8; servo_slot_rules::SAMPLE_LEN]
         (x.raw / 256 % 256) as u8,
         (x.raw / 256 / 256 % 256) as u8,
         (x.raw / 256 / 256 / 256 % 256) as u8,
+        x.inputs,
     ]
 }
 
@@ -224,4 +226,16 @@ pub fn drive_bytes(d: Drive) -> [u8; servo_slot_rules::DRIVE_LEN]
     let pulse = base_integers::word(d.pulse);
     let output = base_integers::word(d.output);
     drive_parts_bytes(mode_byte(mode), pulse, output, d.error, d.amplifier, d.cut)
+}
+
+pub fn homing_bytes(h: Homing) -> [u8; servo_slot_rules::HOMING_LEN]
+    ensures { λ r. ⌜ r ≡ homing .codec .enc h ⌝ }
+{
+    [
+        (h.home % 256) as u8,
+        (h.home / 256 % 256) as u8,
+        (h.home / 256 / 256 % 256) as u8,
+        (h.home / 256 / 256 / 256 % 256) as u8,
+        h.byte,
+    ]
 }

@@ -4,10 +4,10 @@ ghost use Prim.Native.Nat.{_≤_};
 ghost use lib.ListN.{length};
 ghost use Rattle.base_layout.specs.Every.{every, everyFrom};
 ghost use Rattle.servo_motion.specs.Profile.{Ranged};
-ghost use Rattle.servo_slot_rules.specs.List.{ratesFit, memoryFits, driveFits, emptied, silent, unpulsed, still, live, modeFits, soundAt};
+ghost use Rattle.servo_slot_rules.specs.List.{ratesFit, memoryFits, driveFits, homingFits, emptied, silent, unpulsed, still, live, modeFits, soundAt};
 ghost use Rattle.module_rules.specs.Slots.{sampleSize, measuredAt};
 ghost use Rattle.servo_slot_rules.specs.Slot.{sample, servoSize, okOf};
-ghost use Rattle.servo_slot_rules.specs.Parts.{frontTests, loadTests, runTests};
+ghost use Rattle.servo_slot_rules.specs.Parts.{frontGrouped, loadGrouped, runTests};
 use servo_filter::Memory;
 use servo_motion::Profile;
 use servo_rules::Drive;
@@ -25,6 +25,10 @@ const KI_TOP_AT: usize = servo_slot_rules::KI_AT + 1;
 const IL_TOP_AT: usize = servo_slot_rules::IL_AT + 1;
 
 const EL_TOP_AT: usize = servo_slot_rules::EL_AT + 1;
+
+// The limit inputs in a tick's list.
+const MEASURED_INPUTS_AT: usize = module_rules::MEASURED_AT + servo_slot_rules::INPUTS_AT
+    - servo_slot_rules::LATCHED_AT;
 
 fn do_rates_fit(r: Rates) -> bool
     ensures { λ q. ⌜ q ≡ ratesFit r ⌝ }
@@ -44,6 +48,16 @@ fn does_drive_fit(d: Drive) -> bool
     ensures { λ r. ⌜ r ≡ driveFits d ⌝ }
 {
     base_integers::is_within(255, d.pulse) & base_integers::is_within(255, d.output)
+}
+
+// No byte of Set Homing, or a good one.
+fn does_homing_fit(byte: u8) -> bool
+    ensures { λ r. ⌜ r ≡ homingFits byte ⌝ }
+{
+    if byte == 0 {
+        return true;
+    }
+    servo_homing::is_good(byte)
 }
 
 fn is_emptied(y: Memory) -> bool
@@ -102,37 +116,38 @@ fn is_sound(power: u8, r: Run) -> bool
     ((power == 1) | is_silent(d)) & does_mode_fit(mode, power, r)
 }
 
-// The tests of the bytes before the rates: type, station, both powers, gains and limits.
+// The tests of the bytes before the rates: type, cause, power, inputs, gains, limits and the station's flags.
 fn is_front_ok(s: &[u8]) -> bool
     requires { ⌜ servoSize ≤ length (now s) ⌝ }
-    ensures { λ r. ⌜ r ≡ every (frontTests (now (s .entry))) ⌝ }
+    ensures { λ r. ⌜ r ≡ every (frontGrouped (now (s .entry))) ⌝ }
 {
     (s[0] == servo_rules::TYPE)
-        & (s[module_rules::LEADER_AT] <= 1)
-        & (s[module_rules::LOW_AT] <= 1)
         & (s[module_rules::CAUSE_AT] <= module_rules::CAUSE_MOST)
         & (s[servo_slot_rules::POWER_AT] <= 2)
+        & (s[servo_slot_rules::INPUTS_AT] <= 3)
         & (s[KP_TOP_AT] <= 127)
         & (s[KD_TOP_AT] <= 127)
         & (s[KI_TOP_AT] <= 127)
         & (s[IL_TOP_AT] <= 127)
         & (s[EL_TOP_AT] <= 63)
+        & (s[module_rules::LOW_AT] <= 1)
+        & (s[module_rules::LEADER_AT] <= 1)
 }
 
-// What was tested so far, and the tests of rates and load.
+// What was tested so far, and the tests of rates and load. The flags stand in a row with those before, so that the compiled code tests them as one.
 fn is_load_ok(ok: bool, s: &[u8], r: Rates) -> bool
     requires { ⌜ servoSize ≤ length (now s) ⌝ }
-    ensures { λ q. ⌜ q ≡ everyFrom ok (loadTests r (now (s .entry))) ⌝ }
+    ensures { λ q. ⌜ q ≡ everyFrom ok (loadGrouped r (now (s .entry))) ⌝ }
 {
     ok
         & (s[servo_slot_rules::PACED_AT] <= 1)
         & (s[servo_slot_rules::RAMPED_AT] <= 1)
-        & do_rates_fit(r)
         & (s[servo_slot_rules::WAITS_AT] <= 1)
-        & (s[servo_slot_rules::WAY_AT] <= 2)
         & (s[servo_slot_rules::PLACED_AT] <= 1)
         & (s[servo_slot_rules::PULSED_AT] <= 1)
         & (s[servo_slot_rules::REVERSE_AT] <= 1)
+        & (s[servo_slot_rules::WAY_AT] <= 2)
+        & do_rates_fit(r)
 }
 
 // What was tested so far, and the tests of what runs.
@@ -150,11 +165,14 @@ fn is_run_ok(ok: bool, s: &[u8], r: Run) -> bool
         & does_drive_fit(r.drive)
 }
 
-// Whether a slot holds a valid servo. Only what the tests ask for is read.
+// Whether a slot holds a valid servo. Only what the tests ask for is read; homing's byte, which is mostly 0, is tested before all that is combined.
 pub fn is_ok(s: &[u8]) -> bool
     requires { ⌜ servoSize ≤ length (now s) ⌝ }
     ensures { λ r. ⌜ r ≡ okOf (now (s .entry)) ⌝ }
 {
+    if !does_homing_fit(s[servo_slot_rules::HOMING_AT]) {
+        return false;
+    }
     let rates = servo_slot_read::rates_in(s);
     let run = servo_slot_read::run_in(s);
     let front = is_front_ok(s);
@@ -165,10 +183,10 @@ pub fn is_ok(s: &[u8]) -> bool
     false
 }
 
-// Whether the sample in ten bytes of a tick's list has all its fields in range: power is 0 to 2.
+// Whether the sample in ten bytes of a tick's list has all its fields in range: power is 0 to 2, the inputs 0 to 3.
 pub fn is_sample_ok(s: &[u8]) -> bool
     requires { ⌜ length (now s) ≡ sampleSize ⌝ }
     ensures { λ r. ⌜ r ≡ every (sample .codec .tests measuredAt (now (s .entry))) ⌝ }
 {
-    s[module_rules::MEASURED_AT] <= 2
+    (s[module_rules::MEASURED_AT] <= 2) & (s[MEASURED_INPUTS_AT] <= 3)
 }

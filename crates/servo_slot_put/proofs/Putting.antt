@@ -13,7 +13,7 @@ use Rattle.servo_rules.specs.declared.Sample.{Sample}
 use Rattle.servo_rules.specs.declared.Run.{Run}
 use Rattle.servo_rules.specs.declared.Servo.{Servo}
 use Rattle.servo_rules.specs.Answers.{typeNumber}
-use Rattle.servo_slot_rules.specs.Slot.{sample, counts, tuning, rates, load, profile, memory, drive, latchedAt, countsAt, tuningAt, ratesAt, loadAt, profileAt, memoryAt, driveAt, lastAt, speedAt, servoSize, encodeOf}
+use Rattle.servo_slot_rules.specs.Slot.{sample, counts, tuning, rates, load, profile, memory, drive, homing, latchedAt, countsAt, tuningAt, ratesAt, loadAt, profileAt, memoryAt, driveAt, homingAt, lastAt, speedAt, servoSize, encodeOf}
 use Rattle.servo_slot_rules.specs.Parts.{frontOf, backOf, tickedOver}
 
 -- what stands after the setpoint
@@ -43,17 +43,25 @@ front-put m s h =
     put-four (typeNumber ∷ station .codec .enc (m .station)) (sample .codec .enc (m .latched)) (counts .codec .enc (m .counts))
     (tuning .codec .enc (m .settings .tuning)) s 0 latchedAt countsAt tuningAt refl refl refl (omega arith)
 
-pub back-put : (m : Servo) (s : List ℕ) {rated loaded kept driven a b c d e : List ℕ} → servoSize ≤ length s
+pub back-put : (m : Servo) (s : List ℕ) {rated loaded kept driven homed a b c d e f : List ℕ} → servoSize ≤ length s
     → rated ≡ rates .codec .enc (m .settings .rates)
     → loaded ≡ load .codec .enc (m .settings .load)
     → kept ≡ memory .codec .enc (m .run .memory)
     → driven ≡ drive .codec .enc (m .run .drive)
+    → homed ≡ homing .codec .enc (m .homing)
     → a ≡ pasted ratesAt rated s → b ≡ pasted loadAt loaded a → c ≡ pasted profileAt (profile .codec .enc (m .run .profile)) b → d ≡ pasted memoryAt kept c → e ≡ pasted driveAt driven d
-    → e ≡ pasted ratesAt (backOf m) s
+    → f ≡ pasted homingAt homed e
+    → f ≡ pasted ratesAt (backOf m) s
 unfolding backOf
-back-put m s h er el ek ed =
-    put-five (rates .codec .enc (m .settings .rates)) (load .codec .enc (m .settings .load)) (profile .codec .enc (m .run .profile)) (memory .codec .enc (m .run .memory))
-    (drive .codec .enc (m .run .drive)) s ratesAt loadAt profileAt memoryAt driveAt refl refl refl refl (omega arith) er el refl ek ed
+back-put m s {e = e} h er el ek ed eh pa pb pc pd pe pf =
+    let rated : List ℕ = rates .codec .enc (m .settings .rates) in
+    let loaded : List ℕ = load .codec .enc (m .settings .load) in
+    let profiled : List ℕ = profile .codec .enc (m .run .profile) in
+    let kept : List ℕ = memory .codec .enc (m .run .memory) in
+    let driven : List ℕ = drive .codec .enc (m .run .drive) in
+    put-next (rated ++ loaded ++ profiled ++ kept ++ driven) (homing .codec .enc (m .homing)) s ratesAt homingAt refl (omega arith)
+    (put-five rated loaded profiled kept driven s ratesAt loadAt profileAt memoryAt driveAt refl refl refl refl (omega arith) er el refl ek ed pa pb pc pd pe)
+    (pf ∙ ap (λ (l : List ℕ). pasted homingAt l e) eh)
 
 pub all-put : (m : Servo) (s : List ℕ) {a b : List ℕ} → servoSize ≤ length s → a ≡ pasted 0 (frontOf m) s → b ≡ pasted ratesAt (backOf m) a
     → b ≡ pasted 0 (encodeOf m) s

@@ -48,11 +48,13 @@ fn put_back(s: &mut [u8], m: Servo)
     let load = servo_slot_bytes::load_bytes(m.settings.load);
     let memory = servo_slot_bytes::memory_bytes(m.run.memory);
     let drive = servo_slot_bytes::drive_bytes(m.run.drive);
+    let homing = servo_slot_bytes::homing_bytes(m.homing);
     base_layout::put_all(s, servo_slot_rules::RATES_AT, &rates);
     base_layout::put_all(s, servo_slot_rules::LOAD_AT, &load);
     put_profile(s, m.run.profile);
     base_layout::put_all(s, servo_slot_rules::MEMORY_AT, &memory);
     base_layout::put_all(s, servo_slot_rules::DRIVE_AT, &drive);
+    base_layout::put_all(s, servo_slot_rules::HOME_AT, &homing);
 }
 
 // Puts a servo into a slot, from the slot's start on.
@@ -75,7 +77,7 @@ fn put_pace(s: &mut [u8], p: Profile)
     base_layout::put_number(s, servo_slot_rules::SPEED_AT, 4, speed);
 }
 
-// Puts only what a tick changes: the latched sample, the position before the tick, setpoint and speed, memory and drive.
+// Puts only what a tick changes where homing finds nothing: the latched sample, the position before the tick, setpoint and speed, memory and drive.
 pub fn put_ticked(s: &mut [u8], x: Sample, last: u32, r: Run)
     requires { ⌜ servoSize ≤ length (now s) ⌝ }
     ensures { λ _. ⌜ now (s .exit) ≡ tickedOver x last r (now (s .entry)) ⌝ }

@@ -2,12 +2,13 @@
 ghost use mathlib.Core.Path.{_≡_};
 ghost use Prim.Native.Nat.{_+_, _≤_};
 ghost use lib.ListN.{length};
-ghost use Rattle.servo_slot_rules.specs.Slot.{wayIn, modeIn, sample, counts, gains, tuning, rates, load, settings, profile, memory, drive, run, latchedAt, countsAt, tuningAt, ratesAt, loadAt, profileAt, memoryAt, driveAt, servoSize, decodeOf};
+ghost use Rattle.servo_slot_rules.specs.Slot.{wayIn, modeIn, sample, counts, gains, tuning, rates, load, settings, profile, memory, drive, run, homing, latchedAt, countsAt, tuningAt, ratesAt, loadAt, profileAt, memoryAt, driveAt, homingAt, servoSize, decodeOf};
 use servo_filter::Gains;
 use servo_filter::Memory;
 use servo_motion::Profile;
 use servo_rules::Counts;
 use servo_rules::Drive;
+use servo_rules::Homing;
 use servo_rules::Load;
 use servo_rules::Mode;
 use servo_rules::Rates;
@@ -46,10 +47,12 @@ pub fn sample_in(s: &[u8], at: usize) -> Sample
     ensures { λ r. ⌜ r ≡ sample .codec .dec at (now (s .entry)) ⌝ }
 {
     let a = at + 1;
+    let b = a + 1;
     Sample {
-        raw: base_layout::get4(s, a + 1),
+        raw: base_layout::get4(s, b),
         power: s[at],
         ad: s[a],
+        inputs: s[b + 4],
     }
 }
 
@@ -183,6 +186,16 @@ pub fn run_in(s: &[u8]) -> Run
     }
 }
 
+pub fn homing_in(s: &[u8]) -> Homing
+    requires { ⌜ servoSize ≤ length (now s) ⌝ }
+    ensures { λ r. ⌜ r ≡ homing .codec .dec homingAt (now (s .entry)) ⌝ }
+{
+    Homing {
+        home: base_layout::get4(s, servo_slot_rules::HOME_AT),
+        byte: s[servo_slot_rules::HOMING_AT],
+    }
+}
+
 // The servo in a slot.
 pub fn decode(s: &[u8]) -> Servo
     requires { ⌜ servoSize ≤ length (now s) ⌝ }
@@ -194,5 +207,6 @@ pub fn decode(s: &[u8]) -> Servo
         counts: counts_in(s),
         settings: settings_in(s),
         run: run_in(s),
+        homing: homing_in(s),
     }
 }

@@ -25,7 +25,7 @@ use Rattle.servo_rules.specs.declared.Drive.{Drive}
 use Rattle.servo_rules.specs.declared.Run.{Run}
 use Rattle.servo_rules.specs.declared.Servo.{Servo}
 use Rattle.servo_slot_rules.specs.List.{ratesFit, memoryFits, driveFits, emptied, silent, unpulsed, uncut, still, live, modeFits, soundAt, sound}
-use Rattle.servo_slot_rules.specs.Slot.{sample, counts, rates, settings, profile, memory, drive, run}
+use Rattle.servo_slot_rules.specs.Slot.{sample, counts, rates, settings, profile, memory, drive, run, homing}
 use Rattle.servo_slot_rules.specs.Promises.{Fits}
 
 pub record Rated (r : Rates) : Type 0 where
@@ -67,6 +67,7 @@ pub record Good (m : Servo) : Type 0 where
   pub counts : counts .codec .fits (m .counts)
   pub settings : settings .codec .fits (m .settings)
   pub sane : Sane (m .latched .power) (m .run)
+  pub homing : homing .codec .fits (m .homing)
 
 -- ---- each part's test
 
@@ -235,13 +236,14 @@ module _ (m : Servo) where
         latched = x .1 .0;
         counts = x .1 .1 .0;
         settings = x .1 .1 .1 .0;
-        sane = run-good (m .latched .power) (m .run) (x .1 .1 .1 .1) (t .1);
+        sane = run-good (m .latched .power) (m .run) (x .1 .1 .1 .1 .0) (t .1);
+        homing = x .1 .1 .1 .1 .1;
       }
 
   pub fits : Good m → Fits m
   unfolding sound
   fits g =
       let power : ℕ = m .latched .power in (
-        (tt, (g .station, (g .latched, (g .counts, (g .settings, run-fits power (m .run) (g .sane)))))),
+        (tt, (g .station, (g .latched, (g .counts, (g .settings, (run-fits power (m .run) (g .sane), g .homing)))))),
         sound-fits power (m .run) (g .sane .powerless) (g .sane .mode),
       )

@@ -1,9 +1,11 @@
 -- A slot is valid exactly when it satisfies the written list. Assumes nothing.
 use mathlib.Core.Path.{_≡_, refl}
 use mathlib.Core.List.{List}
-use mathlib.Core.Bool.{true, false, false≢true}
+use mathlib.Core.Logic.{_⊎_, inl, inr}
+use mathlib.Core.Bool.{Bool, true, false, _||_, false≢true}
 use Prim.Native.Nat.{ℕ}
 use borrow.Author.Tests.{eqb-true, leb-true}
+use lib.Dec.{eqb}
 use lib.IntN.{pos}
 use Rattle.base_layout.specs.Bytes.{Bytes}
 use Rattle.base_layout.proofs.Every.{every-hold}
@@ -13,6 +15,8 @@ use Rattle.servo_rules.specs.declared.Mode.the-variants.{Off, Pwm, Hold, Veloci
 use Rattle.servo_rules.specs.declared.Run.{Run}
 use Rattle.servo_rules.specs.declared.Servo.{Servo}
 use Rattle.servo_rules.specs.State.{servoOff}
+use Rattle.servo_rules.specs.Homing.{goodByte}
+use Rattle.servo_slot_rules.specs.List.{homingFits}
 use Rattle.servo_slot_rules.specs.Slot.{slot, decodeOf, okOf}
 use Rattle.servo_slot_rules.specs.Promises.{Fits, Lines, Listed}
 use Rattle.servo_slot_rules.proofs.Good.{Live, InMode, rates-good, good}
@@ -41,6 +45,14 @@ module _ (power : ℕ) (r : Run) where
   is-uncut Velocity e t = absurd (false≢true e)
   is-uncut Trapezoid e t = absurd (false≢true e)
 
+none-or-good : (b : ℕ) → homingFits b ≡ true → (b ≡ 0) ⊎ (goodByte b ≡ true)
+unfolding homingFits
+none-or-good b = at (eqb b 0) refl
+  where
+    at : (t : Bool) → eqb b 0 ≡ t → (t || goodByte b) ≡ true → (b ≡ 0) ⊎ (goodByte b ≡ true)
+    at true e h = inl (eqb-true _ _ e)
+    at false e h = inr h
+
 lines : (s : List ℕ) → Bytes s → okOf s ≡ true → Lines s (decodeOf s)
 unfolding okOf decodeOf
 lines s b v =
@@ -50,7 +62,7 @@ lines s b v =
     let rates = rates-good (m .settings .rates) (g .settings .1 .0) in
     let i : InMode (m .run .drive .mode) (m .latched .power) (m .run) = g .sane .mode in
     let first = every-hold (slot .codec .tests 0 s) v in
-    let flags = first .1 .1 .1 .1 .1 .1 .1 .1 .1 .1 in
+    let flags = first .1 .1 .1 .1 .1 .1 .1 .1 .1 .1 .1 in
     let loads = flags .1 .1 .1 in
     let drives = loads .1 .1 .1 .1 .1 .1 .1 in
     record {
@@ -59,6 +71,7 @@ lines s b v =
       low = leb-true _ _ (first .1 .1 .0);
       cause = g .station .1 .0 .1;
       latchedPower = g .latched .0 .1;
+      latchedInputs = g .latched .1 .1 .1 .1;
       gains = gains-ranged _ (g .settings .0 .0);
       paced = leb-true _ _ (flags .0);
       ramped = leb-true _ _ (flags .1 .0);
@@ -82,6 +95,7 @@ lines s b v =
       error = leb-true _ _ (drives .1 .0);
       amplifier = leb-true _ _ (drives .1 .1 .0);
       cut = leb-true _ _ (drives .1 .1 .1 .0);
+      homing = none-or-good (m .homing .byte) (g .homing .1 .1);
       powerless = g .sane .powerless;
       off = λ e. let x = rw e at i in (x .0 .rest, x .1);
       offEmpty = λ e. let x = rw e at i in (x .0 .integral, x .0 .previous);

@@ -31,7 +31,7 @@ use Rattle.servo_slot_rules.proofs.Over.{station-over}
 use Rattle.servo_slot_rules.proofs.Good.{good, fits}
 use Rattle.servo_slot_rules.proofs.Replaced.{station-good, fresh-good}
 use Rattle.servo_slot_rules.proofs.Starts.{start-good, trajectory-good}
-use Rattle.servo_slot_rules.proofs.Orders.{gain-good, reset-good, stop-good, clear-good}
+use Rattle.servo_slot_rules.proofs.Orders.{gain-good, reset-good, stop-good, homing-set-good, clear-good}
 use Rattle.servo_slot_rules.proofs.Ticks.{tick-good}
 
 -- ---- slots
@@ -67,6 +67,7 @@ each code ds b = record {
   start = λ c g m t k. fits _ (start-good (good m t) k);
   gain = λ c e m t k. fits _ (gain-good (good m t) ds b (gains-in-range ds e));
   stop = λ c g m t k. fits _ (stop-good (good m t) _ _ _ (fit ds b .halt) k);
+  homing = λ c e m t k. fits _ (homing-set-good (good m t) (getD ds 0 0) (b 0) e);
   clearBits = λ c g m t k. fits _ (clear-good (good m t));
 }
 
@@ -90,7 +91,7 @@ owes = record {
   typed = typed;
   stationed = λ s. refl;
   alone = λ x s l b v. station-over s (omega (arith, l)) b v x;
-  power = fits _ (fresh-good _ ((omega arith, omega arith), (omega arith, omega arith)));
+  power = fits _ (fresh-good _ ((omega arith, omega arith), (omega arith, (omega arith, (omega arith, omega arith)))));
   held = λ m t. good m t .station;
   shown = λ m t. refl;
   withStation = λ s m h g t. fits _ (station-good (good m t) s h);
@@ -101,6 +102,6 @@ owes = record {
   four = search needs;
   small = omega arith;
   status = λ m. omega (arith, status-bits m .small);
-  numbers = λ m t. numbers-fit m (good m t .latched .1 .0);
+  numbers = λ m t. let g = good m t in numbers-fit m (g .latched .1 .0) (g .homing .0);
   outputs = λ m t. (refl, outputs-bytes m t);
 }

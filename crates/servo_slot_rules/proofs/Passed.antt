@@ -1,7 +1,8 @@
 -- A slot that satisfies the written list passes the tests. Assumes nothing.
 use mathlib.Core.Path.{_≡_, refl, sym, ap, _∙_}
 use mathlib.Core.List.{List, [], _∷_, _++_}
-use mathlib.Core.Bool.{Bool, true, false}
+use mathlib.Core.Logic.{_⊎_, inl, inr}
+use mathlib.Core.Bool.{Bool, true, false, or-true}
 use Prim.Native.Nat.{ℕ, _+_, _*_, _≤_}
 use native.Mathlib.Omega.{arith}
 use borrow.Author.Tests.{eq-eqb, eqb-false, le-leb}
@@ -14,7 +15,8 @@ use Rattle.servo_rules.specs.declared.Mode.{Mode}
 use Rattle.servo_rules.specs.declared.Mode.the-variants.{Off, Pwm, Hold, Velocity, Trapezoid}
 use Rattle.servo_rules.specs.declared.Servo.{Servo}
 use Rattle.servo_rules.specs.State.{servoOff}
-use Rattle.servo_slot_rules.specs.List.{sound}
+use Rattle.servo_rules.specs.Homing.{goodByte}
+use Rattle.servo_slot_rules.specs.List.{homingFits, sound}
 use Rattle.servo_slot_rules.specs.Slot.{modeByte, slot, decodeOf, okOf}
 use Rattle.servo_slot_rules.specs.Parts.{frontTests, loadTests, runTests}
 use Rattle.servo_slot_rules.specs.Promises.{Lines}
@@ -28,6 +30,12 @@ a and b = (a, b)
 -- the upper byte of a number
 upper : (a b n : ℕ) → a + 256 * (b + 256 * 0) ≤ 256 * n + 255 → leb b n ≡ true
 upper a b n h = le-leb b n (omega arith)
+
+-- the byte of Set Homing
+byte-holds : (b : ℕ) → (b ≡ 0) ⊎ (goodByte b ≡ true) → homingFits b ≡ true
+unfolding homingFits
+byte-holds b (inl e) = rw (eq-eqb _ _ e) refl
+byte-holds b (inr e) = rw e (or-true (eqb b 0))
 
 module _ {s : List ℕ} {m : Servo} (l : Lines s m) where
   -- ---- what the mode asks
@@ -99,6 +107,7 @@ module _ (s : List ℕ) (l : Lines s (decodeOf s)) where
       and le-leb _ _ (l .low)
       and le-leb _ _ (l .cause)
       and le-leb _ _ (l .latchedPower)
+      and le-leb _ _ (l .latchedInputs)
       and upper _ _ 127 (g .kp)
       and upper _ _ 127 (g .kd)
       and upper _ _ 127 (g .ki)
@@ -110,9 +119,9 @@ module _ (s : List ℕ) (l : Lines s (decodeOf s)) where
   unfolding okOf decodeOf
   passed =
       let m : Servo = decodeOf s in
-      let last : List Bool = sound m ∷ [] in
+      let last : List Bool = homingFits (m .homing .byte) ∷ sound m ∷ [] in
       let run : List Bool = runTests (m .run) s ++ last in
       let load : List Bool = loadTests (m .settings .rates) s ++ run in
       hold-every (slot .codec .tests 0 s)
       (hold-both (frontTests s) load front-holds
-      (hold-both (loadTests (m .settings .rates) s) run (load-holds l) (hold-both (runTests (m .run) s) last (run-holds l) (sound-holds l, tt))))
+      (hold-both (loadTests (m .settings .rates) s) run (load-holds l) (hold-both (runTests (m .run) s) last (run-holds l) (byte-holds (m .homing .byte) (l .homing) and sound-holds l and tt))))

@@ -14,31 +14,36 @@ use Rattle.servo_motion.specs.declared.Profile.{Profile}
 use Rattle.servo_motion.specs.Profile.{Ranged}
 use Rattle.servo_filter.specs.Filter.{Kept, blank}
 use Rattle.servo_rules.specs.declared.Sample.{Sample}
-use Rattle.servo_rules.specs.declared.Sample.{Sample}
+use Rattle.servo_rules.specs.declared.Homing.{Homing}
 use Rattle.servo_rules.specs.declared.Counts.{Counts}
 use Rattle.servo_rules.specs.declared.Settings.{Settings}
 use Rattle.servo_rules.specs.declared.Mode.{Mode}
 use Rattle.servo_rules.specs.declared.Mode.the-variants.{Off}
 use Rattle.servo_rules.specs.declared.Run.{Run}
 use Rattle.servo_rules.specs.declared.Servo.{Servo}
-use Rattle.servo_rules.specs.State.{powered, ready, noLoad, noSettings, noRun, fresh, withStation, withCounts, withSettings, withRun, dropped, resting, idled, off}
-use Rattle.servo_slot_rules.specs.Slot.{sample, counts, load, settings}
+use Rattle.servo_rules.specs.State.{powered, ready, noLoad, noSettings, noRun, fresh, withStation, withCounts, withSettings, withRun, withHoming, dropped, resting, idled, off}
+use Rattle.servo_rules.specs.Homing.{homeAt}
+use Rattle.servo_slot_rules.specs.List.{homingFits}
+use Rattle.servo_slot_rules.specs.Slot.{sample, counts, load, settings, homing}
 use Rattle.servo_slot_rules.proofs.Good.{Idle, Live, InMode, Sane, Good, rates-fit}
 
 module _ {m : Servo} (g : Good m) where
   pub station-good : (s : Station) → station .codec .fits s → Good (withStation s m)
-  station-good s h = record { station = h; latched = g .latched; counts = g .counts; settings = g .settings; sane = g .sane }
+  station-good s h = record { station = h; latched = g .latched; counts = g .counts; settings = g .settings; sane = g .sane; homing = g .homing }
 
   pub counts-good : (x : Counts) → counts .codec .fits x → Good (withCounts x m)
-  counts-good x h = record { station = g .station; latched = g .latched; counts = h; settings = g .settings; sane = g .sane }
+  counts-good x h = record { station = g .station; latched = g .latched; counts = h; settings = g .settings; sane = g .sane; homing = g .homing }
 
   pub settings-good : (x : Settings) → settings .codec .fits x → Good (withSettings x m)
-  settings-good x h = record { station = g .station; latched = g .latched; counts = g .counts; settings = h; sane = g .sane }
+  settings-good x h = record { station = g .station; latched = g .latched; counts = g .counts; settings = h; sane = g .sane; homing = g .homing }
 
   pub run-good : (r : Run) → Sane (m .latched .power) r → Good (withRun r m)
-  run-good r s = record { station = g .station; latched = g .latched; counts = g .counts; settings = g .settings; sane = s }
+  run-good r s = record { station = g .station; latched = g .latched; counts = g .counts; settings = g .settings; sane = s; homing = g .homing }
 
-no-load-fits : load .codec .fits noLoad
+  pub homing-good : (h : Homing) → homing .codec .fits h → Good (withHoming h m)
+  homing-good h f = record { station = g .station; latched = g .latched; counts = g .counts; settings = g .settings; sane = g .sane; homing = f }
+
+pub no-load-fits : load .codec .fits noLoad
 no-load-fits = (tt, (tt, (tt, (omega arith, (tt, (omega arith, tt))))))
 
 pub dropped-fits : (s : Settings) → settings .codec .fits s → settings .codec .fits (dropped s)
@@ -85,16 +90,22 @@ no-settings-fit = (
   ),
 )
 
+-- home where homing has ended
+pub home-fits : (x : ℕ) → x < 2 ^ 32 → homing .codec .fits (homeAt x)
+unfolding homingFits
+home-fits x h = (h, (omega arith, refl))
+
 pub fresh-good : (x : Sample) → sample .codec .fits x → Good (fresh x)
 unfolding off idled
 fresh-good x h = record {
   station = powerUp-fits;
   latched = h;
-  counts = (h .1 .1, omega arith);
+  counts = (h .1 .1 .0, omega arith);
   settings = no-settings-fit;
   sane =
       off-sane (x .power) noRun
       (record { setpoint = omega arith; speed = omega arith; goal = omega arith; aim = omega arith; acceleration = omega arith; top = omega arith });
+  homing = home-fits 0 (omega arith);
 }
 
 -- good power and a clear error bit

@@ -1,11 +1,12 @@
 -- A tick leaves a servo such as a slot can hold. Assumes nothing.
-use mathlib.Core.Path.{_≡_, refl}
-use mathlib.Core.Bool.{Bool, true}
+use mathlib.Core.Path.{_≡_, refl, sym, subst}
+use mathlib.Core.List.{[], _∷_}
+use mathlib.Core.Bool.{Bool, true, not}
 use Prim.Native.Nat.{ℕ, _≤_}
 use native.Mathlib.Omega.{arith}
-use borrow.Author.Tests.{eqb-false, ne-eqb}
-use lib.Dec.{eqb}
+use borrow.Author.Tests.{eqb-true, ne-eqb}
 use lib.IntN.{ℤ, pos, natAbs}
+use Rattle.base_layout.proofs.Every.{every-hold}
 use Rattle.servo_motion.proofs.Runs.{runs}
 use Rattle.servo_filter.specs.declared.Gains.{Gains}
 use Rattle.servo_filter.specs.declared.Memory.{Memory}
@@ -13,18 +14,26 @@ use Rattle.servo_filter.specs.Filter.{Kept, held, filtered, Told, told}
 use Rattle.servo_filter.specs.Promises.{Ranged}
 use Rattle.servo_filter.proofs.Held.{held-most}
 use Rattle.servo_filter.proofs.Answers.{within, keeps}
+use Rattle.servo_rules.specs.declared.Halt.{Halt}
+use Rattle.servo_rules.specs.declared.Halt.the-variants.{Keep, Release, Abrupt, Smooth, Here}
+use Rattle.servo_rules.specs.declared.Settings.{Settings}
 use Rattle.servo_rules.specs.declared.Sample.{Sample}
 use Rattle.servo_rules.specs.declared.Mode.{Mode}
 use Rattle.servo_rules.specs.declared.Mode.the-variants.{Off, Pwm, Hold, Velocity, Trapezoid}
 use Rattle.servo_rules.specs.declared.Run.{Run}
 use Rattle.servo_rules.specs.declared.Servo.{Servo}
-use Rattle.servo_rules.specs.State.{positionAt, good, running, putting, withProfile, erring, idled, off}
-use Rattle.servo_rules.specs.Tick.{advanced, putOut, tripped, workedTo, followedAt, servoed, pulsed, drivenBy, ran, ticked}
-use Rattle.servo_rules.proofs.Keeping.{by-test, either}
+use Rattle.servo_rules.specs.State.{good, ready, dropped, running, putting, withProfile, erring, idled, off}
+use Rattle.servo_rules.specs.Stops.{holding, haltedBy, drops}
+use Rattle.servo_rules.specs.Tick.{advanced, putOut, tripped, workedTo, followedAt, servoed, pulsed, drivenBy, met, ticked}
+use Rattle.servo_rules.specs.HomingPromises.{afterPower, Acts}
+use Rattle.servo_rules.proofs.Keeping.{either, distinct}
+use Rattle.servo_rules.proofs.Meeting.{here as place, before, not-here, meets, tick-is, met-runs, by-power}
+use Rattle.servo_rules.proofs.Ticking.{low-off}
 use Rattle.servo_rules.proofs.Ranges.{advanced-ranged}
-use Rattle.servo_slot_rules.specs.Slot.{sample, gains}
+use Rattle.servo_slot_rules.specs.Slot.{sample, gains, load, homing}
 use Rattle.servo_slot_rules.proofs.Good.{InMode, Sane, Good}
-use Rattle.servo_slot_rules.proofs.Replaced.{off-sane}
+use Rattle.servo_slot_rules.proofs.Replaced.{no-load-fits, home-fits, off-sane, ready-live}
+use Rattle.servo_slot_rules.proofs.Orders.{holding-sane, smooth-sane}
 
 pub gains-ranged : (g : Gains) → gains .codec .fits g → Ranged g
 gains-ranged g t = record { kp = omega arith; kd = omega arith; ki = omega arith; il = omega arith; el = omega arith }
@@ -66,7 +75,7 @@ module _ {before : ℕ} (power here : ℕ) (g : Gains) (h : gains .codec .fits g
         either (Sane power) (t .trips) (tripped (advanced r) r) (workedTo t power (advanced r) r) tripped-sane
         (worked-sane t (keeps _ _ e (gains-ranged g h) (s .memory)) (omega (arith, within g (r .memory) e)))
 
-  driven-sane : (k : Mode) → r .drive .mode ≡ k → InMode k before r → (power ≡ 0 → ⊥) → Sane power (drivenBy k power here g r)
+  driven-sane : (k : Mode) → r .drive .mode ≡ k → InMode k before r → (power ≡ 0 → k ≡ Off) → Sane power (drivenBy k power here g r)
   unfolding pulsed advanced
   driven-sane Off e t n = record {
     profile = s .profile;
@@ -85,26 +94,64 @@ module _ {before : ℕ} (power here : ℕ) (g : Gains) (h : gains .codec .fits g
         pulse = s .pulse;
         output = put-most power u (omega (arith, held-most (g .ol) (r .drive .pulse)));
         powerless = put-powerless power u;
-        mode = rw e (t .0, record { clear = t .1 .clear; alive = n });
+        mode = rw e (t .0, record { clear = t .1 .clear; alive = λ z. distinct Pwm Off refl (n z) });
       }
-  driven-sane Hold e t n = servoed-sane (λ y u c. rw e (t .0, t .1, record { clear = t .2 .clear; alive = n }))
-  driven-sane Velocity e t n = servoed-sane (λ y u c. rw e (t .0, record { clear = t .1 .clear; alive = n }))
+  driven-sane Hold e t n = servoed-sane (λ y u c. rw e (t .0, t .1, record { clear = t .2 .clear; alive = λ z. distinct Hold Off refl (n z) }))
+  driven-sane Velocity e t n = servoed-sane (λ y u c. rw e (t .0, record { clear = t .1 .clear; alive = λ z. distinct Velocity Off refl (n z) }))
   driven-sane Trapezoid e t n =
-      servoed-sane (λ y u c. rw e (t .0, record { clear = t .1 .clear; alive = n }, runs (r .profile) (s .profile) (t .2)))
+      servoed-sane (λ y u c. rw e (t .0, record { clear = t .1 .clear; alive = λ z. distinct Trapezoid Off refl (n z) }, runs (r .profile) (s .profile) (t .2)))
 
-  ran-sane : Sane power (ran power here g r)
-  unfolding ran
-  ran-sane =
-      by-test (Sane power) (eqb power 0) (off r) (drivenBy (r .drive .mode) power here g r) (λ e. off-sane power r (s .profile))
-      (λ e. driven-sane (r .drive .mode) refl (s .mode) (eqb-false _ _ e))
+module _ {m : Servo} (g : Good m) (x : Sample) where
+  -- power leaves what runs such as it was
+  powered-sane : Sane (m .latched .power) (before x m)
+  powered-sane =
+      by-power (Sane (m .latched .power)) (x .power) (m .run) (λ e. off-sane (m .latched .power) (m .run) (g .sane .profile)) (λ n. g .sane)
 
-pub tick-good : {m : Servo} → Good m → (x : Sample) → sample .codec .fits x → Good (ticked x m)
-unfolding ticked
-tick-good {m} g x h = record {
-  station = g .station;
-  latched = h;
-  counts = (g .counts .0, omega arith);
-  settings = g .settings;
-  sane =
-      ran-sane (x .power) (positionAt x (m .counts)) (m .settings .tuning .gains) (g .settings .0 .0) (g .sane);
-}
+  -- and so do homing's stops, the abrupt one at the power that it needs
+  pub met-sane : (power : ℕ) × Sane power (met x m .run)
+  met-sane = met-runs x m (λ (r : Run). (power : ℕ) × Sane power r) (m .latched .power, powered-sane) by
+    where
+      p : Sane (m .latched .power) (before x m)
+      p = powered-sane
+
+      held : ready (afterPower x m) ≡ true → Sane (x .power) (holding (place x m) (before x m))
+      held e =
+          let one = eqb-true (x .power) 1 (every-hold (good (x .power) ∷ not (before x m .drive .error) ∷ []) e .0) in
+          holding-sane (x .power) (place x m) (before x m) (p .profile) (p .output) (λ n. absurd (n one)) (omega arith) (ready-live (afterPower x m) e)
+
+      by : (h : Halt) → Acts h x m → (power : ℕ) × Sane power (haltedBy h (place x m) 0 (before x m))
+      by Keep a = (m .latched .power, p)
+      by Release a = (m .latched .power, off-sane (m .latched .power) (before x m) (p .profile))
+      by Abrupt a = (x .power, held (a .now true))
+      by Smooth a = (m .latched .power, smooth-sane p)
+      by Here a = absurd (not-here (m .homing .byte) (a .asked))
+
+  -- a waiting load stays or is dropped, and homing goes on or ends here
+  met-load : load .codec .fits (met x m .settings .load)
+  met-load = meets x m (λ (n : Servo). load .codec .fits (n .settings .load)) (record {
+    none = λ c. g .settings .1 .1;
+    found = λ c u. g .settings .1 .1;
+    acts = λ h a.
+        either (λ (s : Settings). load .codec .fits (s .load)) (drops h) (dropped (m .settings)) (m .settings) no-load-fits (g .settings .1 .1);
+  })
+
+  met-homing : homing .codec .fits (met x m .homing)
+  met-homing = meets x m (λ (n : Servo). homing .codec .fits (n .homing)) (record {
+    none = λ c. g .homing;
+    found = λ c u. home-fits (place x m) (omega arith);
+    acts = λ h a. home-fits (place x m) (omega arith);
+  })
+
+  pub tick-good : sample .codec .fits x → Good (ticked x m)
+  tick-good h =
+      let s = met-sane in
+      subst Good (sym (tick-is x m)) (record {
+        station = g .station;
+        latched = h;
+        counts = (g .counts .0, omega arith);
+        settings = (g .settings .0, (g .settings .1 .0, met-load));
+        sane =
+            driven-sane (x .power) (place x m) (m .settings .tuning .gains) (g .settings .0 .0) (s .1) (met x m .run .drive .mode) refl (s .1 .mode)
+            (λ z. low-off x m z .mode);
+        homing = met-homing;
+      })

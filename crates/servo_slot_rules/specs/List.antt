@@ -1,4 +1,4 @@
--- What a servo in a slot satisfies beyond the ranges of its bytes (document 01, "Numbers given back", the list for 16; document 02, P5).
+-- What a servo in a slot satisfies beyond the ranges of its bytes (document 01, "Numbers given back", the list for 16; document 02, P5 and P8).
 use mathlib.Core.Bool.{Bool, not, _&&_, _||_}
 use Prim.Native.Nat.{ℕ}
 use lib.Dec.{eqb, leb}
@@ -13,6 +13,7 @@ use Rattle.servo_rules.specs.declared.Mode.the-variants.{Off, Pwm, Hold, Veloci
 use Rattle.servo_rules.specs.declared.Drive.{Drive}
 use Rattle.servo_rules.specs.declared.Run.{Run}
 use Rattle.servo_rules.specs.declared.Servo.{Servo}
+use Rattle.servo_rules.specs.Homing.{goodByte}
 
 -- loaded velocity and acceleration are at most the greatest; an acceleration that was loaded is not 0
 unfoldable pub ratesFit : Rates → Bool
@@ -25,6 +26,10 @@ memoryFits y = leb (natAbs (y .integral)) 32767 && leb (natAbs (y .previous)) 16
 -- PWM value and output within 255
 unfoldable pub driveFits : Drive → Bool
 driveFits d = leb (natAbs (d .pulse)) 255 && leb (natAbs (d .output)) 255
+
+-- 02 P8: no byte of Set Homing, or a good one
+unfoldable pub homingFits : ℕ → Bool
+homingFits b = eqb b 0 || goodByte b
 
 -- the memory that off leaves
 unfoldable pub emptied : Memory → Bool

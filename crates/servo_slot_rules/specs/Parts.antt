@@ -15,7 +15,7 @@ use Rattle.servo_rules.specs.declared.Run.{Run}
 use Rattle.servo_rules.specs.declared.Servo.{Servo}
 use Rattle.servo_rules.specs.Answers.{typeNumber}
 use Rattle.servo_slot_rules.specs.List.{ratesFit, memoryFits, driveFits}
-use Rattle.servo_slot_rules.specs.Slot.{sample, counts, tuning, rates, load, profile, memory, drive, latchedAt, profileAt, memoryAt, driveAt, powerAt, kpTopAt, kdTopAt, kiTopAt, ilTopAt, elTopAt, pacedAt, rampedAt, waitsAt, wayAt, placedAt, pulsedAt, reverseAt, modeAt, errorAt, amplifierAt, cutAt, lastAt, speedAt}
+use Rattle.servo_slot_rules.specs.Slot.{sample, counts, tuning, rates, load, profile, memory, drive, homing, latchedAt, profileAt, memoryAt, driveAt, powerAt, inputsAt, kpTopAt, kdTopAt, kiTopAt, ilTopAt, elTopAt, pacedAt, rampedAt, waitsAt, wayAt, placedAt, pulsedAt, reverseAt, modeAt, errorAt, amplifierAt, cutAt, lastAt, speedAt}
 
 -- the bytes before and after the place of the rates, one part after another
 unfoldable pub frontOf : Servo → List ℕ
@@ -33,8 +33,9 @@ backOf m =
     ++ profile .codec .enc (m .run .profile)
     ++ memory .codec .enc (m .run .memory)
     ++ drive .codec .enc (m .run .drive)
+    ++ homing .codec .enc (m .homing)
 
--- a slot over which only what a tick changes is put: the latched sample, the last position, setpoint and speed, memory and drive
+-- a slot over which only what a tick changes where homing finds nothing is put: the latched sample, the last position, setpoint and speed, memory and drive
 unfoldable pub tickedOver : Sample → ℕ → Run → List ℕ → List ℕ
 tickedOver x last r s =
     pasted driveAt (drive .codec .enc (r .drive))
@@ -44,7 +45,7 @@ tickedOver x last r s =
     (pasted lastAt (le 4 last)
     (pasted latchedAt (sample .codec .enc x) s)))))
 
--- the tests of a slot in its order, but for the last one, which is `sound`
+-- the tests of a slot in its order, but for the last two, which are `homingFits` and `sound`
 abbrev pub frontTests : List ℕ → List Bool
 frontTests s =
     eqb (getD s 0 0) typeNumber
@@ -52,6 +53,7 @@ frontTests s =
     ∷ leb (getD s lowAt 0) 1
     ∷ leb (getD s causeAt 0) causeMost
     ∷ leb (getD s powerAt 0) 2
+    ∷ leb (getD s inputsAt 0) 3
     ∷ leb (getD s kpTopAt 0) 127
     ∷ leb (getD s kdTopAt 0) 127
     ∷ leb (getD s kiTopAt 0) 127
@@ -69,6 +71,34 @@ loadTests r s =
     ∷ leb (getD s placedAt 0) 1
     ∷ leb (getD s pulsedAt 0) 1
     ∷ leb (getD s reverseAt 0) 1
+    ∷ []
+
+-- both as the code makes them: their flags in a row, so that the compiled code tests eight as one
+abbrev pub frontGrouped : List ℕ → List Bool
+frontGrouped s =
+    eqb (getD s 0 0) typeNumber
+    ∷ leb (getD s causeAt 0) causeMost
+    ∷ leb (getD s powerAt 0) 2
+    ∷ leb (getD s inputsAt 0) 3
+    ∷ leb (getD s kpTopAt 0) 127
+    ∷ leb (getD s kdTopAt 0) 127
+    ∷ leb (getD s kiTopAt 0) 127
+    ∷ leb (getD s ilTopAt 0) 127
+    ∷ leb (getD s elTopAt 0) 63
+    ∷ leb (getD s lowAt 0) 1
+    ∷ leb (getD s leaderAt 0) 1
+    ∷ []
+
+abbrev pub loadGrouped : Rates → List ℕ → List Bool
+loadGrouped r s =
+    leb (getD s pacedAt 0) 1
+    ∷ leb (getD s rampedAt 0) 1
+    ∷ leb (getD s waitsAt 0) 1
+    ∷ leb (getD s placedAt 0) 1
+    ∷ leb (getD s pulsedAt 0) 1
+    ∷ leb (getD s reverseAt 0) 1
+    ∷ leb (getD s wayAt 0) 2
+    ∷ ratesFit r
     ∷ []
 
 abbrev pub runTests : Run → List ℕ → List Bool

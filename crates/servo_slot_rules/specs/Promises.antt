@@ -1,6 +1,6 @@
 -- What is promised of a servo in a slot. Each is proved under its name, with small letters, in proofs/.
 use mathlib.Core.Path.{_≡_}
-use mathlib.Core.Logic.{_↔_}
+use mathlib.Core.Logic.{_⊎_, _↔_}
 use Prim.Native.Nat.{ℕ, _≤_}
 use mathlib.Core.List.{List}
 use mathlib.Core.Bool.{Bool, true, false}
@@ -16,6 +16,7 @@ use Rattle.servo_rules.specs.declared.Sample.{Sample}
 use Rattle.servo_rules.specs.declared.Mode.the-variants.{Off, Pwm, Hold, Trapezoid}
 use Rattle.servo_rules.specs.declared.Servo.{Servo}
 use Rattle.servo_rules.specs.State.{servoOff, started}
+use Rattle.servo_rules.specs.Homing.{goodByte}
 use Rattle.servo_rules.specs.Tick.{ticked, Steady}
 use Rattle.servo_rules.specs.Answers.{typeNumber, execute}
 use Rattle.servo_slot_rules.specs.Slot.{sample, slot, pacedAt, rampedAt, waitsAt, wayAt, placedAt, pulsedAt, reverseAt, modeAt, errorAt, amplifierAt, cutAt, decodeOf, okOf}
@@ -41,6 +42,7 @@ pub record Lines (s : List ℕ) (m : Servo) : Type 0 where
   pub low : getD s lowAt 0 ≤ 1
   pub cause : m .station .cause ≤ 5
   pub latchedPower : m .latched .power ≤ 2
+  pub latchedInputs : m .latched .inputs ≤ 3
   pub gains : Ranged (m .settings .tuning .gains)
   pub paced : getD s pacedAt 0 ≤ 1
   pub ramped : getD s rampedAt 0 ≤ 1
@@ -65,6 +67,8 @@ pub record Lines (s : List ℕ) (m : Servo) : Type 0 where
   pub error : getD s errorAt 0 ≤ 1
   pub amplifier : getD s amplifierAt 0 ≤ 1
   pub cut : getD s cutAt 0 ≤ 1
+  -- the byte of Set Homing, or 0
+  pub homing : (m .homing .byte ≡ 0) ⊎ (goodByte (m .homing .byte) ≡ true)
   -- without good power there is no output
   pub powerless : (m .latched .power ≡ 1 → ⊥) → m .run .drive .output ≡ pos 0
   -- off: speed, output, integral, previous error and PWM value are 0

@@ -26,9 +26,10 @@ use Rattle.servo_rules.specs.declared.Mode.the-variants.{Off, Pwm, Hold, Veloci
 use Rattle.servo_rules.specs.declared.Drive.{Drive}
 use Rattle.servo_rules.specs.declared.Settings.{Settings}
 use Rattle.servo_rules.specs.declared.Run.{Run}
+use Rattle.servo_rules.specs.declared.Homing.{Homing}
 use Rattle.servo_rules.specs.declared.Servo.{Servo}
 use Rattle.servo_rules.specs.Answers.{typeNumber}
-use Rattle.servo_slot_rules.specs.List.{ratesFit, memoryFits, driveFits, sound}
+use Rattle.servo_slot_rules.specs.List.{ratesFit, memoryFits, driveFits, homingFits, sound}
 
 -- the numbers of the ways and of the modes
 abbrev pub wayByte : Way → ℕ
@@ -100,11 +101,11 @@ abbrev pub mode : Shape Mode
 mode = oneOf 4 (omega arith) modeByte modeIn mode-most mode-back mode-there
 
 -- the parts of each struct in the order of the slot, and the struct of its parts; a sample stands so in a tick's list, too
-abbrev pub sampleParts : Sample → ℕ × (ℕ × ℕ)
-sampleParts x = (x .power, (x .ad, x .raw))
+abbrev pub sampleParts : Sample → ℕ × (ℕ × (ℕ × ℕ))
+sampleParts x = (x .power, (x .ad, (x .raw, x .inputs)))
 
-abbrev pub sampleOf : ℕ × (ℕ × ℕ) → Sample
-sampleOf t = record { raw = t .1 .1; power = t .0; ad = t .1 .0 }
+abbrev pub sampleOf : ℕ × (ℕ × (ℕ × ℕ)) → Sample
+sampleOf t = record { raw = t .1 .1 .0; power = t .0; ad = t .1 .0; inputs = t .1 .1 .1 }
 
 abbrev pub countsParts : Counts → ℕ × ℕ
 countsParts x = (x .offset, x .last)
@@ -181,18 +182,31 @@ runParts r = (r .profile, (r .memory, r .drive))
 abbrev pub runOf : Profile × (Memory × Drive) → Run
 runOf t = record { profile = t .0; memory = t .1 .0; drive = t .1 .1 }
 
+abbrev pub homingParts : Homing → ℕ × ℕ
+homingParts h = (h .home, h .byte)
+
+abbrev pub homingOf : ℕ × ℕ → Homing
+homingOf t = record { home = t .0; byte = t .1 }
+
 abbrev pub Parts : Type 0
-Parts = Unit {0} × (Station × (Sample × (Counts × (Settings × Run))))
+Parts = Unit {0} × (Station × (Sample × (Counts × (Settings × (Run × Homing)))))
 
 abbrev pub servoParts : Servo → Parts
-servoParts m = (tt, (m .station, (m .latched, (m .counts, (m .settings, m .run)))))
+servoParts m = (tt, (m .station, (m .latched, (m .counts, (m .settings, (m .run, m .homing))))))
 
 abbrev pub servoOf : Parts → Servo
-servoOf t = record { station = t .1 .0; latched = t .1 .1 .0; counts = t .1 .1 .1 .0; settings = t .1 .1 .1 .1 .0; run = t .1 .1 .1 .1 .1 }
+servoOf t = record {
+  station = t .1 .0;
+  latched = t .1 .1 .0;
+  counts = t .1 .1 .1 .0;
+  settings = t .1 .1 .1 .1 .0;
+  run = t .1 .1 .1 .1 .1 .0;
+  homing = t .1 .1 .1 .1 .1 .1;
+}
 
--- power is 0 to 2
+-- power is 0 to 2, the limit inputs 0 to 3
 abbrev pub sample : Shape Sample
-sample = shaped sampleOf sampleParts (λ t. refl) (λ x. refl) (capped 2 then byte then number 4)
+sample = shaped sampleOf sampleParts (λ t. refl) (λ x. refl) (capped 2 then byte then number 4 then capped 3)
 
 abbrev pub counts : Shape Counts
 counts = shaped countsOf countsParts (λ t. refl) (λ x. refl) (number 4 then number 4)
@@ -225,10 +239,15 @@ drive = such driveFits (shaped driveOf driveParts (λ t. refl) (λ d. refl) (mod
 abbrev pub run : Shape Run
 run = shaped runOf runParts (λ t. refl) (λ r. refl) (profile then memory then drive)
 
+-- the byte of Set Homing, or 0 where homing is not in progress
+abbrev pub homing : Shape Homing
+homing = shaped homingOf homingParts (λ t. refl) (λ h. refl) (number 4 then such homingFits byte)
+
 abbrev pub slot : Shape Servo
 slot =
     such sound
-    (shaped servoOf servoParts (λ t. refl) (λ m. refl) (stamp typeNumber (omega arith) then station then sample then counts then settings then run))
+    (shaped servoOf servoParts (λ t. refl) (λ m. refl)
+    (stamp typeNumber (omega arith) then station then sample then counts then settings then run then homing))
 
 -- where each part begins: after the parts before it
 abbrev pub latchedAt : ℕ
@@ -255,9 +274,16 @@ memoryAt = profileAt + profile .codec .size
 abbrev pub driveAt : ℕ
 driveAt = memoryAt + memory .codec .size
 
--- the places of single fields: power; the upper bytes of gains and limits; flags, way and mode; what a tick changes of a profile
+abbrev pub homingAt : ℕ
+homingAt = driveAt + drive .codec .size
+
+-- the places of single fields: power and inputs; the upper bytes of gains and limits; flags, way and mode; homing's byte; what a tick changes of a
+-- profile
 abbrev pub powerAt : ℕ
 powerAt = latchedAt
+
+abbrev pub inputsAt : ℕ
+inputsAt = latchedAt + 6
 
 abbrev pub kpTopAt : ℕ
 kpTopAt = tuningAt + 1
@@ -307,6 +333,9 @@ amplifierAt = errorAt + 1
 abbrev pub cutAt : ℕ
 cutAt = amplifierAt + 1
 
+abbrev pub byteAt : ℕ
+byteAt = homingAt + 4
+
 abbrev pub lastAt : ℕ
 lastAt = countsAt + 4
 
@@ -315,7 +344,7 @@ speedAt = profileAt + 6
 
 -- how many bytes of a slot a servo has
 abbrev pub servoSize : ℕ
-servoSize = driveAt + drive .codec .size
+servoSize = homingAt + homing .codec .size
 
 -- a servo's bytes, the servo in a slot, and whether a slot is valid
 unfoldable pub encodeOf : Servo → List ℕ

@@ -1,7 +1,7 @@
 // How a servo stands in a slot of the record: where its parts and their fields are. Definitions and promises; no function.
 
-// The latched sample, in the order of a tick's list: power, A/D byte, raw count.
-pub const SAMPLE_LEN: usize = 6;
+// The latched sample, in the order of a tick's list: power, A/D byte, raw count, limit inputs.
+pub const SAMPLE_LEN: usize = 7;
 
 pub const LATCHED_AT: usize = module_rules::OWN_AT;
 
@@ -10,6 +10,8 @@ pub const POWER_AT: usize = LATCHED_AT;
 pub const AD_AT: usize = POWER_AT + 1;
 
 pub const RAW_AT: usize = AD_AT + 1;
+
+pub const INPUTS_AT: usize = RAW_AT + 4;
 
 // The counts.
 pub const COUNTS_AT: usize = LATCHED_AT + SAMPLE_LEN;
@@ -102,8 +104,13 @@ pub const AMPLIFIER_AT: usize = ERROR_AT + 1;
 
 pub const CUT_AT: usize = AMPLIFIER_AT + 1;
 
+// Homing: home, and the byte of Set Homing or 0.
+pub const HOME_AT: usize = CUT_AT + 1;
+
+pub const HOMING_AT: usize = HOME_AT + 4;
+
 // How many bytes of a slot a servo has.
-pub const SERVO_LEN: usize = CUT_AT + 1;
+pub const SERVO_LEN: usize = HOMING_AT + 1;
 
 // The bytes of each part.
 pub const COUNTS_LEN: usize = TUNING_AT - COUNTS_AT;
@@ -116,4 +123,6 @@ pub const LOAD_LEN: usize = PROFILE_AT - LOAD_AT;
 
 pub const MEMORY_LEN: usize = DRIVE_AT - MEMORY_AT;
 
-pub const DRIVE_LEN: usize = SERVO_LEN - DRIVE_AT;
+pub const DRIVE_LEN: usize = HOME_AT - DRIVE_AT;
+
+pub const HOMING_LEN: usize = SERVO_LEN - HOME_AT;

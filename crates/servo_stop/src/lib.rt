@@ -1,48 +1,14 @@
-// Stops of a servo and Reset Position, by value.
+// Stops of a servo, by value: the command's and homing's.
 ghost use mathlib.Core.Path.{_≡_};
 ghost use mathlib.Core.Bool.{cond};
-ghost use Rattle.servo_motion.specs.Profile.{Ranged};
 ghost use Rattle.servo_rules.specs.State.{dropped};
-ghost use Rattle.servo_rules.specs.Perform.{shifted, resetPosition, holding, smooth, haltedBy, drops, stopped, canHalt};
-use servo_motion::Profile;
-use servo_rules::Counts;
+ghost use Rattle.servo_rules.specs.Stops.{holding, smooth, haltedBy, drops, halted, canHalt};
+ghost use Rattle.servo_rules.specs.Perform.{stopped};
 use servo_rules::Halt;
 use servo_rules::Mode;
 use servo_rules::Run;
 use servo_rules::Servo;
 use servo_rules::Settings;
-
-// Setpoint and goal relative to a position.
-fn shifted(mut p: Profile, x: u32) -> Profile
-    requires { ⌜ Ranged p ⌝ }
-    ensures { λ r. ⌜ r ≡ shifted x p ⌝ }
-{
-    let back = 0x1_0000_0000_0000 - servo_run::setpoint_at(x);
-    let setpoint = (p.setpoint + back) % 0x1_0000_0000_0000;
-    let goal = base_integers::less(p.goal, x);
-    p.setpoint = setpoint;
-    p.goal = goal;
-    p
-}
-
-// Everything that is a position becomes relative to here.
-pub fn position_reset(mut m: Servo) -> Servo
-    requires { ⌜ Ranged (m .run .profile) ⌝ }
-    ensures { λ r. ⌜ r ≡ resetPosition m ⌝ }
-{
-    let here = servo_run::position(m.latched, m.counts);
-    let counts = Counts {
-        offset: m.latched.raw,
-        last: base_integers::less(m.counts.last, here),
-    };
-    let s = m.settings;
-    let r = m.run;
-    let p = r.profile;
-    m.counts = counts;
-    m.settings = servo_run::dropped(s);
-    m.run = servo_run::with_profile(r, shifted(p, here));
-    m
-}
 
 // Holds a position; the output stays until the tick.
 fn holding(r: Run, x: u32) -> Run
@@ -105,15 +71,25 @@ fn dropped_by(halt: Halt, s: Settings) -> Settings
     s
 }
 
-pub fn stopped(mut m: Servo, amplifier: bool, halt: Halt, x: u32) -> Servo
-    ensures { λ r. ⌜ r ≡ stopped amplifier halt x m ⌝ }
+// What a stop does, but for the amplifier bit.
+pub fn halted(mut m: Servo, halt: Halt, x: u32) -> Servo
+    ensures { λ r. ⌜ r ≡ halted halt x m ⌝ }
 {
     let here = servo_run::position(m.latched, m.counts);
     let s = m.settings;
     let r = m.run;
     m.settings = dropped_by(halt, s);
-    m.run = servo_run::amplified(halted_by(halt, here, x, r), amplifier);
+    m.run = halted_by(halt, here, x, r);
     m
+}
+
+pub fn stopped(m: Servo, amplifier: bool, halt: Halt, x: u32) -> Servo
+    ensures { λ r. ⌜ r ≡ stopped amplifier halt x m ⌝ }
+{
+    let mut n = halted(m, halt, x);
+    let r = n.run;
+    n.run = servo_run::amplified(r, amplifier);
+    n
 }
 
 // Abrupt and Stop Here need good power and a clear error bit.

@@ -1,7 +1,7 @@
-// What a tick makes of what runs in a servo, by value: power, then the profile, then the filter.
+// A servo's tick, by value: latch, power, homing, profile, filter.
 ghost use mathlib.Core.Path.{_≡_};
 ghost use Rattle.servo_rules.specs.State.{running, putting};
-ghost use Rattle.servo_rules.specs.Tick.{advanced, putOut, tripped, servoed, pulsed, drivenBy, ran, Steady};
+ghost use Rattle.servo_rules.specs.Tick.{advanced, putOut, tripped, servoed, pulsed, drivenBy, byPower, met, ticked, Steady};
 use servo_filter::Filtered;
 use servo_filter::Gains;
 use servo_filter::Memory;
@@ -9,6 +9,8 @@ use servo_motion::Profile;
 use servo_rules::Drive;
 use servo_rules::Mode;
 use servo_rules::Run;
+use servo_rules::Sample;
+use servo_rules::Servo;
 
 fn advanced(r: Run) -> Profile
     requires { ⌜ Steady r ⌝ }
@@ -90,6 +92,7 @@ fn pulsed(power: u8, ol: u8, mut r: Run) -> Run
     r
 }
 
+// Profile and filter, by the mode, at the latched power and the position here, with these gains and limits.
 fn driven(power: u8, here: u32, g: Gains, r: Run) -> Run
     requires { ⌜ Steady r ⌝ }
     ensures { λ q. ⌜ q ≡ drivenBy (r .drive .mode) power here g r ⌝ }
@@ -105,13 +108,41 @@ fn driven(power: u8, here: u32, g: Gains, r: Run) -> Run
     }
 }
 
-// A tick, at the latched power and the position here, with these gains and limits. At power 0 the amplifier bit stays.
+// At low power all goes off, and the amplifier bit stays.
+fn by_power(power: u8, r: Run) -> Run
+    ensures { λ q. ⌜ q ≡ byPower power r ⌝ }
+{
+    if power != 0 {
+        return r;
+    }
+    servo_run::off(r)
+}
+
+// What a tick in which homing finds nothing makes of what runs.
 pub fn ran(power: u8, here: u32, g: Gains, r: Run) -> Run
     requires { ⌜ Steady r ⌝ }
-    ensures { λ q. ⌜ q ≡ ran power here g r ⌝ }
+    ensures { λ q. ⌜ q ≡ drivenBy (byPower power r .drive .mode) power here g (byPower power r) ⌝ }
 {
     if power == 0 {
         return servo_run::off(r);
     }
     driven(power, here, g, r)
+}
+
+// The whole of a tick: latch, power, homing, profile, filter.
+pub fn ticked(mut m: Servo, x: Sample) -> Servo
+    requires { ⌜ Steady (met x m .run) ⌝ }
+    ensures { λ r. ⌜ r ≡ ticked x m ⌝ }
+{
+    let before = m.latched;
+    let last = servo_run::position(before, m.counts);
+    let r = m.run;
+    m.latched = x;
+    m.counts.last = last;
+    m.run = by_power(x.power, r);
+    let mut n = servo_homing::homed(m, before.inputs);
+    let here = servo_run::position(n.latched, n.counts);
+    let q = n.run;
+    n.run = driven(n.latched.power, here, n.settings.tuning.gains, q);
+    n
 }

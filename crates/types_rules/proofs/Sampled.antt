@@ -23,13 +23,16 @@ spelled a b c d = omega arith
 
 pub sample-bytes : SampleBytes
 sample-bytes = record {
-  servo = λ power ad r0 r1 r2 r3 a b c.
-      ap₂ (λ (raw : ℕ) (p : ℕ). let x : AnySample = (servo, record { raw = raw; power = p; ad = ad }) in x) (spelled r0 r1 r2 r3) refl;
+  servo = λ power ad r0 r1 r2 r3 limits a b.
+      ap (λ (raw : ℕ). let x : AnySample = (servo, record { raw = raw; power = power; ad = ad; inputs = limits }) in x) (spelled r0 r1 r2 r3);
   inout = λ i0 i1 ad1 ad2 ad3 c0 c1 c2 c3.
       let two : i0 + 256 * (i1 + 256 * 0) ≡ i0 + 256 * i1 = omega arith in
       ap₂ (λ (i k : ℕ). let x : AnySample = (inout, record { inputs = i; ad1 = ad1; ad2 = ad2; ad3 = ad3; counter = k }) in x) two (spelled c0 c1 c2 c3);
   stepper = λ a b c d e f g h. (refl, refl);
-  power = λ p rest. (λ e. leb-true p 2 (every-hold (leb p 2 ∷ []) e .0), λ h. hold-every (leb p 2 ∷ []) (le-leb p 2 h, tt));
+  power = λ p ad r0 r1 r2 r3 limits rest. (
+    λ e. let h = every-hold (leb p 2 ∷ leb limits 3 ∷ []) e in (leb-true p 2 (h .0), leb-true limits 3 (h .1 .0)),
+    λ h. hold-every (leb p 2 ∷ leb limits 3 ∷ []) (le-leb p 2 (h .0), (le-leb limits 3 (h .1), tt)),
+  );
   inputs = λ i0 i1 rest l. (
     λ e. let h = leb-true i1 15 (every-hold (leb i1 15 ∷ []) e .0) in omega arith,
     λ h. hold-every (leb i1 15 ∷ []) (le-leb i1 15 (omega arith), tt),

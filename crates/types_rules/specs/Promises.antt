@@ -56,13 +56,13 @@ pub record ItemBytes : Type 0 where
   pub inout : (b : ℕ) → rulesOf inout .shows b ≡ true
   pub stepper : (b : ℕ) → (rulesOf stepper .shows b ≡ true) ↔ ((b ≡ 0x00) ⊎ ((b ≡ 0x01) ⊎ ((b ≡ 0x20) ⊎ (b ≡ 0x21))))
 
--- 02 P11: the ten bytes of a sample, of each type: power, A/D byte and raw count, with three bytes that are not looked at; input bits, three A/D bytes
--- and counter; the stop input, with eight bytes that are not looked at (02 P3). Its fields are in range with a power of 0 to 2, with twelve input
--- bits, with a stop input of 0 or 1.
+-- 02 P11: the ten bytes of a sample, of each type: power, A/D byte, raw count and limit inputs (02 P8), with two bytes that are not looked at; input
+-- bits, three A/D bytes and counter; the stop input, with eight bytes that are not looked at (02 P3). Its fields are in range with a power of 0 to 2
+-- and no limit input but the two, with twelve input bits, with a stop input of 0 or 1.
 pub record SampleBytes : Type 0 where
-  pub servo : (power ad r0 r1 r2 r3 a b c : ℕ)
-      → sampleIn (0 ∷ power ∷ ad ∷ r0 ∷ r1 ∷ r2 ∷ r3 ∷ a ∷ b ∷ c ∷ [])
-      ≡ (servo, record { raw = r0 + 256 * r1 + 65536 * r2 + 16777216 * r3; power = power; ad = ad })
+  pub servo : (power ad r0 r1 r2 r3 limits a b : ℕ)
+      → sampleIn (0 ∷ power ∷ ad ∷ r0 ∷ r1 ∷ r2 ∷ r3 ∷ limits ∷ a ∷ b ∷ [])
+      ≡ (servo, record { raw = r0 + 256 * r1 + 65536 * r2 + 16777216 * r3; power = power; ad = ad; inputs = limits })
   pub inout : (i0 i1 ad1 ad2 ad3 c0 c1 c2 c3 : ℕ)
       → sampleIn (2 ∷ i0 ∷ i1 ∷ ad1 ∷ ad2 ∷ ad3 ∷ c0 ∷ c1 ∷ c2 ∷ c3 ∷ [])
       ≡ (
@@ -72,6 +72,7 @@ pub record SampleBytes : Type 0 where
   pub stepper : (a b c d e f g h : ℕ)
       → (sampleIn (3 ∷ 0 ∷ a ∷ b ∷ c ∷ d ∷ e ∷ f ∷ g ∷ h ∷ []) ≡ (stepper, record { stop = false }))
       × (sampleIn (3 ∷ 1 ∷ a ∷ b ∷ c ∷ d ∷ e ∷ f ∷ g ∷ h ∷ []) ≡ (stepper, record { stop = true }))
-  pub power : (power : ℕ) (rest : List ℕ) → (inRange (0 ∷ power ∷ rest) ≡ true) ↔ (power ≤ 2)
+  pub power : (power ad r0 r1 r2 r3 limits : ℕ) (rest : List ℕ)
+      → (inRange (0 ∷ power ∷ ad ∷ r0 ∷ r1 ∷ r2 ∷ r3 ∷ limits ∷ rest) ≡ true) ↔ ((power ≤ 2) × (limits ≤ 3))
   pub inputs : (i0 i1 : ℕ) (rest : List ℕ) → i0 < 256 → (inRange (2 ∷ i0 ∷ i1 ∷ rest) ≡ true) ↔ (i0 + 256 * i1 ≤ 4095)
   pub stop : (stop : ℕ) (rest : List ℕ) → (inRange (3 ∷ stop ∷ rest) ≡ true) ↔ (stop ≤ 1)

@@ -1,6 +1,7 @@
 //! The replay program.
 
 use super::network::{Ended, Module, Network};
+use super::servo::HIGH;
 use super::station::EXECUTED;
 use crate::branches::{reach, Branch};
 use crate::calls::{io_sample, no_sample, servo_sample, stepper_sample, Sample, MOST_MODULES};
@@ -14,7 +15,7 @@ pub enum Record {
 
 pub enum Event {
     LineByte { mark: u8, byte: u8 },
-    ServoSample { place: u8, power: u8, ad: u8, raw: u32 },
+    ServoSample { place: u8, power: u8, ad: u8, raw: u32, inputs: u8 },
     IoSample { place: u8, inputs: u16, ad: [u8; 3], counter: u32 },
     Tick,
     StepperSample { place: u8, stop: u8 },
@@ -23,14 +24,16 @@ pub enum Event {
 impl Record {
     /// The record at the head of a file and its length, or nothing where its kind is unknown or it is cut short.
     pub fn first(file: &[u8]) -> Option<(Record, usize)> {
-        let body_length = [1, 2, 7, 10, 0, 2];
+        let body_length = [1, 2, 8, 10, 0, 2];
         let kind = usize::from(*file.first()?);
         let length = 1 + body_length.get(kind).or_else(|| bad(Branch::ReplayKind))?;
         let four = |bytes: &[u8]| u32::from_le_bytes(bytes.try_into().expect("four bytes"));
         let event = match *file.get(..length).or_else(|| bad(Branch::ReplayCut))? {
             [0, module_type] => return Some((Record::Module(module_type), length)),
             [1, mark, byte] => Event::LineByte { mark, byte },
-            [2, place, power, ad, ref raw @ ..] => Event::ServoSample { place, power, ad, raw: four(raw) },
+            [2, place, power, ad, ref raw @ .., inputs] => {
+                Event::ServoSample { place, power, ad, raw: four(raw), inputs }
+            }
             [3, place, low, high, ad1, ad2, ad3, ref counter @ ..] => {
                 let inputs = u16::from_le_bytes([low, high]);
                 Event::IoSample { place, inputs, ad: [ad1, ad2, ad3], counter: four(counter) }
@@ -70,10 +73,14 @@ fn bad<T>(branch: Branch) -> Option<T> {
     None
 }
 
-/// A sample of this type: for a place beyond the chain, out of range, or good.
-fn sample_as(module_type: u8) -> [Branch; 3] {
-    match module_type {
-        0 => [Branch::ReplayServoSampleBeyond, Branch::ReplayServoSamplePower, Branch::ReplayServoSample],
+/// A sample: for a place beyond the chain, out of range, or good.
+fn sample_as(sample: &Sample) -> [Branch; 3] {
+    match sample[0] {
+        0 => {
+            let out_of_range =
+                if sample[1] > HIGH { Branch::ReplayServoSamplePower } else { Branch::ReplayServoSampleLimits };
+            [Branch::ReplayServoSampleBeyond, out_of_range, Branch::ReplayServoSample]
+        }
         2 => [Branch::ReplayIoSampleBeyond, Branch::ReplayIoSampleInputs, Branch::ReplayIoSample],
         _ => [Branch::ReplayStepperSampleBeyond, Branch::ReplayStepperSampleStop, Branch::ReplayStepperSample],
     }
@@ -152,7 +159,9 @@ impl Replay {
                 self.line_byte(mark == 1, byte);
                 Some(())
             }
-            Event::ServoSample { place, power, ad, raw } => self.sample(place, servo_sample(raw, power, ad)),
+            Event::ServoSample { place, power, ad, raw, inputs } => {
+                self.sample(place, servo_sample(raw, power, ad, inputs))
+            }
             Event::IoSample { place, inputs, ad, counter } => self.sample(place, io_sample(inputs, ad, counter)),
             Event::StepperSample { place, stop } => self.sample(place, stepper_sample(stop)),
             Event::Tick => self.tick(),
@@ -192,7 +201,7 @@ impl Replay {
     /// A sample is gathered for the next tick. A bad one is bad where it stands, be there a tick after it or not.
     fn sample(&mut self, place: u8, sample: Sample) -> Option<()> {
         let place = usize::from(place);
-        let [beyond, out_of_range, good] = sample_as(sample[0]);
+        let [beyond, out_of_range, good] = sample_as(&sample);
         let fault = match self.modules.get(place) {
             None => Some(beyond),
             Some(module) if module.module_type() != sample[0] => Some(other_type_as(sample[0], module)),

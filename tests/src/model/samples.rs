@@ -1,6 +1,7 @@
 //! The list of samples that a tick takes: ten bytes for each place in chain order, and what may be wrong with them.
 
 use super::network::Module;
+use super::servo::HIGH;
 use crate::branches::{reach, Branch};
 use crate::calls::{Sample, BAD_FIELD, BAD_LIST, BAD_PLACE, BAD_TYPE, SAMPLE_LEN};
 use crate::slips::Slip;
@@ -71,7 +72,7 @@ impl Faults {
         } else if !self.types.is_empty() {
             self.note_types(modules, list);
         } else if !self.fields.is_empty() {
-            self.note_fields(modules);
+            self.note_fields(modules, list);
         } else {
             note_taken(modules, list);
         }
@@ -111,10 +112,11 @@ impl Faults {
         }
     }
 
-    fn note_fields(&self, modules: &[Module]) {
+    fn note_fields(&self, modules: &[Module], list: &[u8]) {
         for place in &self.fields {
             reach(match modules[*place] {
-                Module::Servo(_) => Branch::SamplePower,
+                Module::Servo(_) if list[SAMPLE_LEN * place + 1] > HIGH => Branch::SamplePower,
+                Module::Servo(_) => Branch::SampleLimits,
                 Module::Io(_) => Branch::SampleInputs,
                 Module::Stepper(_) => Branch::SampleStop,
             });
@@ -154,10 +156,10 @@ fn note_ends(places: &[usize], chain: usize, first: Branch, last: Branch) {
 fn note_taken(modules: &[Module], list: &[u8]) {
     let samples: Vec<Sample> = (0..modules.len()).filter_map(|place| sample_at(list, place)).collect();
     let servos = || samples.iter().filter(|sample| sample[0] == 0);
-    if servos().any(|sample| sample[7..] != [0; 3]) {
+    if servos().any(|sample| sample[8..] != [0; 2]) {
         reach(Branch::SampleRestNotZero);
     }
-    if servos().zip(servos().skip(1)).any(|(one, next)| one[..7] != next[..7]) {
+    if servos().zip(servos().skip(1)).any(|(one, next)| one[..8] != next[..8]) {
         reach(Branch::SamplesOfServosDiffer);
     }
     let ios = || samples.iter().filter(|sample| sample[0] == 2);

@@ -1,5 +1,6 @@
 //! The servo, type 0 version 10. Speeds and the setpoint are in 65,536ths of a count.
 
+use super::homing::{Homing, LIMITS_MOST};
 use super::station::{unknown_code, Device, Station, NOT_NOW, OUT_OF_RANGE, WRONG_COUNT};
 use crate::branches::{all_hold, either, reach, uncounted, Branch};
 use crate::calls::Sample;
@@ -19,6 +20,8 @@ pub struct ServoSample {
     pub raw: u32,
     pub power: u8,
     pub ad: u8,
+    /// Limit 1 in bit 0, limit 2 in bit 1.
+    pub inputs: u8,
 }
 
 #[derive(Clone, Debug, PartialEq, Eq)]
@@ -132,6 +135,10 @@ pub struct Servo {
     pub amplifier: bool,
     /// Whether the last filter tick was cut: there was more to put out than OL.
     pub cut: bool,
+    /// Where homing last found its switch, relative as positions are.
+    pub home: u32,
+    /// While it is in progress.
+    pub homing: Option<Homing>,
 }
 
 fn two(bytes: &[u8]) -> u16 {
@@ -146,7 +153,7 @@ fn signed(size: i64, negative: bool) -> i64 {
     }
 }
 
-fn one_fails(conditions: &[(bool, Branch)]) -> bool {
+pub(super) fn one_fails(conditions: &[(bool, Branch)]) -> bool {
     conditions.iter().any(|(holds, _)| !holds)
 }
 
@@ -269,6 +276,7 @@ impl Servo {
         if slip == Slip::LowPowerDropsLoad {
             self.load = Load::default();
         }
+        self.end_homing_by(Slip::LowPowerEndsHoming, slip);
     }
 
     fn hold(&mut self, at: u32, slip: Slip) -> Result<(), u8> {
@@ -316,6 +324,7 @@ impl Servo {
             self.load = Load::default();
         }
         self.cut &= slip != Slip::ResetPositionClearsCut;
+        self.shift_home(by, slip);
         Ok(())
     }
 
@@ -515,6 +524,8 @@ impl Servo {
         if slip == Slip::StartForgetsNumbers {
             self.velocity_loaded = false;
         }
+        self.note_homing(Branch::StartWhileHoming);
+        self.end_homing_by(Slip::StartEndsHoming, slip);
         Ok(())
     }
 
@@ -622,6 +633,8 @@ impl Servo {
             self.load = Load::default();
         }
         self.set_amplifier(control & 1 == 1, slip);
+        self.note_homing(Branch::StopWhileHoming);
+        self.end_homing_by(Slip::StopEndsHoming, slip);
         Ok(())
     }
 
@@ -639,7 +652,7 @@ impl Servo {
         }
     }
 
-    fn stop_motion(&mut self, kinds: u8, rest: &[u8], slip: Slip) -> Result<(), u8> {
+    pub(super) fn stop_motion(&mut self, kinds: u8, rest: &[u8], slip: Slip) -> Result<(), u8> {
         if self.load.waits {
             either(kinds == 0, Branch::StopKeepsLoad, Branch::StopDropsLoad);
         }
@@ -752,6 +765,8 @@ impl Servo {
         let gains = &self.gains;
         if e.abs() > i64::from(gains.el) || (e.abs() == i64::from(gains.el) && slip == Slip::TripAtLimit) {
             either(e > 0, Branch::TripsAbove, Branch::TripsBelow);
+            self.note_homing(Branch::TripWhileHoming);
+            self.end_homing_by(Slip::TripEndsHoming, slip);
             self.error = true;
             if slip == Slip::TripStaysOn {
                 return;
@@ -873,11 +888,28 @@ impl Servo {
         }
     }
 
-    /// A tick upon the sample that is latched.
-    fn run(&mut self, slip: Slip) {
-        if self.latched.power == LOW || (self.latched.power == HIGH && slip == Slip::HighPowerGoesOff) {
+    /// A tick upon the sample that is latched, after the one before it: power, homing, profile, filter.
+    fn run(&mut self, before: &ServoSample, slip: Slip) {
+        let low = self.latched.power == LOW || (self.latched.power == HIGH && slip == Slip::HighPowerGoesOff);
+        let stop = self.find_home(before, slip);
+        let stops_when = |when: Slip| stop.filter(|_| slip == when);
+        if let Some(stop) = stops_when(Slip::HomeStopBeforePower) {
+            self.stop_at_home(stop, before, slip);
+        }
+        if low {
             reach(Branch::TickPowerLow);
+            self.note_homing(Branch::LowWhileHoming);
             self.lose_power(slip);
+        }
+        let otherwhen = match slip {
+            Slip::HomeStopBeforePower | Slip::HomeStopAfterFilter => true,
+            Slip::HomeStopAfterProfile => !self.servo_off(),
+            _ => false,
+        };
+        if let Some(stop) = stop.filter(|_| !otherwhen) {
+            self.stop_at_home(stop, before, slip);
+        }
+        if low {
             return;
         }
         reach(match self.mode {
@@ -891,12 +923,18 @@ impl Servo {
             Mode::Off => {}
             Mode::Pwm => self.put_out_pwm(slip),
             Mode::Holding | Mode::Velocity | Mode::Trapezoid => {
-                let before = self.setpoint;
+                let unmoved = self.setpoint;
                 self.profile(slip);
+                if let Some(stop) = stops_when(Slip::HomeStopAfterProfile) {
+                    self.stop_at_home(stop, before, slip);
+                }
                 if self.latched.power == GOOD || slip != Slip::HighPowerSkipsFilter {
-                    self.filter(if slip == Slip::FilterBeforeProfile { before } else { self.setpoint }, slip);
+                    self.filter(if slip == Slip::FilterBeforeProfile { unmoved } else { self.setpoint }, slip);
                 }
             }
+        }
+        if let Some(stop) = stops_when(Slip::HomeStopAfterFilter) {
+            self.stop_at_home(stop, before, slip);
         }
         if self.latched.power == HIGH && slip != Slip::HighPowerDrives {
             reach(Branch::TickPowerHigh);
@@ -962,6 +1000,8 @@ impl Device for Servo {
             error: true,
             amplifier: false,
             cut: false,
+            home: 0,
+            homing: None,
         }
     }
 
@@ -977,7 +1017,7 @@ impl Device for Servo {
         let control = data.first().copied().unwrap_or(0);
         match code {
             1 => 2,
-            2 | 3 | 10 => 1,
+            2 | 3 | 9 | 10 => 1,
             4 => Servo::load_count(control),
             6 => 15,
             7 if control >> 4 & 1 == 1 => 5,
@@ -993,8 +1033,10 @@ impl Device for Servo {
             (5, 0) => self.start(false, slip),
             (6, _) => self.set_gain(data, slip),
             (7, _) => self.stop(data, slip),
+            (9, _) => self.set_homing(data, slip),
             (11, 0) => {
                 reach(Branch::ClearBits);
+                self.end_homing_by(Slip::ClearBitsEndsHoming, slip);
                 if slip != Slip::ClearBitsNeedsServo || !self.servo_off() {
                     self.error = false;
                 }
@@ -1023,6 +1065,7 @@ impl Device for Servo {
 
     fn hard_reset(&mut self, slip: Slip) {
         reach(Branch::ServoReset);
+        self.note_homing(Branch::ResetWhileHoming);
         let before = self.clone();
         *self = Servo::power_up();
         if slip != Slip::ResetDropsLatchedSample {
@@ -1035,6 +1078,15 @@ impl Device for Servo {
         self.error = slip != Slip::ResetClearsErrorBit;
         self.amplifier = before.amplifier && slip == Slip::ResetKeepsAmplifier;
         self.cut = before.cut && slip == Slip::ResetKeepsCut;
+        if slip == Slip::ResetKeepsHoming {
+            self.homing = before.homing;
+        }
+        if slip == Slip::ResetKeepsHome {
+            self.home = before.home;
+        }
+        if slip == Slip::ResetDropsLimits {
+            self.latched.inputs = 0;
+        }
     }
 
     fn item(&self, bit: usize, slip: Slip) -> Vec<u8> {
@@ -1052,7 +1104,8 @@ impl Device for Servo {
             1 => vec![self.latched.ad],
             2 => (self.position().wrapping_sub(self.last_position) as u16).to_le_bytes().to_vec(),
             3 | 7 => vec![0],
-            4 => vec![0; 4],
+            4 if slip == Slip::HomeNotShown => vec![0; 4],
+            4 => self.home.to_le_bytes().to_vec(),
             6 => (self.previous_error as u16).to_le_bytes().to_vec(),
             _ => unreachable!("type and version are every type's"),
         }
@@ -1063,19 +1116,25 @@ impl Device for Servo {
         either(good, Branch::PowerGood, Branch::PowerNotGood);
         either(self.error, Branch::ErrorBitSet, Branch::ErrorBitClear);
         let cut = either(self.cut, Branch::CutBitSet, Branch::CutBitClear) && slip != Slip::CutNotShown;
-        u8::from(self.move_done(slip)) | u8::from(cut) << 2 | u8::from(good) << 3 | u8::from(self.error) << 4
+        let bits =
+            u8::from(self.move_done(slip)) | u8::from(cut) << 2 | u8::from(good) << 3 | u8::from(self.error) << 4;
+        bits | self.homing_bits(slip)
     }
 
     fn measured(sample: &Sample, slip: Slip) -> Option<ServoSample> {
-        let [_, first, second, raw0, raw1, raw2, raw3, rest @ ..] = *sample;
+        let [_, first, second, raw0, raw1, raw2, raw3, mut inputs, rest @ ..] = *sample;
         let (power, ad) = if slip == Slip::AdBeforePower { (second, first) } else { (first, second) };
+        if slip == Slip::LimitsMasked {
+            inputs &= LIMITS_MOST;
+        }
         let mut raw = [raw0, raw1, raw2, raw3];
         if slip == Slip::RawMostSignificantFirst {
             raw.reverse();
         }
         let good = power <= HIGH || (power == HIGH + 1 && slip == Slip::PowerOf3Taken);
-        let taken = good && (rest == [0; 3] || slip != Slip::UnusedBytesTested);
-        taken.then(|| ServoSample { raw: u32::from_le_bytes(raw), power, ad })
+        let limits = inputs <= LIMITS_MOST || (inputs == LIMITS_MOST + 1 && slip == Slip::LimitsOf4Taken);
+        let taken = good && limits && (rest == [0; 2] || slip != Slip::UnusedBytesTested);
+        taken.then(|| ServoSample { raw: u32::from_le_bytes(raw), power, ad, inputs })
     }
 
     fn latch(&mut self, measured: ServoSample) {
@@ -1084,8 +1143,9 @@ impl Device for Servo {
 
     fn tick(&mut self, measured: ServoSample, slip: Slip) {
         self.last_position = self.position();
+        let before = self.latched.clone();
         if slip == Slip::ServoRunsOnOldSample {
-            self.run(slip);
+            self.run(&before, slip);
             self.latch(measured);
             return;
         }
@@ -1096,7 +1156,7 @@ impl Device for Servo {
             _ => {}
         }
         self.latch(measured);
-        self.run(slip);
+        self.run(&before, slip);
     }
 
     fn outputs(&self, slip: Slip) -> [u8; 8] {

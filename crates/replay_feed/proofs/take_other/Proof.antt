@@ -74,7 +74,7 @@ returns-2 c =
     let a = s .args in
     let e = c .before .before .before .before .take-sample .ensures in
     let m = c .before .before .before .before .before .before .before .before .match .keys2 in
-    let l : length (a .body .now) ≡ 7 = rw m at (s .pre .1 .0) in
+    let l : length (a .body .now) ≡ 8 = rw m at (s .pre .1 .0) in
     let bytes : Bytes (a .net .now) = λ i. omega (arith, c .before .before .before .before .before .before .before .before .before .before .slice-known2 .given i) in
     let r = sampleRecord 0 (netIn slots (a .net .now)) (take (10 * a .at .count) (a .samples .now)) (a .body .now) in
     rw m (

@@ -11,25 +11,17 @@ use Rattle.servo_calls.proofs.put_reply.Tie as tie
 put-reply-requires : tie.Need-put-reply-requires
 unfolding decodeOf
 put-reply-requires c κs =
-    let k = c .before .before .before .before .before .before .before in
+    let k = c .before .before .before .before .before .before .before .before in
     let a = k .before in
-    (rw (c .before .run-in .ensures) (steady-in (a .args .s .now) (λ i. omega (arith, k .shared-slice-known .given i)) (a .pre .1) .profile), a .pre .2)
+    (rw (c .before .before .run-in .ensures) (steady-in (a .args .s .now) (λ i. omega (arith, k .shared-slice-known .given i)) (a .pre .1) .profile), a .pre .2)
 
 returns : tie.Need-returns
 returns c =
-    let u = c .before .before .before .before in
+    let h = c .before .before .before .before in
+    let u = h .before in
     let a = u .before .before .before .before .before .before .before .args in
     told-is (frameOf (a .f) (a .ds .now)) (a .s .now) (a .room .now) (a .from) (u .before .before .before .station-in .ensures) (u .before .before .latched-in .ensures)
-    (u .before .counts-in .ensures) (u .run-in .ensures) (c .before .before .put-reply .ensures)
+    (u .before .counts-in .ensures) (u .run-in .ensures) (h .homing-in .ensures) (c .before .before .put-reply .ensures)
 
 pub put-reply-spec : {M : Type 1} → statement M
-put-reply-spec =
-    tie.close
-    (tie.spec
-    (λ c κs. search needs)
-    (λ c κs. search needs)
-    (λ c κs. search needs)
-    (λ c κs. search needs)
-    put-reply-requires
-    (λ c. search needs)
-    returns)
+put-reply-spec = tie.close (tie.spec (λ c κs. search needs) (λ c κs. search needs) (λ c κs. search needs) (λ c κs. search needs) (λ c κs. search needs) put-reply-requires (λ c. search needs) returns)

@@ -27,16 +27,21 @@ returns-5 c = rw (c .before .match .keys5) (c .stop-request .ensures)
 
 returns-6 : tie.Need-returns-6
 unfolding own
-returns-6 c = rw (c .before .match .keys6) (c .counted3 .ensures)
+returns-6 c = rw (c .before .match .keys6) (c .homing-request .ensures)
 
 returns-7 : tie.Need-returns-7
 unfolding own
-returns-7 c = let n = c .match .rest in rw (ne-eqb _ _ (n .0 .0 .0 .0 .0 .1), ne-eqb _ _ (n .0 .0 .0 .0 .1), ne-eqb _ _ (n .0 .0 .0 .1), ne-eqb _ _ (n .0 .0 .1), ne-eqb _ _ (n .0 .1), ne-eqb _ _ (n .1))
+returns-7 c = rw (c .before .match .keys7) (c .counted3 .ensures)
+
+returns-8 : tie.Need-returns-8
+unfolding own
+returns-8 c = let n = c .match .rest in rw (ne-eqb _ _ (n .0 .0 .0 .0 .0 .0 .1), ne-eqb _ _ (n .0 .0 .0 .0 .0 .1), ne-eqb _ _ (n .0 .0 .0 .0 .1), ne-eqb _ _ (n .0 .0 .0 .1), ne-eqb _ _ (n .0 .0 .1), ne-eqb _ _ (n .0 .1), ne-eqb _ _ (n .1))
 
 pub own-request-spec : {M : Type 1} → statement M
 own-request-spec =
     tie.close
     (tie.spec
+    (λ c κs. search needs)
     (λ c κs. search needs)
     (λ c κs. search needs)
     (λ c κs. search needs)
@@ -49,4 +54,5 @@ own-request-spec =
     returns-4
     returns-5
     returns-6
-    returns-7)
+    returns-7
+    returns-8)

@@ -21,6 +21,9 @@ returns-5 c = rw (c .before .before .c2 .given .1, c .can-halt .ensures)
 returns-6 : tie.Need-returns-6
 returns-6 c = rw (c .enum-told4 .given .1)
 
+returns-7 : tie.Need-returns-7
+returns-7 c = rw (c .enum-told5 .given .1)
+
 pub can-spec : {M : Type 1} → statement M
 can-spec =
     tie.close
@@ -35,9 +38,11 @@ can-spec =
     (λ c. search needs)
     (λ c κs. search needs)
     (λ c. search needs)
+    (λ c. search needs)
     returns
     returns-2
     returns-3
     returns-4
     returns-5
-    returns-6)
+    returns-6
+    returns-7)

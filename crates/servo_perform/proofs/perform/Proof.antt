@@ -19,7 +19,10 @@ returns-5 : tie.Need-returns-5
 returns-5 c = rw (c .before .before .c3 .given .1, c .stopped .ensures)
 
 returns-6 : tie.Need-returns-6
-returns-6 c = rw (c .before .enum-told3 .given .1, c .with-error-clear .ensures)
+returns-6 c = rw (c .before .before .c4 .given .1, c .with-homing .ensures)
+
+returns-7 : tie.Need-returns-7
+returns-7 c = rw (c .before .enum-told3 .given .1, c .with-error-clear .ensures)
 
 pub perform-spec : {M : Type 1} → statement M
 perform-spec =
@@ -37,9 +40,12 @@ perform-spec =
     (λ c κs. search needs)
     (λ c. search needs)
     (λ c κs. search needs)
+    (λ c. search needs)
+    (λ c κs. search needs)
     returns
     returns-2
     returns-3
     returns-4
     returns-5
-    returns-6)
+    returns-6
+    returns-7)

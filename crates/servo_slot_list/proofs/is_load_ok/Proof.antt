@@ -4,7 +4,7 @@ use Rattle.servo_slot_list.proofs.is_load_ok.Statement.{statement}
 use Rattle.servo_slot_list.proofs.is_load_ok.Tie as tie
 
 returns : tie.Need-returns
-returns c = rw (c .before .before .before .before .before .do-rates-fit .ensures)
+returns c = rw (c .do-rates-fit .ensures)
 
 pub is-load-ok-spec : {M : Type 1} → statement M
 is-load-ok-spec =
@@ -12,10 +12,10 @@ is-load-ok-spec =
     (tie.spec
     (λ c. search needs)
     (λ c. search needs)
+    (λ c. search needs)
+    (λ c. search needs)
+    (λ c. search needs)
+    (λ c. search needs)
+    (λ c. search needs)
     (λ c κs. search needs)
-    (λ c. search needs)
-    (λ c. search needs)
-    (λ c. search needs)
-    (λ c. search needs)
-    (λ c. search needs)
     returns)

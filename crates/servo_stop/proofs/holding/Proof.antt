@@ -1,5 +1,5 @@
 -- `servo_stop::holding` meets its contract. Assumes nothing.
-use Rattle.servo_rules.specs.Perform.{holding}
+use Rattle.servo_rules.specs.Stops.{holding}
 use borrow.Author.Needs.{needs}
 use Rattle.servo_stop.proofs.holding.Statement.{statement}
 use Rattle.servo_stop.proofs.holding.Tie as tie

@@ -1,6 +1,6 @@
 -- `servo_stop::smooth` meets its contract. Assumes nothing.
 use mathlib.Core.Path.{sym, _∙_}
-use Rattle.servo_rules.specs.Perform.{smooth}
+use Rattle.servo_rules.specs.Stops.{smooth}
 use borrow.Author.Needs.{needs}
 use Rattle.servo_stop.proofs.smooth.Statement.{statement}
 use Rattle.servo_stop.proofs.smooth.Tie as tie

@@ -6,9 +6,7 @@ use Rattle.servo_stop.proofs.stopped.Tie as tie
 
 returns : tie.Need-returns
 unfolding stopped
-returns c = rw (c .amplified .ensures, c .before .halted-by .ensures, c .before .before .dropped-by .ensures, c .before .before .before .before .before .position .ensures)
+returns c = rw (c .amplified .ensures, c .before .before .halted .ensures)
 
 pub stopped-spec : {M : Type 1} → statement M
-stopped-spec =
-    tie.close
-    (tie.spec (λ c κs. search needs) (λ c κs. search needs) (λ c κs. search needs) (λ c κs. search needs) returns)
+stopped-spec = tie.close (tie.spec (λ c κs. search needs) (λ c κs. search needs) returns)

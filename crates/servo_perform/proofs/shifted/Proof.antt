@@ -1,8 +1,8 @@
--- `servo_stop::shifted` meets its contract. Assumes nothing.
+-- `servo_perform::shifted` meets its contract. Assumes nothing.
 use Rattle.servo_rules.specs.Perform.{shifted}
 use borrow.Author.Needs.{needs}
-use Rattle.servo_stop.proofs.shifted.Statement.{statement}
-use Rattle.servo_stop.proofs.shifted.Tie as tie
+use Rattle.servo_perform.proofs.shifted.Statement.{statement}
+use Rattle.servo_perform.proofs.shifted.Tie as tie
 
 returns : tie.Need-returns
 unfolding shifted
