@@ -180,7 +180,8 @@ uint32_t nmc_tick(uint8_t *net, size_t net_len, const uint8_t *samples, size_t s
  * size of the motor output (0 to 255), 1 if it is negative, enable line, then
  * five of 0. The enable line is the amplifier bit, which Stop sets or clears
  * and Hard Reset clears, while power is good: it drops in a power dip and comes
- * back with power. Low power turns the servo off until it is started anew.
+ * back with power. Low power turns the servo off until it is started anew, or
+ * until homing with an abrupt stop finds its switch and holds the position.
  * I/O: directions of bits 1 to 8 and 9 to 12 (1 is input), output register of
  * the same, PWM 1, PWM 2, 0, 0. Step-motor module: size of the speed in steps a
  * tick (0 at rest, else 1 to 250), 1 if it goes backward, amplifier bit, then
