@@ -50,9 +50,9 @@ static void time_all(const struct bench_case *c, double least[IMPLEMENTATIONS])
 
 int main(void)
 {
-    printf("%-44s %10s %10s %13s %9s %9s\n", "nanoseconds a call", implementations[LIBRARY].name,
+    printf("%-48s %10s %10s %13s %9s %9s\n", "nanoseconds a call", implementations[LIBRARY].name,
            implementations[PLAIN_C].name, implementations[CHECKED_C].name, "/ plain", "/ checks");
-    double top_speed = 0, worst = 0;
+    double top_speed = 0, worst = 0, byte = 0, buffer = 0, steps = 0, single_bytes = 0;
     for (unsigned i = 0; i < case_count; i++) {
         double took[IMPLEMENTATIONS];
         time_all(&cases[i], took);
@@ -60,9 +60,20 @@ int main(void)
             top_speed = took[LIBRARY];
         if (strstr(cases[i].name, "brake") && worst < took[LIBRARY])
             worst = took[LIBRARY];
-        printf("%-44s %10.0f %10.0f %13.0f %9.2f %9.2f\n", cases[i].name, took[LIBRARY], took[PLAIN_C],
+        if (strcmp(cases[i].name, A_BYTE) == 0)
+            byte = took[LIBRARY];
+        if (strcmp(cases[i].name, A_BUFFER) == 0) {
+            buffer = took[LIBRARY];
+            steps = took[PLAIN_C];
+        }
+        if (strcmp(cases[i].name, SINGLE_BYTES) == 0)
+            single_bytes = took[LIBRARY];
+        printf("%-48s %10.0f %10.0f %13.0f %9.2f %9.2f\n", cases[i].name, took[LIBRARY], took[PLAIN_C],
                took[CHECKED_C], took[LIBRARY] / took[PLAIN_C], took[LIBRARY] / took[CHECKED_C]);
     }
     printf("the library's worst tick that brakes takes %.2f times one at top speed\n", worst / top_speed);
+    printf("the library's buffer of noise takes %.2f times a byte and 64 steps of the receiver in plain C\n",
+           buffer / (byte + steps));
+    printf("its bytes singly take %.1f times the buffer\n", single_bytes / buffer);
     return 0;
 }

@@ -20,7 +20,11 @@ static const struct move steepest = {2559, FASTEST, FASTEST}; /* 27 halvings the
 static const uint8_t none[1]; /* the data of a command that has none */
 static uint8_t room[NMC_ROOM_LEN];
 static uint8_t last_byte;
-static size_t replied; /* how many bytes the frame draws that it ends */
+static size_t replied; /* how many bytes the frame draws that it ends, or all frames of a buffer */
+
+/* The line bytes of a buffer, none of them marked. */
+static uint8_t buffer[NMC_BUFFER_LEN], buffer_room[NMC_BUFFER_ROOM_LEN];
+static const uint8_t no_marks[NMC_BUFFER_LEN];
 
 /* The list that each tick of a case takes. */
 static uint8_t samples[NMC_MOST_MODULES * NMC_SAMPLE_LEN];
@@ -298,6 +302,118 @@ static void prepare_for_all_steppers(const struct implementation *at)
     read_up_to_last(at, GROUP, STEPPER_ITEMS, NMC_MOST_MODULES * STEPPER_REPLY_LEN);
 }
 
+/* ---- buffers */
+
+enum { FRAMES_IN_A_BUFFER = 16 };
+
+/* 64 bytes that open no frame. At plain C, which tests nothing else, they are 64 steps of the receiver. */
+static void prepare_noise(void)
+{
+    memset(buffer, 0, sizeof buffer);
+    replied = 0;
+}
+
+/* Noise, and at the end a Read Status for one module. */
+static void prepare_one_frame(uint8_t items, size_t draws)
+{
+    uint8_t frame[NMC_FRAME_LEN];
+    size_t len = write_frame(7, 3, &items, 1, frame);
+    prepare_noise();
+    memcpy(buffer + sizeof buffer - len, frame, len);
+    replied = draws;
+}
+
+/*
+ * As many frames as can end in a buffer: the last byte of a No Op for all whose
+ * others came before, fifteen more, and three bytes of noise. Every module
+ * replies with these items.
+ */
+static void prepare_most_frames(const struct implementation *at, uint8_t items, size_t draws)
+{
+    uint8_t frame[NMC_FRAME_LEN];
+    size_t len = write_frame(GROUP, 14, none, 0, frame);
+    need(send(at, GROUP, 2, &items, 1) == draws);
+    feed(at, frame, len - 1, NMC_DONE);
+    prepare_noise();
+    buffer[0] = frame[len - 1];
+    for (size_t i = 1; i < FRAMES_IN_A_BUFFER; i++)
+        memcpy(buffer + 1 + (i - 1) * len, frame, len);
+    replied = FRAMES_IN_A_BUFFER * draws;
+}
+
+static void prepare_noise_servos(const struct implementation *at)
+{
+    prepare_moving(at);
+    prepare_noise();
+}
+
+static void prepare_noise_io(const struct implementation *at)
+{
+    prepare_io(at);
+    prepare_noise();
+}
+
+static void prepare_noise_steppers(const struct implementation *at)
+{
+    prepare_steppers_at_speed(at);
+    prepare_noise();
+}
+
+static void prepare_buffer_for_one_servo(const struct implementation *at)
+{
+    prepare_moving(at);
+    prepare_one_frame(ALL_ITEMS, NMC_REPLY_LEN);
+}
+
+static void prepare_buffer_for_one_io(const struct implementation *at)
+{
+    prepare_io(at);
+    prepare_one_frame(ALL_ITEMS, NMC_REPLY_LEN);
+}
+
+static void prepare_buffer_for_one_stepper(const struct implementation *at)
+{
+    prepare_steppers_at_speed(at);
+    prepare_one_frame(STEPPER_ITEMS, STEPPER_REPLY_LEN);
+}
+
+static void prepare_buffer_for_all_servos(const struct implementation *at)
+{
+    prepare_moving(at);
+    prepare_most_frames(at, ALL_ITEMS, NMC_ROOM_LEN);
+}
+
+static void prepare_buffer_for_all_io(const struct implementation *at)
+{
+    prepare_io(at);
+    prepare_most_frames(at, ALL_ITEMS, NMC_ROOM_LEN);
+}
+
+static void prepare_buffer_for_all_steppers(const struct implementation *at)
+{
+    prepare_steppers_at_speed(at);
+    prepare_most_frames(at, STEPPER_ITEMS, NMC_MOST_MODULES * STEPPER_REPLY_LEN);
+}
+
+static void take_buffer(const struct implementation *at)
+{
+    size_t written;
+    need(at->bytes(buffer, sizeof buffer, no_marks, sizeof no_marks, buffer_room, sizeof buffer_room, &written) ==
+             NMC_DONE &&
+         written == replied);
+}
+
+/* The same bytes without a buffer. */
+static void take_singly(const struct implementation *at)
+{
+    size_t all = 0, written;
+    for (size_t i = 0; i < sizeof buffer; i++, all += written)
+        need(at->byte(no_marks[i], buffer[i], room, sizeof room, &written) <= NMC_FRAME);
+    need(all == replied);
+}
+
+/* ---- calls */
+
 /* A null opens nothing. */
 static void take_null(const struct implementation *at)
 {
@@ -348,7 +464,7 @@ static void read_once(const struct implementation *at)
 }
 
 const struct bench_case cases[] = {
-    {"byte, no frame ends, 32 servos moving", "byte", prepare_moving, take_null, NOTHING_BACK, 1000},
+    {A_BYTE, "byte", prepare_moving, take_null, NOTHING_BACK, 1000},
     {"byte, no frame ends, 32 I/O", "byte", prepare_io, take_null, NOTHING_BACK, 1000},
     {"byte, no frame ends, 32 steppers moving", "byte", prepare_steppers_at_speed, take_null, NOTHING_BACK, 1000},
     {"byte, no frame ends, 1 servo", "byte", prepare_one_servo, take_null, NOTHING_BACK, 1000},
@@ -360,6 +476,24 @@ const struct bench_case cases[] = {
     {"byte, frame for a group of 32 servos", "byte", prepare_for_all_servos, take_last, RECEIVER_BACK, 1000},
     {"byte, frame for a group of 32 I/O", "byte", prepare_for_all_io, take_last, RECEIVER_BACK, 1000},
     {"byte, frame for a group of 32 steppers", "byte", prepare_for_all_steppers, take_last, RECEIVER_BACK, 1000},
+    {A_BUFFER, "bytes", prepare_noise_servos, take_buffer, NOTHING_BACK, 200},
+    {SINGLE_BYTES, "byte", prepare_noise_servos, take_singly, NOTHING_BACK, 20},
+    {"buffer, noise, 32 I/O", "bytes", prepare_noise_io, take_buffer, NOTHING_BACK, 200},
+    {"64 single bytes, noise, 32 I/O", "byte", prepare_noise_io, take_singly, NOTHING_BACK, 20},
+    {"buffer, noise, 32 steppers moving", "bytes", prepare_noise_steppers, take_buffer, NOTHING_BACK, 200},
+    {"64 single bytes, noise, 32 steppers moving", "byte", prepare_noise_steppers, take_singly, NOTHING_BACK, 20},
+    {"buffer, frame for one of 32 servos", "bytes", prepare_buffer_for_one_servo, take_buffer, NOTHING_BACK, 200},
+    {"64 single bytes, frame for one of 32 servos", "byte", prepare_buffer_for_one_servo, take_singly, NOTHING_BACK, 20},
+    {"buffer, frame for one of 32 I/O", "bytes", prepare_buffer_for_one_io, take_buffer, NOTHING_BACK, 200},
+    {"64 single bytes, frame for one of 32 I/O", "byte", prepare_buffer_for_one_io, take_singly, NOTHING_BACK, 20},
+    {"buffer, frame for one of 32 steppers", "bytes", prepare_buffer_for_one_stepper, take_buffer, NOTHING_BACK, 200},
+    {"64 single bytes, frame for one of 32 steppers", "byte", prepare_buffer_for_one_stepper, take_singly, NOTHING_BACK, 20},
+    {"buffer, 16 frames, group of 32 servos", "bytes", prepare_buffer_for_all_servos, take_buffer, RECEIVER_BACK, 50},
+    {"64 single bytes, 16 frames, group of 32 servos", "byte", prepare_buffer_for_all_servos, take_singly, RECEIVER_BACK, 20},
+    {"buffer, 16 frames, group of 32 I/O", "bytes", prepare_buffer_for_all_io, take_buffer, RECEIVER_BACK, 50},
+    {"64 single bytes, 16 frames, group of 32 I/O", "byte", prepare_buffer_for_all_io, take_singly, RECEIVER_BACK, 20},
+    {"buffer, 16 frames, group of 32 steppers", "bytes", prepare_buffer_for_all_steppers, take_buffer, RECEIVER_BACK, 50},
+    {"64 single bytes, 16 frames, group of 32 steppers", "byte", prepare_buffer_for_all_steppers, take_singly, RECEIVER_BACK, 20},
     {"tick, 32 servos, trapezoid at top speed", "tick", prepare_moving, tick_once, NOTHING_BACK, 400},
     {"tick, 32 servos homing, trapezoid, top speed", "tick", prepare_homing, tick_once, NOTHING_BACK, 400},
     {"tick, 32 servos, trapezoid begins to brake", "tick", prepare_braking, tick_once, NETWORK_BACK, 400},

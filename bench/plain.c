@@ -1,5 +1,5 @@
 /*
- * Document 01 with P1, P3, P4, P5, P8 and P11 of 02 in plain C11. It shares
+ * Document 01 with P1, P2, P3, P4, P5, P8 and P11 of 02 in plain C11. It shares
  * nothing with the library, so that the two can be held against each other.
  */
 #include "plain.h"
@@ -1170,22 +1170,18 @@ uint32_t PLAIN(setup)(struct plain_network *net, const uint8_t *types, size_t ch
     return DONE;
 }
 
-static uint32_t take_byte(struct plain_network *net, bool mark, uint8_t byte, uint8_t *room,
-                          size_t *written, uint8_t *lengths)
+/* The frame that the receiver has to its end, at all modules; how many bytes they reply. */
+static size_t end_frame(struct plain_network *net, bool damaged, uint8_t *room, uint8_t *lengths)
 {
     struct plain_receiver *r = &net->receiver;
-    enum answer answer = receive(r, mark, byte);
-    if (answer == NOTHING)
-        return DONE;
-    bool damaged = answer == ENDED_DAMAGED;
     struct frame f = {.address = r->address,
                       .code = r->command & 0x0F,
                       .count = r->command >> 4,
                       .damaged = damaged,
                       .data = r->data};
-    *written = hand_on(net, &f, room, lengths);
+    size_t written = hand_on(net, &f, room, lengths);
     memset(r, 0, sizeof *r); /* idle is one value */
-    return damaged ? DAMAGED_ENDED : FRAME_ENDED;
+    return written;
 }
 
 uint32_t PLAIN(byte_by_place)(struct plain_network *net, uint32_t mark, uint8_t byte, uint8_t *room,
@@ -1197,13 +1193,45 @@ uint32_t PLAIN(byte_by_place)(struct plain_network *net, uint32_t mark, uint8_t 
         return BAD_FIELD;
     if (room_len < PLAIN_ROOM_LEN)
         return SHORT_ROOM;
-    return take_byte(net, mark == 1, byte, room, written, lengths);
+    enum answer answer = receive(&net->receiver, mark == 1, byte);
+    if (answer == NOTHING)
+        return DONE;
+    *written = end_frame(net, answer == ENDED_DAMAGED, room, lengths);
+    return answer == ENDED_DAMAGED ? DAMAGED_ENDED : FRAME_ENDED;
 }
 
 uint32_t PLAIN(byte)(struct plain_network *net, uint32_t mark, uint8_t byte, uint8_t *room,
                      size_t room_len, size_t *written)
 {
     return PLAIN(byte_by_place)(net, mark, byte, room, room_len, written, NULL);
+}
+
+static bool are_marks(const uint8_t *marks, size_t len)
+{
+    for (size_t i = 0; i < len; i++)
+        if (marks[i] > 1)
+            return false;
+    return true;
+}
+
+/* The network is tested once, and every mark before the first byte is taken. */
+uint32_t PLAIN(bytes)(struct plain_network *net, const uint8_t *bytes, size_t bytes_len, const uint8_t *marks,
+                      size_t marks_len, uint8_t *room, size_t room_len, size_t *written)
+{
+    *written = 0;
+    REFUSE_SPOILED(net);
+    if (bytes_len != marks_len || bytes_len > PLAIN_BUFFER_LEN)
+        return BAD_LIST;
+    if (!are_marks(marks, marks_len))
+        return BAD_FIELD;
+    if (room_len < PLAIN_BUFFER_ROOM_LEN)
+        return SHORT_ROOM;
+    for (size_t i = 0; i < bytes_len; i++) {
+        enum answer answer = receive(&net->receiver, marks[i] == 1, bytes[i]);
+        if (answer != NOTHING)
+            *written += end_frame(net, answer == ENDED_DAMAGED, room + *written, NULL);
+    }
+    return DONE;
 }
 
 static bool in_range(uint8_t type, const uint8_t *sample)

@@ -1,6 +1,6 @@
 /*
- * Document 01 with P1, P3, P4, P5, P8 and P11 of 02 in plain C, to measure the
- * library against: the same calls and the same answers on a network of typed
+ * Document 01 with P1, P2, P3, P4, P5, P8 and P11 of 02 in plain C, to measure
+ * the library against: the same calls and the same answers on a network of typed
  * structs.
  * plain.c is compiled twice: as it stands (plain_...) it believes the network
  * that it is lent, with PLAIN_CHECKS (checked_...) it tests the list for
@@ -13,6 +13,7 @@
 #include <stdint.h>
 
 enum { PLAIN_MOST_MODULES = 32, PLAIN_MOST_DATA = 15, PLAIN_ROOM_LEN = 608, PLAIN_SAMPLE_LEN = 10 };
+enum { PLAIN_BUFFER_LEN = 64, PLAIN_BUFFER_ROOM_LEN = 9728 };
 
 /* Flags are bytes of 0 or 1, so that a spoiled network can be told. */
 typedef uint8_t plain_flag;
@@ -139,6 +140,9 @@ struct plain_network {
     uint32_t NAMED(byte_by_place)(struct plain_network *net, uint32_t mark, uint8_t byte,         \
                                   uint8_t *room, size_t room_len, size_t *written,                \
                                   uint8_t *lengths);                                              \
+    uint32_t NAMED(bytes)(struct plain_network *net, const uint8_t *bytes, size_t bytes_len,      \
+                          const uint8_t *marks, size_t marks_len, uint8_t *room, size_t room_len, \
+                          size_t *written);                                                       \
     uint32_t NAMED(tick)(struct plain_network *net, const uint8_t *samples, size_t samples_len);  \
     uint32_t NAMED(outputs)(const struct plain_network *net, uint32_t place, uint8_t *outputs);   \
     uint32_t NAMED(write_frame)(uint32_t address, uint32_t code, const uint8_t *data,             \

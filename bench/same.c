@@ -3,8 +3,9 @@
  * same document: over long histories, led to where modules hear and execute,
  * both builds and the library must give the same numbers, replies, causes and
  * outputs, latch the same samples, and servos and steppers keep the same; a
- * tick whose list is spoiled must change nothing; and over spoiled records the
- * library and the build that checks must refuse the same ones.
+ * buffer must do what the library's single bytes do, to the record's last byte;
+ * a tick or a buffer whose list is spoiled must change nothing; and over spoiled
+ * records the library and the build that checks must refuse the same ones.
  */
 #include "plain.h"
 #include "three.h"
@@ -20,10 +21,13 @@ enum { SERVO_SPEED_AT = 62, SERVO_GOAL_AT = 66, INTEGRAL_AT = 82, PREVIOUS_AT = 
 enum { CUT_AT = 101, HOME_AT = 102, HOMING_AT = 106, SERVO_LEN = 107 };
 enum { MINIMUM_AT = 9, LOAD_AT = 18, SPEED_AT = 22, GOAL_AT = 24, TIME_AT = 25, COUNTER_AT = 26, STOPPING_AT = 27, STEPPER_LEN = 32 };
 enum { CAUSES = 6, NUMBERS = 21, LEAST_TIMES = 1000, MOST_STEPS = 250 };
+enum { ADDRESS_AT = 15, COMMAND_AT = 16, FILL_AT = 17, MARKED_AT = 18, STATION_AT = 1, TOUCHED_BY_LEN = 4 };
+enum { FILLINGS = 400, FILLED = 4, MOST_FRAMES = 16, MOST_LIST = NMC_BUFFER_LEN + 6, MOST_ROOM = NMC_BUFFER_ROOM_LEN + 8 };
 
 static uint64_t dice;
 static uint32_t history, step;
 static unsigned long calls, frames, frames_with[CAUSES], ticks_with[NUMBERS], moving_ticks, spoiled, refused;
+static unsigned long buffers_with[NUMBERS];
 
 /* What histories must come to where an output is at its limit. */
 enum at_limit {
@@ -134,6 +138,67 @@ static const char *const ways_of_homing[WAYS_OF_HOMING] = {
     [NO_HOME_SHIFTED] = "home shifted before any was found",
 };
 static unsigned long times_of_homing[WAYS_OF_HOMING];
+
+/* What histories must come to with buffers. */
+enum buffering {
+    NO_BYTES,
+    MOST_BYTES,
+    NO_END,
+    ONE_END,
+    SEVERAL_ENDS,
+    SIXTEEN_ENDS,
+    ROOM_FILLED,
+    BYTES_BEHIND_FILLED,
+    SEVERAL_REPLY,
+    CARRIED_OVER,
+    CARRIED_THROUGH,
+    CARRIED_MARK,
+    GOOD_AFTER_DAMAGED,
+    REPLY_AFTER_ADDRESS,
+    LENGTHS_DIFFER,
+    LISTS_TOO_LONG,
+    BAD_MARK,
+    BAD_MARK_BEHIND_FRAME,
+    SHORT_BUFFER_ROOM,
+    NO_BYTES_IN_SHORT_ROOM,
+    LENGTHS_BEFORE_MARK,
+    LENGTHS_BEFORE_ROOM,
+    MARK_BEFORE_ROOM,
+    RECORD_BEFORE_LENGTHS,
+    RECORD_ALONE,
+    WAYS_OF_BUFFERING
+};
+static const char *const ways_of_buffering[WAYS_OF_BUFFERING] = {
+    [NO_BYTES] = "a buffer of no bytes",
+    [MOST_BYTES] = "a buffer of 64",
+    [NO_END] = "a buffer in which no frame ends",
+    [ONE_END] = "a buffer in which one frame ends",
+    [SEVERAL_ENDS] = "a buffer in which several frames end",
+    [SIXTEEN_ENDS] = "a buffer in which sixteen frames end",
+    [ROOM_FILLED] = "a room filled to its end",
+    [BYTES_BEHIND_FILLED] = "bytes behind those that filled the room",
+    [SEVERAL_REPLY] = "a buffer in which several frames draw replies",
+    [CARRIED_OVER] = "a frame carried over from one buffer to the next",
+    [CARRIED_THROUGH] = "a frame carried through a buffer",
+    [CARRIED_MARK] = "a mark carried over from one buffer to the next",
+    [GOOD_AFTER_DAMAGED] = "a good frame behind a damaged one in a buffer",
+    [REPLY_AFTER_ADDRESS] = "a reply behind a change of addresses in a buffer",
+    [LENGTHS_DIFFER] = "a buffer refused for different lengths",
+    [LISTS_TOO_LONG] = "a buffer refused for more than 64 bytes",
+    [BAD_MARK] = "a buffer refused for a mark",
+    [BAD_MARK_BEHIND_FRAME] = "a buffer refused for a mark behind a whole frame",
+    [SHORT_BUFFER_ROOM] = "a buffer refused for its room",
+    [NO_BYTES_IN_SHORT_ROOM] = "a buffer of no bytes refused for its room",
+    [LENGTHS_BEFORE_MARK] = "a buffer refused for its lengths, with a bad mark",
+    [LENGTHS_BEFORE_ROOM] = "a buffer refused for its lengths, in a short room",
+    [MARK_BEFORE_ROOM] = "a buffer refused for a mark, in a short room",
+    [RECORD_BEFORE_LENGTHS] = "a buffer refused for the record, with bad lists",
+    [RECORD_ALONE] = "a good buffer refused for the record",
+};
+static unsigned long times_of_buffering[WAYS_OF_BUFFERING];
+
+/* The last bytes of the line came in a buffer. */
+static bool after_buffer;
 
 /* The library's record and the structs, as three.c keeps them. */
 static uint8_t *record;
@@ -356,6 +421,7 @@ static uint32_t byte_at_all(uint32_t mark, uint8_t byte, size_t room_len)
     size_t written[IMPLEMENTATIONS];
     uint8_t stale = (uint8_t)throw_dice();
     calls++;
+    after_buffer = false;
     for (unsigned i = 0; i < IMPLEMENTATIONS; i++) {
         memset(rooms[i], stale, sizeof rooms[i]);
         numbers[i] = implementations[i].byte(mark, byte, rooms[i], room_len, &written[i]);
@@ -368,6 +434,135 @@ static uint32_t byte_at_all(uint32_t mark, uint8_t byte, size_t room_len)
     if (numbers[LIBRARY] == NMC_FRAME || numbers[LIBRARY] == NMC_DAMAGED) {
         causes_of_all();
         memories_of_all();
+    }
+    return numbers[LIBRARY];
+}
+
+/* What is told of an unfinished frame; the rest of the receiver is nobody's. */
+static bool receives(const struct plain_receiver *r)
+{
+    uint8_t fill = record[FILL_AT];
+    return r->fill == fill && r->marked == record[MARKED_AT] && (fill < 2 || r->address == record[ADDRESS_AT]) &&
+           (fill < 3 || r->command == record[COMMAND_AT]) && (fill < 4 || memcmp(r->data, record, fill - 3u) == 0);
+}
+
+/* What a buffer's call is handed. */
+struct buffer {
+    const uint8_t *bytes, *marks;
+    size_t bytes_len, marks_len, room_len;
+};
+
+/* The bytes of each module by which a frame finds it, and whether its successor hears. */
+static void stations_in(const uint8_t *r, uint8_t stations[NMC_MOST_MODULES][TOUCHED_BY_LEN])
+{
+    for (unsigned place = 0; place < NMC_MOST_MODULES; place++)
+        memcpy(stations[place], r + SLOTS_AT + SLOT_LEN * place + STATION_AT, TOUCHED_BY_LEN);
+}
+
+/* What single bytes made of a buffer. */
+struct singles {
+    unsigned ends, damaged, replies;
+    bool good_after_damaged, reply_after_address;
+    size_t written, filled_at; /* filled_at: how many bytes it took to fill the room */
+};
+
+/* A buffer's bytes one by one at the library, on a copy of its record. */
+static struct singles take_singly(const struct buffer *b, uint8_t *copy, uint8_t *room)
+{
+    uint8_t before[NMC_MOST_MODULES][TOUCHED_BY_LEN], now[NMC_MOST_MODULES][TOUCHED_BY_LEN];
+    struct singles s = {.filled_at = MOST_LIST};
+    bool addressed = false;
+    stations_in(copy, before);
+    for (size_t i = 0; i < b->bytes_len; i++) {
+        size_t said;
+        uint32_t number = nmc_byte(copy, NMC_NET_LEN, b->marks[i], b->bytes[i], room + s.written, NMC_ROOM_LEN, &said);
+        if (number == NMC_DONE)
+            continue;
+        need_alone(number <= NMC_DAMAGED, "a byte of a buffer is refused", LIBRARY);
+        s.written += said;
+        if (s.written == NMC_BUFFER_ROOM_LEN && s.filled_at == MOST_LIST)
+            s.filled_at = i + 1;
+        s.ends++;
+        s.replies += said > 0;
+        s.reply_after_address |= addressed && said > 0;
+        s.good_after_damaged |= s.damaged && number == NMC_FRAME;
+        s.damaged += number == NMC_DAMAGED;
+        stations_in(copy, now);
+        addressed |= memcmp(before, now, sizeof now) != 0;
+    }
+    return s;
+}
+
+/* A buffer that was taken. */
+static void count_buffer(const struct buffer *b, const struct singles *s, const uint8_t *before)
+{
+    bool open = before[FILL_AT] != 0 && after_buffer;
+    frames += s->ends;
+    times_of_buffering[NO_BYTES] += b->bytes_len == 0;
+    times_of_buffering[MOST_BYTES] += b->bytes_len == NMC_BUFFER_LEN;
+    times_of_buffering[NO_END] += s->ends == 0;
+    times_of_buffering[ONE_END] += s->ends == 1;
+    times_of_buffering[SEVERAL_ENDS] += s->ends > 1;
+    times_of_buffering[SIXTEEN_ENDS] += s->ends == MOST_FRAMES;
+    times_of_buffering[ROOM_FILLED] += s->written == NMC_BUFFER_ROOM_LEN;
+    times_of_buffering[BYTES_BEHIND_FILLED] += s->filled_at < b->bytes_len;
+    times_of_buffering[SEVERAL_REPLY] += s->replies > 1;
+    times_of_buffering[CARRIED_OVER] += open && s->ends > 0;
+    times_of_buffering[CARRIED_THROUGH] += open && s->ends == 0 && b->bytes_len > 0;
+    times_of_buffering[CARRIED_MARK] += open && before[MARKED_AT] && s->damaged > 0;
+    times_of_buffering[GOOD_AFTER_DAMAGED] += s->good_after_damaged;
+    times_of_buffering[REPLY_AFTER_ADDRESS] += s->reply_after_address;
+}
+
+/* The library's buffer did what its bytes do one by one: the same record, and the same replies in a room as stale. */
+static void is_single_bytes(const struct buffer *b, const uint8_t *before, const uint8_t *room, size_t written,
+                            uint8_t stale)
+{
+    static uint8_t copy[NMC_NET_LEN], said[MOST_ROOM + NMC_ROOM_LEN];
+    memcpy(copy, before, sizeof copy);
+    memset(said, stale, sizeof said);
+    struct singles s = take_singly(b, copy, said);
+    need_alone(s.written == written, "a buffer's replies are not as long as its bytes'", LIBRARY);
+    need_alone(memcmp(said, room, MOST_ROOM) == 0, "a buffer's replies are not its bytes'", LIBRARY);
+    need_alone(memcmp(copy, record, sizeof copy) == 0, "a buffer leaves another record than its bytes", LIBRARY);
+    count_buffer(b, &s, before);
+}
+
+static bool all_are(const uint8_t *bytes, size_t len, uint8_t byte)
+{
+    return len == 0 || (bytes[0] == byte && memcmp(bytes, bytes + 1, len - 1) == 0);
+}
+
+static uint32_t buffer_at_all(const struct buffer *b)
+{
+    static uint8_t rooms[IMPLEMENTATIONS][MOST_ROOM], before[NMC_NET_LEN];
+    uint32_t numbers[IMPLEMENTATIONS];
+    size_t written[IMPLEMENTATIONS];
+    uint8_t stale = (uint8_t)throw_dice();
+    calls++;
+    memcpy(before, record, sizeof before);
+    for (unsigned i = 0; i < IMPLEMENTATIONS; i++) {
+        memset(rooms[i], stale, sizeof rooms[i]);
+        written[i] = 99;
+        numbers[i] = implementations[i].bytes(b->bytes, b->bytes_len, b->marks, b->marks_len, rooms[i], b->room_len,
+                                              &written[i]);
+    }
+    for (unsigned i = 1; i < IMPLEMENTATIONS; i++) {
+        need(numbers[i] == numbers[LIBRARY], "buffer's number", i);
+        need(written[i] == written[LIBRARY], "length of a buffer's replies", i);
+        need(memcmp(rooms[i], rooms[LIBRARY], sizeof rooms[i]) == 0, "a buffer's replies", i);
+    }
+    need(receives(&plain->receiver), "receiver", PLAIN_C);
+    need(receives(&checked->receiver), "receiver", CHECKED_C);
+    causes_of_all();
+    memories_of_all();
+    buffers_with[numbers[LIBRARY]]++;
+    if (numbers[LIBRARY] == NMC_DONE) {
+        is_single_bytes(b, before, rooms[LIBRARY], written[LIBRARY], stale);
+        after_buffer = true;
+    } else {
+        need_alone(written[LIBRARY] == 0 && all_are(rooms[LIBRARY], MOST_ROOM, stale),
+                   "a refused buffer tells something", LIBRARY);
     }
     return numbers[LIBRARY];
 }
@@ -701,15 +896,66 @@ static size_t some_data(const struct plain_module *m, uint8_t code, uint8_t *dat
                                      : some_step_data(&m->as.stepper, code, data);
 }
 
-static void send(const uint8_t *frame, size_t len)
+/* What has come over the line since the board handed over the last of it. */
+enum { LINE_LEN = 512 };
+static struct {
+    uint8_t bytes[LINE_LEN], marks[LINE_LEN];
+    size_t len;
+} line;
+
+static void put_byte(uint8_t byte, uint8_t mark)
+{
+    line.bytes[line.len] = byte;
+    line.marks[line.len++] = mark;
+}
+
+/* A frame, now and then with a byte that is spoiled or marked. */
+static void put_frame(const uint8_t *frame, size_t len)
 {
     bool spoil = percent(3);
     size_t at = spoil ? below((uint32_t)len) : len;
     bool by_mark = percent(50);
-    for (size_t i = 0; i < len; i++) {
-        uint8_t byte = frame[i] ^ (i == at && !by_mark ? 0x10 : 0);
-        frames += byte_at_all(i == at && by_mark, byte, NMC_ROOM_LEN) != NMC_DONE;
+    for (size_t i = 0; i < len; i++)
+        put_byte(frame[i] ^ (i == at && !by_mark ? 0x10 : 0), i == at && by_mark);
+}
+
+static void hand_over_singly(void)
+{
+    for (size_t i = 0; i < line.len; i++)
+        frames += byte_at_all(line.marks[i], line.bytes[i], NMC_ROOM_LEN) != NMC_DONE;
+    line.len = 0;
+}
+
+/* So many bytes of the line in one buffer. */
+static void hand_over(size_t at, size_t len)
+{
+    size_t more_room = percent(10) ? below(MOST_ROOM - NMC_BUFFER_ROOM_LEN + 1) : 0;
+    const struct buffer b = {line.bytes + at, line.marks + at, len, len, NMC_BUFFER_ROOM_LEN + more_room};
+    need_alone(buffer_at_all(&b) == NMC_DONE, "a good buffer is refused", LIBRARY);
+}
+
+/* In as few buffers as can be, or cut anywhere, with empty ones among them. */
+static void hand_over_in_buffers(void)
+{
+    uint32_t most = percent(50) ? NMC_BUFFER_LEN : 1 + below(NMC_BUFFER_LEN);
+    bool cut = percent(50);
+    for (size_t at = 0; at < line.len;) {
+        size_t left = line.len - at, len = left < most ? left : most;
+        if (cut)
+            len = percent(10) ? 0 : 1 + below((uint32_t)len);
+        hand_over(at, len);
+        at += len;
     }
+    line.len = 0;
+}
+
+static void send(const uint8_t *frame, size_t len)
+{
+    put_frame(frame, len);
+    if (percent(12))
+        hand_over_in_buffers();
+    else
+        hand_over_singly();
 }
 
 static void send_command(uint8_t address, uint8_t code, const uint8_t *data, size_t len)
@@ -746,30 +992,245 @@ static void count_homing_frame(const struct plain_servo *before, const struct pl
     times_of_homing[NO_HOME_SHIFTED] += code == 0 && !before->home && after->home;
 }
 
-static void send_some_frame(void)
+struct command {
+    uint8_t address, code, data[15];
+    size_t len;
+};
+
+static struct command some_command(const struct plain_module *m)
 {
     static const uint8_t codes[] = {0, 0, 1, 2, 2, 3, 3, 4, 4, 4, 4, 5, 5, 6, 7, 7, 7, 8, 9, 9, 10, 11, 11, 12, 13, 14, 14};
-    const struct plain_module *m = &plain->modules[below(plain->chain)];
-    uint8_t code = percent(1) ? 15 : codes[below(sizeof codes)];
+    struct command c = {.code = percent(1) ? 15 : codes[below(sizeof codes)]};
     if (m->type == NMC_TYPE_STEPPER && percent(50))
-        code = next_step_code(&m->as.stepper);
-    uint8_t data[15];
-    size_t len = some_data(m, code, data);
+        c.code = next_step_code(&m->as.stepper);
+    c.len = some_data(m, c.code, c.data);
     uint32_t kind = below(20);
-    uint8_t address = kind < 12 ? m->station.individual : kind < 19 ? m->station.group : some_byte();
-    if (code == 1 && percent(80)) {
-        data[0] = (uint8_t)below(6);
-        data[1] = percent(50) ? 0x7F : 0xFF;
+    c.address = kind < 12 ? m->station.individual : kind < 19 ? m->station.group : some_byte();
+    if (c.code == 1 && percent(80)) {
+        c.data[0] = (uint8_t)below(6);
+        c.data[1] = percent(50) ? 0x7F : 0xFF;
     }
+    return c;
+}
+
+static void send_some_frame(void)
+{
+    const struct plain_module *m = &plain->modules[below(plain->chain)];
+    const struct command c = some_command(m);
     const struct plain_module before = *m;
-    send_command(address, code, data, len);
+    send_command(c.address, c.code, c.data, c.len);
     frames_with[m->station.cause]++;
     if (m->type == NMC_TYPE_SERVO && before.as.servo.cut)
         times_at_limit[m->as.servo.cut ? FRAME_LEAVES_CUT : FRAME_CLEARS_CUT]++;
     if (m->type == NMC_TYPE_SERVO)
-        count_homing_frame(&before.as.servo, m, code);
+        count_homing_frame(&before.as.servo, m, c.code);
     if (m->type == NMC_TYPE_STEPPER && m->station.cause == 0)
-        count_command(&before.as.stepper, &m->as.stepper, code, data[0]);
+        count_command(&before.as.stepper, &m->as.stepper, c.code, c.data[0]);
+}
+
+/* ---- buffers */
+
+static void put_command(uint8_t address, uint8_t code, const uint8_t *data, size_t len)
+{
+    uint8_t frame[NMC_FRAME_LEN];
+    put_frame(frame, write_at_all(address, code, data, len, frame, sizeof frame));
+}
+
+static void put_noise(uint32_t bytes)
+{
+    for (; bytes > 0; bytes--) {
+        uint8_t byte = some_byte();
+        put_byte(byte, percent(10));
+    }
+}
+
+/* A module becomes another address, and a frame for that comes right behind. */
+static void put_address(const struct plain_module *m)
+{
+    uint8_t address = some_byte();
+    const uint8_t addresses[2] = {address, percent(50) ? 0x7F : 0xFF};
+    put_command(m->station.individual, 1, addresses, 2);
+    put_command(percent(70) ? addresses[0] : m->station.individual, 14, none, 0);
+}
+
+/* Several frames, and noise between them, as a board may have them between two ticks. */
+static void send_several(void)
+{
+    for (uint32_t times = 2 + below(7); times > 0; times--) {
+        const struct plain_module *m = &plain->modules[below(plain->chain)];
+        if (percent(15))
+            put_noise(1 + below(6));
+        if (percent(10)) {
+            put_address(m);
+            continue;
+        }
+        const struct command c = some_command(m);
+        put_command(c.address, c.code, c.data, c.len);
+    }
+    if (percent(40))
+        line.marks[below((uint32_t)line.len)] = 1;
+    hand_over_in_buffers();
+}
+
+/* As many frames as can end in a buffer: one that came before but for its last byte, and fifteen without data. */
+static void send_most_frames(void)
+{
+    static const uint8_t codes[] = {0, 5, 5, 11, 11, 12, 14, 14, 14, 14, 14, 14};
+    const struct command first = some_command(&plain->modules[below(plain->chain)]);
+    put_command(first.address, first.code, first.data, first.len);
+    size_t before = line.len - 1;
+    for (unsigned i = 1; i < MOST_FRAMES; i++) {
+        const struct plain_station *s = &plain->modules[below(plain->chain)].station;
+        uint8_t code = codes[below(sizeof codes)];
+        put_command(percent(50) ? s->individual : s->group, code, none, 0);
+    }
+    put_noise(below(4));
+    hand_over(0, before);
+    hand_over(before, line.len - before);
+    line.len = 0;
+}
+
+/* Why a buffer is refused that the record is good for, as bits: all that is wrong with it. */
+enum { WRONG_LENGTHS = 1, WRONG_MARK = 2, WRONG_ROOM = 4 };
+
+static unsigned wrongs_of(const struct buffer *b)
+{
+    unsigned wrong = b->bytes_len != b->marks_len || b->bytes_len > NMC_BUFFER_LEN ? WRONG_LENGTHS : 0;
+    for (size_t i = 0; i < b->marks_len; i++)
+        wrong |= b->marks[i] > 1 ? WRONG_MARK : 0u;
+    return wrong | (b->room_len < NMC_BUFFER_ROOM_LEN ? WRONG_ROOM : 0u);
+}
+
+static void count_refused(const struct buffer *b, unsigned wrong, size_t frame_len)
+{
+    bool lengths = wrong & WRONG_LENGTHS, mark = wrong & WRONG_MARK, short_room = wrong & WRONG_ROOM;
+    bool behind = wrong == WRONG_MARK && b->marks_len > frame_len;
+    for (size_t i = 0; i < frame_len && behind; i++)
+        behind = b->marks[i] <= 1;
+    times_of_buffering[LENGTHS_DIFFER] += b->bytes_len != b->marks_len;
+    times_of_buffering[LISTS_TOO_LONG] += b->bytes_len == b->marks_len && lengths;
+    times_of_buffering[BAD_MARK] += wrong == WRONG_MARK;
+    times_of_buffering[BAD_MARK_BEHIND_FRAME] += behind;
+    times_of_buffering[SHORT_BUFFER_ROOM] += wrong == WRONG_ROOM;
+    times_of_buffering[NO_BYTES_IN_SHORT_ROOM] += wrong == WRONG_ROOM && b->bytes_len == 0;
+    times_of_buffering[LENGTHS_BEFORE_MARK] += lengths && mark;
+    times_of_buffering[LENGTHS_BEFORE_ROOM] += lengths && short_room;
+    times_of_buffering[MARK_BEFORE_ROOM] += !lengths && mark && short_room;
+}
+
+/* A length of a list: of a good one, at its edge, or beyond. */
+static size_t some_list_len(void)
+{
+    static const uint8_t edges[] = {1, NMC_BUFFER_LEN - 1, NMC_BUFFER_LEN, NMC_BUFFER_LEN + 1, NMC_BUFFER_LEN + 1, MOST_LIST};
+    return percent(70) ? edges[below(sizeof edges)] : below(MOST_LIST + 1);
+}
+
+static size_t some_room_len(void)
+{
+    static const size_t edges[] = {0, NMC_ROOM_LEN - 1, NMC_ROOM_LEN, NMC_BUFFER_ROOM_LEN - 1, NMC_BUFFER_ROOM_LEN};
+    return percent(70) ? edges[below(5)] : below(NMC_BUFFER_ROOM_LEN);
+}
+
+/* A buffer with a frame for an address in front, whose lists or room may be bad; how long the frame is. */
+static size_t some_buffer(struct buffer *b, uint8_t address)
+{
+    static const uint8_t marks[] = {2, 2, 3, 0x80, 0xFE, 0xFF};
+    const uint8_t addresses[2] = {some_byte(), 0xFF};
+    put_command(address, 1, addresses, 2);
+    size_t frame_len = line.len;
+    put_noise((uint32_t)(MOST_LIST - line.len));
+    line.len = 0;
+    size_t len = percent(15) ? 0 : percent(50) ? below(NMC_BUFFER_LEN + 1) : some_list_len();
+    *b = (struct buffer){line.bytes, line.marks, len, len, NMC_BUFFER_ROOM_LEN};
+    if (percent(25))
+        b->marks_len = percent(50) ? (len == MOST_LIST ? len - 1 : len + 1) : some_list_len();
+    if (percent(4)) /* as long in eight bits */
+        b->marks_len += 256;
+    if (percent(4))
+        b->bytes_len += 256;
+    if (percent(40)) {
+        uint8_t mark = marks[below(sizeof marks)];
+        line.marks[below(percent(50) ? MOST_LIST : 1 + (uint32_t)len)] = mark;
+    }
+    if (percent(40))
+        b->room_len = some_room_len();
+    return frame_len;
+}
+
+/* A buffer that is mostly refused, for what is tested first, and then changes nothing. */
+static void try_spoiled_buffer(void)
+{
+    static uint8_t before[IMPLEMENTATIONS][sizeof(struct plain_network) + NMC_NET_LEN];
+    struct buffer b;
+    size_t frame_len = some_buffer(&b, plain->modules[below(plain->chain)].station.individual);
+    unsigned wrong = wrongs_of(&b);
+    uint32_t expected = wrong & WRONG_LENGTHS ? NMC_BAD_LIST
+                        : wrong & WRONG_MARK  ? NMC_BAD_FIELD
+                        : wrong               ? NMC_SHORT_ROOM
+                                              : NMC_DONE;
+    for (unsigned i = 0; i < IMPLEMENTATIONS; i++)
+        memcpy(before[i], implementations[i].network, implementations[i].network_len);
+    need_alone(buffer_at_all(&b) == expected, "a buffer's number is not what is tested first", LIBRARY);
+    if (!wrong)
+        return;
+    count_refused(&b, wrong, frame_len);
+    for (unsigned i = 0; i < IMPLEMENTATIONS; i++)
+        need_alone(memcmp(before[i], implementations[i].network, implementations[i].network_len) == 0,
+                   "a refused buffer changed the network", i);
+}
+
+/* A buffer, good or not, on a record that is refused. */
+static void try_buffer_on_spoiled(void)
+{
+    static uint8_t before[sizeof(struct plain_network) + NMC_NET_LEN], room[MOST_ROOM];
+    static const unsigned which[] = {LIBRARY, CHECKED_C};
+    struct buffer b;
+    some_buffer(&b, (uint8_t)below(6));
+    times_of_buffering[wrongs_of(&b) ? RECORD_BEFORE_LENGTHS : RECORD_ALONE]++;
+    for (unsigned i = 0; i < 2; i++) {
+        const struct implementation *at = &implementations[which[i]];
+        size_t written = 99;
+        memcpy(before, at->network, at->network_len);
+        memset(room, 0x5A, sizeof room);
+        uint32_t number = at->bytes(b.bytes, b.bytes_len, b.marks, b.marks_len, room, b.room_len, &written);
+        need_alone(number == NMC_BAD_RECORD, "a buffer is not refused for the record", which[i]);
+        need_alone(written == 0 && all_are(room, sizeof room, 0x5A), "a refused buffer tells something", which[i]);
+        need_alone(memcmp(before, at->network, at->network_len) == 0, "a refused buffer changed the network", which[i]);
+    }
+}
+
+static void put_good_command(uint8_t address, uint8_t code, const uint8_t *data, size_t len)
+{
+    uint8_t frame[NMC_FRAME_LEN];
+    size_t written = write_at_all(address, code, data, len, frame, sizeof frame);
+    for (size_t i = 0; i < written; i++)
+        put_byte(frame[i], 0);
+}
+
+/*
+ * 32 modules that all reply to one address with all that they have: each buffer
+ * of such frames fills the room, and its last bytes begin the next frame.
+ */
+static void fill_rooms(void)
+{
+    const uint8_t addresses[2] = {(uint8_t)(1 + below(127)), 0xFF}, all_items = 0xFF;
+    uint8_t types[NMC_MOST_MODULES];
+    for (unsigned i = 0; i < NMC_MOST_MODULES; i++)
+        types[i] = percent(50) ? NMC_TYPE_SERVO : NMC_TYPE_IO;
+    for (unsigned i = 0; i < IMPLEMENTATIONS; i++)
+        need(implementations[i].setup(types, NMC_MOST_MODULES) == NMC_DONE, "setup's number", i);
+    line.len = 0;
+    for (unsigned i = 0; i < NMC_MOST_MODULES; i++)
+        put_good_command(0, 1, addresses, 2);
+    put_good_command(addresses[0], 2, &all_items, 1);
+    hand_over_in_buffers();
+    size_t cut = below(4);
+    for (unsigned i = 0; i <= FILLED * MOST_FRAMES; i++)
+        put_good_command(addresses[0], 14, none, 0);
+    hand_over(0, cut);
+    for (unsigned i = 0; i < FILLED; i++)
+        hand_over(cut + i * NMC_BUFFER_LEN, NMC_BUFFER_LEN);
+    line.len = 0;
 }
 
 /* ---- a history */
@@ -974,8 +1435,14 @@ static void take_step(void)
 {
     uint32_t kind = below(100), mark = below(4);
     uint8_t byte = some_byte();
-    if (kind < 42)
+    if (kind < 38)
         send_some_frame();
+    else if (kind < 39)
+        send_several();
+    else if (kind < 40)
+        send_most_frames();
+    else if (kind < 42)
+        try_spoiled_buffer();
     else if (kind < 50)
         find_home();
     else if (kind < 65)
@@ -1151,7 +1618,9 @@ static void try_spoiled(void)
     uint32_t tick = implementations[LIBRARY].tick(samples, 0);
     need(implementations[CHECKED_C].tick(samples, 0) == tick, "refusal of no list with a spoiled record", CHECKED_C);
     refused += number == NMC_BAD_RECORD;
-    if (number != NMC_BAD_RECORD) {
+    if (number == NMC_BAD_RECORD) {
+        try_buffer_on_spoiled();
+    } else {
         list_for_spoiled();
         tick_all();
         for (uint32_t place = 0; place < plain->chain; place++)
@@ -1164,6 +1633,7 @@ static void try_spoiled(void)
     memcpy(samples, old_samples, sizeof old_samples);
     *plain = old_plain;
     *checked = old_checked;
+    after_buffer = false;
 }
 
 static void run_history(void)
@@ -1222,6 +1692,8 @@ static bool all_came_up(void)
         seldom |= too_seldom(ways_of_stepping[way], times_of_stepping[way]);
     for (unsigned way = 0; way < WAYS_OF_HOMING; way++)
         seldom |= too_seldom(ways_of_homing[way], times_of_homing[way]);
+    for (unsigned way = 0; way < WAYS_OF_BUFFERING; way++)
+        seldom |= too_seldom(ways_of_buffering[way], times_of_buffering[way]);
     for (unsigned mode = 0; mode < MODES; mode++)
         for (unsigned stop = 0; stop < STOPS; stop++) {
             char what[64];
@@ -1250,15 +1722,24 @@ int main(void)
         dice = history;
         run_history();
     }
+    for (step = 0; history < HISTORIES + FILLINGS; history++) {
+        dice = history;
+        fill_rooms();
+    }
     if (!all_came_up())
         return 1;
     printf("%lu calls, %lu frames ended, by cause %lu %lu %lu %lu %lu %lu, %lu ticks of a moving servo, %lu cut; "
            "%lu homes found; %lu changes of a stepper's speed; "
            "%lu lists refused for their length, %lu for a type, %lu for a field; "
+           "%lu buffers, %lu with one frame's end, %lu with more, %lu of these with sixteen, %lu frames carried over, "
+           "%lu refused for their lengths, %lu for a mark, %lu for the room; "
            "%lu spoiled records, %lu refused: all the same\n",
            calls, frames, frames_with[0], frames_with[1], frames_with[2], frames_with[3], frames_with[4],
            frames_with[5], moving_ticks, times_at_limit[CUT], homes_found(),
            times_of_stepping[FASTER] + times_of_stepping[SLOWER] + times_of_stepping[SLOWER_TO_STOP],
-           ticks_with[NMC_BAD_LIST], ticks_with[NMC_BAD_PLACE], ticks_with[NMC_BAD_FIELD], spoiled, refused);
+           ticks_with[NMC_BAD_LIST], ticks_with[NMC_BAD_PLACE], ticks_with[NMC_BAD_FIELD], buffers_with[NMC_DONE],
+           times_of_buffering[ONE_END], times_of_buffering[SEVERAL_ENDS], times_of_buffering[SIXTEEN_ENDS],
+           times_of_buffering[CARRIED_OVER], buffers_with[NMC_BAD_LIST], buffers_with[NMC_BAD_FIELD],
+           buffers_with[NMC_SHORT_ROOM], spoiled, refused);
     return 0;
 }

@@ -11,6 +11,8 @@ struct implementation {
     const char *prefix; /* of its calls' symbols */
     uint32_t (*setup)(const uint8_t *types, size_t chain);
     uint32_t (*byte)(uint32_t mark, uint8_t byte, uint8_t *room, size_t room_len, size_t *written);
+    uint32_t (*bytes)(const uint8_t *bytes, size_t bytes_len, const uint8_t *marks, size_t marks_len,
+                      uint8_t *room, size_t room_len, size_t *written);
     uint32_t (*tick)(const uint8_t *samples, size_t samples_len);
     uint32_t (*outputs)(uint32_t place, uint8_t *outputs);
     uint32_t (*write_frame)(uint32_t address, uint32_t code, const uint8_t *data, size_t data_len,

@@ -1,8 +1,9 @@
 /*
  * A board with three I/O modules, and the host that starts it up as the I/O
  * module's manual tells and then puts it to work. Both ends of the line are in
- * this one program: the host's frames go byte by byte into the network, as a
- * UART would hand them over, and the replies come back the same way.
+ * this one program: the host's frames go byte by byte to the board's receive
+ * interrupt, as a UART would hand them over; the board's main loop hands the
+ * network all that has come, a buffer at a time, and sends out the replies.
  *
  * Every step is checked; the first surprise ends the program with status 1.
  */
@@ -54,28 +55,52 @@ static void print_bytes(const char *who, const uint8_t *bytes, size_t len, const
 
 /* ------------------------------------------------------------- the line */
 
-static uint8_t replies[NMC_ROOM_LEN];
+/* What has come since the last buffer. A board whose interrupt comes at any time has two of them and swaps. */
+static uint8_t buffer[NMC_BUFFER_LEN], marks[NMC_BUFFER_LEN];
+static size_t collected;
+
+/* What the board's receive interrupt does. */
+static void receive(uint8_t byte, int error)
+{
+    check(collected < NMC_BUFFER_LEN, "more bytes between two ticks than a buffer holds");
+    buffer[collected] = byte;
+    marks[collected] = error ? 1 : 0;
+    collected++;
+}
+
+static uint8_t replies[NMC_BUFFER_ROOM_LEN];
 static size_t replied;
 
-/* What the board's receive interrupt does. Gives the last byte's number. */
-static uint32_t line(const uint8_t *bytes, size_t len, size_t marked_at)
+/* What the board's main loop does once between ticks, also where nothing has come. */
+static void hand_over(void)
 {
-    uint32_t number = NMC_DONE;
-    replied = 0;
-    for (size_t i = 0; i < len; i++) {
-        uint8_t room[NMC_ROOM_LEN];
-        size_t written;
-        number = nmc_byte(net, sizeof net, i == marked_at, bytes[i], room, sizeof room, &written);
-        check(number <= NMC_DAMAGED, "a line byte was refused");
-        check(number != NMC_DONE || written == 0, "a byte that ends no frame drew a reply");
-        check(written <= sizeof replies - replied, "more replies than one frame draws");
-        memcpy(replies + replied, room, written);
-        replied += written;
-    }
-    return number;
+    check(nmc_bytes(net, sizeof net, buffer, collected, marks, collected, replies, sizeof replies,
+                    &replied) == NMC_DONE,
+          "a buffer was refused");
+    collected = 0;
 }
 
 enum { NO_MARK = NMC_FRAME_LEN };
+
+static void line(const uint8_t *bytes, size_t len, size_t marked_at)
+{
+    for (size_t i = 0; i < len; i++)
+        receive(bytes[i], i == marked_at);
+}
+
+static void expect_cause(uint32_t place, uint8_t number)
+{
+    uint8_t cause;
+    check(nmc_cause(net, sizeof net, place, &cause) == NMC_DONE, "the cause was refused");
+    check(cause == number, "another cause");
+}
+
+/* Every module has executed the last frame that touched it. */
+static void expect_no_fault(void)
+{
+    for (uint32_t place = 0; place < MODULES; place++)
+        expect_cause(place, NMC_CAUSE_EXECUTED);
+}
 
 /* ------------------------------------------------------------- the host */
 
@@ -83,13 +108,19 @@ static const uint8_t none[1];
 
 static uint8_t reading[NMC_READING_LEN];
 
-/* Takes the one reply apart; the status reader looks at its length and sum. */
+/* Takes a reply apart; the status reader looks at its length and sum. */
+static uint8_t read_one(uint8_t items, const uint8_t *reply, size_t len)
+{
+    check(nmc_read_status(NMC_TYPE_IO, items, reply, len, reading) == NMC_DONE,
+          "the status reader refused the reply");
+    return reading[0];
+}
+
+/* The only one that came. */
 static uint8_t read_reply(uint8_t items)
 {
     print_bytes("board", replies, replied, "");
-    check(nmc_read_status(NMC_TYPE_IO, items, replies, replied, reading) == NMC_DONE,
-          "the status reader refused the reply");
-    return reading[0];
+    return read_one(items, replies, replied);
 }
 
 static void expect(const char *name, int item, uint32_t number)
@@ -102,16 +133,25 @@ static void expect(const char *name, int item, uint32_t number)
 
 enum { NO_REPLY = -1 };
 
-/* Sends a frame. One module is to reply with these items and no fault, or nobody. */
+static size_t write_frame(uint8_t address, enum code code, const uint8_t *data, size_t data_len,
+                          uint8_t *frame)
+{
+    size_t len;
+    check(nmc_write_frame(address, code, data, data_len, frame, NMC_FRAME_LEN, &len) == NMC_DONE,
+          "the frame was not written");
+    return len;
+}
+
+/* Sends a frame, alone in its buffer. One module is to reply with these items and no fault, or nobody. */
 static void send(const char *words, uint8_t address, enum code code, const uint8_t *data,
                  size_t data_len, int items)
 {
     uint8_t frame[NMC_FRAME_LEN];
-    size_t len;
-    check(nmc_write_frame(address, code, data, data_len, frame, sizeof frame, &len) == NMC_DONE,
-          "the frame was not written");
+    size_t len = write_frame(address, code, data, data_len, frame);
     print_bytes("host", frame, len, words);
-    check(line(frame, len, NO_MARK) == NMC_FRAME, "the frame did not end undamaged");
+    line(frame, len, NO_MARK);
+    hand_over();
+    expect_no_fault();
     if (items == NO_REPLY) {
         printf("  (no reply)\n");
         check(replied == 0, "somebody replied");
@@ -177,19 +217,21 @@ static void start_up(void)
     const uint8_t types[MODULES] = {NMC_TYPE_IO, NMC_TYPE_IO, NMC_TYPE_IO};
     const uint8_t nulls[16] = {0};
     uint8_t frame[NMC_FRAME_LEN];
-    size_t len;
 
     printf("The board sets up three I/O modules.\n");
     check(nmc_setup(net, sizeof net, types, MODULES) == NMC_DONE, "setup was refused");
 
     printf("\nThe host was switched off in the middle of a frame. It begins with sixteen nulls.\n");
-    check(nmc_write_frame(5, SET_ADDRESS, nulls, 15, frame, sizeof frame, &len) == NMC_DONE,
-          "the frame was not written");
+    write_frame(5, SET_ADDRESS, nulls, 15, frame);
     print_bytes("host", frame, 3, "breaks off");
-    check(line(frame, 3, NO_MARK) == NMC_DONE, "a part of a frame ended");
+    line(frame, 3, NO_MARK);
+    hand_over();
+    check(replied == 0, "somebody replied to a part of a frame");
     print_bytes("host", nulls, sizeof nulls, "");
-    check(line(nulls, sizeof nulls, NO_MARK) == NMC_DAMAGED, "the nulls did not fill the frame up");
+    line(nulls, sizeof nulls, NO_MARK);
+    hand_over();
     check(replied == 0, "somebody replied to a frame for nobody");
+    expect_no_fault(); /* and that the nulls filled it up, the next frame will show */
 
     printf("\nIt addresses the modules one after another, all members of group FF.\n");
     SEND("Set Address 1", 0, SET_ADDRESS, 0, 1, 0xFF);
@@ -274,18 +316,56 @@ static void both_at_once(void)
     expect("captured counter", 7, 0x2000);
 }
 
+static void between_ticks(void)
+{
+    enum { REPLY = 4 }; /* bytes of a reply with this item */
+    const uint8_t item = ITEM_TYPE_AND_VERSION;
+    uint8_t frame[NMC_FRAME_LEN];
+
+    printf("\nThe host asks two modules between two ticks. One buffer has both frames, and both replies come.\n");
+    for (uint8_t address = 2; address <= 3; address++) {
+        size_t len = write_frame(address, READ_STATUS, &item, 1, frame);
+        print_bytes("host", frame, len, "Read Status");
+        line(frame, len, NO_MARK);
+    }
+    hand_over();
+    print_bytes("board", replies, replied, "");
+    check(replied == 2 * REPLY, "not two replies");
+    for (size_t at = 0; at < replied; at += REPLY) {
+        check(read_one(item, replies + at, REPLY) == 0, "the status byte tells of a fault");
+        expect("version and type", 5, 0x0102);
+    }
+    tick();
+
+    printf("\nA tick comes in the middle of a frame. The next buffer goes on where this one has ended.\n");
+    size_t len = write_frame(3, READ_STATUS, &item, 1, frame), cut = 3;
+    print_bytes("host", frame, cut, "Read Status, as far as it has come");
+    line(frame, cut, NO_MARK);
+    hand_over();
+    printf("  (no reply)\n");
+    check(replied == 0, "somebody replied to a part of a frame");
+    tick();
+    print_bytes("host", frame + cut, len - cut, "its end");
+    line(frame + cut, len - cut, NO_MARK);
+    hand_over();
+    check(read_reply(item) == 0, "the status byte tells of a fault");
+    expect("version and type", 5, 0x0102);
+    expect_no_fault();
+}
+
 static void trouble(void)
 {
     const uint8_t output[2] = {0xFF, 0x0F};
     uint8_t frame[NMC_FRAME_LEN];
-    size_t len;
 
     printf("\nA framing error spoils a frame for module 2: it says so and does nothing.\n");
-    check(nmc_write_frame(2, SET_OUTPUT, output, sizeof output, frame, sizeof frame, &len) == NMC_DONE,
-          "the frame was not written");
+    size_t len = write_frame(2, SET_OUTPUT, output, sizeof output, frame);
     print_bytes("host", frame, len, "Set Output 0xFFF, its third byte marked");
-    check(line(frame, len, 2) == NMC_DAMAGED, "the frame did not end damaged");
+    line(frame, len, 2);
+    hand_over();
     check(read_reply(0) == 0x02, "the status byte does not tell of the fault");
+    expect_cause(1, NMC_CAUSE_DAMAGED);
+    printf("          cause %d, damaged\n", NMC_CAUSE_DAMAGED);
     expect_driven(1, 0xFFF, 0xF0F, 3, 4);
     send("No Op", 2, NO_OP, none, 0, 0);
 
@@ -302,6 +382,7 @@ int main(void)
     start_up();
     directions_and_outputs();
     both_at_once();
+    between_ticks();
     trouble();
     printf("\nNo surprise.\n");
     return 0;

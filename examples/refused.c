@@ -16,7 +16,9 @@ enum { CHAIN = 4, LIST_LEN = CHAIN * NMC_SAMPLE_LEN };
 enum { COUNT_AT = 19, SLOTS_AT = 20, SLOT_LEN = (NMC_NET_LEN - SLOTS_AT) / NMC_MOST_MODULES };
 
 static uint8_t net[NMC_NET_LEN], net_before[NMC_NET_LEN];
-static uint8_t room[NMC_ROOM_LEN], room_before[NMC_ROOM_LEN];
+static uint8_t room[NMC_BUFFER_ROOM_LEN], room_before[NMC_BUFFER_ROOM_LEN];
+static uint8_t buffer[NMC_BUFFER_LEN + 1], buffer_before[sizeof buffer];
+static uint8_t marks[sizeof buffer], marks_before[sizeof marks];
 static uint8_t samples[LIST_LEN + NMC_SAMPLE_LEN], samples_before[sizeof samples];
 static uint8_t outputs[NMC_OUTPUTS_LEN], outputs_before[NMC_OUTPUTS_LEN];
 static uint8_t reading[NMC_READING_LEN], cause;
@@ -24,9 +26,14 @@ static uint8_t types[TOO_MANY];
 static size_t written;
 static int surprises;
 
+/* A frame that place 0 would execute and answer: Set Address 1, group FF. */
+enum { FRAME_LEN = 6 };
+static const uint8_t frame[FRAME_LEN] = {0xAA, 0x00, 0x21, 0x01, 0xFF, 0x21};
+
 /*
  * A sound network of I/O modules with a servo at place 1 and a step-motor
- * module at place 3, a sound list, and something in all else that is lent.
+ * module at place 3, a sound list, a buffer that begins with a frame, all of it
+ * without a mark, and something in all else that is lent.
  */
 static void prepare(void)
 {
@@ -40,6 +47,9 @@ static void prepare(void)
         nmc_put_io_sample(samples, place, 4095, 1, 2, 3, 4);
     nmc_put_servo_sample(samples, 1, 5, 2, 6, 3);
     nmc_put_stepper_sample(samples, 3, 1);
+    memset(buffer, 0x0F, sizeof buffer);
+    memcpy(buffer, frame, sizeof frame);
+    memset(marks, 0, sizeof marks);
     memset(room, 0xC3, sizeof room);
     memset(outputs, 0x3C, sizeof outputs);
 }
@@ -49,6 +59,8 @@ static void remember(void)
     memcpy(net_before, net, sizeof net);
     memcpy(room_before, room, sizeof room);
     memcpy(samples_before, samples, sizeof samples);
+    memcpy(buffer_before, buffer, sizeof buffer);
+    memcpy(marks_before, marks, sizeof marks);
     memcpy(outputs_before, outputs, sizeof outputs);
     memset(reading, 0x99, sizeof reading);
     cause = 77;
@@ -74,6 +86,8 @@ static void refused(const char *words, uint32_t number, uint32_t given)
         verdict = "  surprise: the room changed";
     else if (memcmp(samples, samples_before, sizeof samples) != 0)
         verdict = "  surprise: the list changed";
+    else if (memcmp(buffer, buffer_before, sizeof buffer) != 0 || memcmp(marks, marks_before, sizeof marks) != 0)
+        verdict = "  surprise: the buffer changed";
     else if (memcmp(outputs, outputs_before, sizeof outputs) != 0)
         verdict = "  surprise: the outputs changed";
     else if (cause != 77)
@@ -189,6 +203,38 @@ static void lists(void)
     tick_refused("stop input 2", NMC_BAD_FIELD);
 }
 
+/* A buffer of so many bytes and so many marks, as they have been changed. */
+static void buffer_refused(const char *words, uint32_t number, size_t bytes_len, size_t marks_len, size_t room_len)
+{
+    remember();
+    refused(words, number, nmc_bytes(net, sizeof net, buffer, bytes_len, marks, marks_len, room, room_len, &written));
+    cleared(written == 0);
+}
+
+static void buffers(void)
+{
+    prepare();
+    buffer_refused("buffer of 65 bytes", NMC_BAD_LIST, NMC_BUFFER_LEN + 1, NMC_BUFFER_LEN + 1, sizeof room);
+    prepare();
+    buffer_refused("buffer of six bytes with five marks", NMC_BAD_LIST, FRAME_LEN, FRAME_LEN - 1, sizeof room);
+    prepare();
+    buffer_refused("buffer of six bytes with seven marks", NMC_BAD_LIST, FRAME_LEN, FRAME_LEN + 1, sizeof room);
+    prepare();
+    marks[0] = 2;
+    buffer_refused("buffer whose first mark is 2", NMC_BAD_FIELD, FRAME_LEN, FRAME_LEN, sizeof room);
+    prepare();
+    marks[NMC_BUFFER_LEN - 1] = 2;
+    buffer_refused("buffer whose last mark is 2, behind a whole frame", NMC_BAD_FIELD, NMC_BUFFER_LEN, NMC_BUFFER_LEN,
+                   sizeof room);
+    prepare();
+    buffer_refused("room of 9,727 for a buffer", NMC_SHORT_ROOM, FRAME_LEN, FRAME_LEN, NMC_BUFFER_ROOM_LEN - 1);
+    prepare();
+    buffer_refused("room of 9,727 for a buffer of no bytes", NMC_SHORT_ROOM, 0, 0, NMC_BUFFER_ROOM_LEN - 1);
+    prepare();
+    net[COUNT_AT] = 33;
+    buffer_refused("buffer for a record with 33 modules", NMC_BAD_RECORD, FRAME_LEN, FRAME_LEN, sizeof room);
+}
+
 static void line_and_pins(void)
 {
     REFUSED("outputs of place 4 of four modules", NMC_BAD_PLACE,
@@ -247,6 +293,18 @@ static void two_reasons(void)
     cleared(written == 0);
     prepare();
     net[COUNT_AT] = 0;
+    marks[0] = 2;
+    buffer_refused("spoiled record and a buffer of 65 bytes, with mark 2 and no room", NMC_BAD_RECORD,
+                   NMC_BUFFER_LEN + 1, NMC_BUFFER_LEN + 1, 0);
+    prepare();
+    marks[0] = 2;
+    buffer_refused("buffer of 65 bytes, with mark 2 and no room", NMC_BAD_LIST, NMC_BUFFER_LEN + 1,
+                   NMC_BUFFER_LEN + 1, 0);
+    prepare();
+    marks[0] = 2;
+    buffer_refused("buffer with mark 2 and no room", NMC_BAD_FIELD, FRAME_LEN, FRAME_LEN, 0);
+    prepare();
+    net[COUNT_AT] = 0;
     remember();
     refused("spoiled record and an empty list", NMC_BAD_RECORD, nmc_tick(net, sizeof net, samples, 0));
     prepare();
@@ -269,6 +327,7 @@ int main(void)
     setup();
     lists();
     line_and_pins();
+    buffers();
     host();
     two_reasons();
     return surprises != 0;

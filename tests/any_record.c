@@ -20,7 +20,8 @@
 enum { SLOT = 128, FIRST_SLOT = 20, COUNT = 19, HOMING = 106, NUMBERS = 21 };
 
 static int fenced;
-static unsigned long calls, surprises, given[NUMBERS], homes_found;
+static unsigned long calls, surprises, given[NUMBERS], homes_found, buffers_replied;
+static uint32_t of_buffers; /* the numbers that buffers gave, as bits */
 
 /* ---------------------------------------------------------------- dice */
 
@@ -166,6 +167,67 @@ static void call_byte(struct lent *net, uint8_t byte)
     give_back(&room);
 }
 
+/* Frames for an address, with no data or a little, and some noise; marks, now and then one. */
+static void put_line(struct lent *bytes, struct lent *marks, uint32_t address)
+{
+    for (size_t at = 0; at < bytes->len;) {
+        uint8_t frame[NMC_FRAME_LEN], data[2];
+        size_t len = 1;
+        any_bytes(data, sizeof data);
+        frame[0] = (uint8_t)throw_dice();
+        uint32_t code = PICK(2, 3, 5, 9, 11, 14, 14, 14, below(16)), data_len = below(3);
+        if (below(6))
+            nmc_write_frame(address, code, data, data_len, frame, sizeof frame, &len);
+        for (size_t i = 0; i < len && at < bytes->len; i++)
+            bytes->bytes[at++] = frame[i];
+    }
+    for (size_t i = 0; i < marks->len; i++)
+        marks->bytes[i] = below(40) == 0;
+    if (marks->len > 0 && below(8) == 0)
+        marks->bytes[below((uint32_t)marks->len)] = (uint8_t)PICK(2, 3, 0x80, 0xFF);
+}
+
+/* The numbers that a buffer may give. */
+static const uint32_t buffer_numbers = BIT(NMC_DONE) | BIT(NMC_BAD_FIELD) | BIT(NMC_SHORT_ROOM) |
+                                       BIT(NMC_BAD_RECORD) | BIT(NMC_BAD_LIST);
+
+static size_t hand_over(struct lent *net, struct lent *bytes, struct lent *marks, struct lent *room)
+{
+    size_t written = 77;
+    remember(net);
+    remember(bytes);
+    remember(marks);
+    remember(room);
+    uint32_t number = nmc_bytes(net->bytes, net->len, bytes->bytes, bytes->len, marks->bytes,
+                                marks->len, room->bytes, room->len, &written);
+    documented("bytes", number, buffer_numbers);
+    record_after("bytes", net, number);
+    room_after("bytes", room, number, written);
+    if (!unchanged_from(bytes, 0) || !unchanged_from(marks, 0))
+        surprise("bytes", "the buffer changed", number);
+    of_buffers |= number < NUMBERS ? BIT(number) : 0;
+    return written;
+}
+
+/* A buffer of any lengths, with frames that the first module may hear. */
+static void call_bytes(struct lent *net)
+{
+    enum { LONGEST = NMC_BUFFER_LEN + 6 };
+    size_t station = FIRST_SLOT + 1 + below(2);
+    uint32_t address = net->len > station ? net->bytes[station] : below(256);
+    uint32_t len = PICK(0, 1, NMC_BUFFER_LEN, NMC_BUFFER_LEN, NMC_BUFFER_LEN + 1, below(LONGEST + 1));
+    uint32_t other = PICK(0, len + 1, len > 0 ? len - 1 : 0, below(LONGEST + 1));
+    uint32_t around = PICK(NMC_BUFFER_ROOM_LEN - 1, NMC_BUFFER_ROOM_LEN + 1, NMC_ROOM_LEN, 1, 0);
+    struct lent bytes = lend(len);
+    struct lent marks = lend(below(6) ? len : other);
+    struct lent room = lend(below(6) ? NMC_BUFFER_ROOM_LEN : around);
+    put_line(&bytes, &marks, address);
+    buffers_replied += hand_over(net, &bytes, &marks, &room) > 0;
+    give_back(&bytes);
+    give_back(&marks);
+    give_back(&room);
+}
+
 /* A sample for a module of this type, all of it in range. */
 static void put_sample(uint8_t *samples, size_t place, uint8_t type)
 {
@@ -308,6 +370,8 @@ static void every_call(struct lent *net)
     call_tick(net);
     call_tick(net);
     call_frame(net);
+    call_bytes(net);
+    call_bytes(net);
     call_tick(net);
     call_outputs(net);
     call_cause(net);
@@ -494,6 +558,35 @@ static void reach_record(struct lent *net)
     }
 }
 
+/* 32 modules that all reply to one address with all items: sixteen frames fill a buffer's room. */
+static void fill_room(struct lent *net)
+{
+    enum { ADDRESS = 7, FRAME = 4 };
+    uint8_t types[NMC_MOST_MODULES], frame[NMC_FRAME_LEN];
+    struct lent bytes = lend(NMC_BUFFER_LEN), marks = lend(NMC_BUFFER_LEN);
+    struct lent room = lend(NMC_BUFFER_ROOM_LEN);
+    size_t len;
+    for (size_t i = 0; i < NMC_MOST_MODULES; i++)
+        types[i] = (uint8_t)PICK(NMC_TYPE_SERVO, NMC_TYPE_IO);
+    if (nmc_setup(net->bytes, net->len, types, NMC_MOST_MODULES) != NMC_DONE)
+        surprise("setup", "of a good chain", NMC_DONE);
+    for (size_t i = 0; i < NMC_MOST_MODULES; i++) {
+        uint8_t *slot = net->bytes + FIRST_SLOT + SLOT * i;
+        slot[1] = ADDRESS;
+        slot[4] = 1; /* the next one hears */
+        slot[6] = 0xFF;
+    }
+    nmc_write_frame(ADDRESS, 14, frame, 0, frame, sizeof frame, &len);
+    for (size_t at = 0; at < bytes.len; at += FRAME)
+        memcpy(bytes.bytes + at, frame, FRAME);
+    memset(marks.bytes, 0, marks.len);
+    if (hand_over(net, &bytes, &marks, &room) != NMC_BUFFER_ROOM_LEN)
+        surprise("bytes", "the room is not filled", NMC_DONE);
+    give_back(&bytes);
+    give_back(&marks);
+    give_back(&room);
+}
+
 static void change_some(struct lent *net)
 {
     for (uint32_t times = 1 + below(3); times > 0; times--) {
@@ -519,6 +612,7 @@ static void one_round(void)
     every_call(&net);
     change_some(&net);
     every_call(&net);
+    fill_room(&net);
     give_back(&net);
     call_writer();
     call_reader();
@@ -533,13 +627,16 @@ int main(int argc, char **argv)
     fenced = argv[1][0] == 'f';
     for (long rounds = strtol(argv[2], NULL, 10); rounds > 0; rounds--)
         one_round();
-    printf("%lu calls, %lu surprises, %lu homes found; by number:", calls, surprises, homes_found);
+    printf("%lu calls, %lu surprises, %lu homes found, %lu buffers with replies; by number:", calls,
+           surprises, homes_found, buffers_replied);
     for (uint32_t number = 0; number < NUMBERS; number++)
         if (number <= NMC_DAMAGED || refused(number)) {
             printf(" %lu: %lu", (unsigned long)number, given[number]);
             surprises += given[number] == 0; /* a number that never came was not tried */
         }
     surprises += homes_found == 0; /* nor was homing that found nothing */
+    surprises += buffers_replied == 0;
+    surprises += of_buffers != buffer_numbers;
     printf("\n");
     return surprises != 0;
 }

@@ -19,6 +19,7 @@
 enum call {
     SETUP,
     BYTE,
+    BYTES,
     TICK,
     OUTPUTS,
     CAUSE,
@@ -28,8 +29,8 @@ enum call {
 };
 
 static const char *const names[CALLS] = {
-    "nmc_setup", "nmc_byte",        "nmc_tick",        "nmc_outputs",
-    "nmc_cause", "nmc_write_frame", "nmc_read_status",
+    "nmc_setup",   "nmc_byte",  "nmc_bytes",       "nmc_tick",
+    "nmc_outputs", "nmc_cause", "nmc_write_frame", "nmc_read_status",
 };
 
 /* The numbers that a call may give, as bits. */
@@ -38,6 +39,8 @@ static const uint32_t documented[CALLS] = {
     [SETUP] = BIT(NMC_DONE) | BIT(NMC_BAD_CHAIN) | BIT(NMC_BAD_TYPE) | BIT(NMC_BAD_RECORD),
     [BYTE] = BIT(NMC_DONE) | BIT(NMC_FRAME) | BIT(NMC_DAMAGED) | BIT(NMC_BAD_FIELD) |
              BIT(NMC_SHORT_ROOM) | BIT(NMC_BAD_RECORD),
+    [BYTES] = BIT(NMC_DONE) | BIT(NMC_BAD_FIELD) | BIT(NMC_SHORT_ROOM) | BIT(NMC_BAD_RECORD) |
+              BIT(NMC_BAD_LIST),
     [TICK] = BIT(NMC_DONE) | BIT(NMC_BAD_PLACE) | BIT(NMC_BAD_FIELD) | BIT(NMC_BAD_RECORD) |
              BIT(NMC_BAD_LIST),
     [OUTPUTS] = BIT(NMC_DONE) | BIT(NMC_BAD_PLACE) | BIT(NMC_BAD_RECORD),
@@ -53,11 +56,14 @@ static const uint8_t *callers_end[CALLS];
 static uint32_t given[CALLS]; /* the numbers that came, as bits */
 
 /* What the next call is lent and told. */
-static uint8_t net[NMC_NET_LEN + 1], room[NMC_ROOM_LEN], types[NMC_MOST_MODULES + 1], data[16];
+static uint8_t net[NMC_NET_LEN + 1], room[NMC_ROOM_LEN], buffer_room[NMC_BUFFER_ROOM_LEN];
+static uint8_t buffer[NMC_BUFFER_LEN + 1], marks[NMC_BUFFER_LEN + 1];
+static uint8_t types[NMC_MOST_MODULES + 1], data[16];
 static uint8_t samples[(NMC_MOST_MODULES + 1) * NMC_SAMPLE_LEN];
 static uint8_t outputs[NMC_OUTPUTS_LEN], frame[NMC_FRAME_LEN], reply[NMC_REPLY_LEN + 1];
 static uint8_t reading[NMC_READING_LEN], cause, line_byte, items;
-static size_t net_len, room_len, samples_len, chain, data_len, frame_room, reply_len, written;
+static size_t net_len, room_len, buffer_len, marks_len, buffer_room_len, samples_len, chain;
+static size_t data_len, frame_room, reply_len, written;
 static uint32_t mark, place, address, code, type, number;
 
 static enum call wanted;
@@ -77,6 +83,10 @@ static void inside(void)
         break;
     case BYTE:
         number = nmc_byte(net, net_len, mark, line_byte, room, room_len, &written);
+        break;
+    case BYTES:
+        number = nmc_bytes(net, net_len, buffer, buffer_len, marks, marks_len, buffer_room,
+                           buffer_room_len, &written);
         break;
     case TICK:
         number = nmc_tick(net, net_len, samples, samples_len);
@@ -132,10 +142,43 @@ static void any_bytes(uint8_t *bytes, size_t len)
 
 /* ---------------------------------------------------------------- calls as a board makes them */
 
+static void surprise(const char *what)
+{
+    fprintf(stderr, "%s\n", what);
+    exit(1);
+}
+
+/*
+ * All line bytes come twice: singly, and then in a buffer with all others since the last one, on
+ * the network as it was before them.
+ */
+static uint8_t net_before[sizeof net];
+
+static void hand_over(void)
+{
+    static uint8_t net_after[sizeof net];
+    memcpy(net_after, net, sizeof net);
+    if (buffer_len > 0)
+        memcpy(net, net_before, sizeof net);
+    marks_len = buffer_len;
+    if (run(BYTES) == NMC_DONE && memcmp(net, net_after, sizeof net) != 0)
+        surprise("a buffer leaves another network than its bytes");
+    memcpy(net, net_after, sizeof net);
+    buffer_len = 0;
+}
+
+static uint32_t run_tick(void)
+{
+    hand_over();
+    return run(TICK);
+}
+
 static uint32_t set_up(void)
 {
+    hand_over();
     net_len = NMC_NET_LEN;
     room_len = NMC_ROOM_LEN;
+    buffer_room_len = NMC_BUFFER_ROOM_LEN;
     samples_len = chain * NMC_SAMPLE_LEN;
     memset(samples, 0, sizeof samples);
     for (size_t i = 0; i < chain && i < NMC_MOST_MODULES; i++)
@@ -143,8 +186,14 @@ static uint32_t set_up(void)
     return run(SETUP);
 }
 
-static uint32_t take_byte(uint32_t with_mark, uint8_t byte)
+static uint32_t take_byte(uint8_t with_mark, uint8_t byte)
 {
+    if (buffer_len == NMC_BUFFER_LEN)
+        hand_over();
+    if (buffer_len == 0)
+        memcpy(net_before, net, sizeof net);
+    buffer[buffer_len] = byte;
+    marks[buffer_len++] = with_mark;
     mark = with_mark;
     line_byte = byte;
     return run(BYTE);
@@ -215,7 +264,7 @@ static void take_record(int kind, const uint8_t *b)
             nmc_put_stepper_sample(samples, b[0], b[1]);
         break;
     default:
-        run(TICK);
+        run_tick();
         outputs_and_causes();
     }
 }
@@ -276,7 +325,7 @@ static void tick_at(uint32_t power)
         else
             nmc_put_stepper_sample(samples, i, power == 0);
     }
-    run(TICK);
+    run_tick();
 }
 
 static void ticks(int how_many)
@@ -331,13 +380,28 @@ static void every_frame(void)
     memcpy(net, before, sizeof before);
 }
 
+/* As many frames as can end in a buffer, and all modules reply to each. */
+static void most_frames(size_t draws)
+{
+    for (uint8_t i = 0; i < chain; i++)
+        SEND(i + 1u, 1, (uint8_t)(i + 1), GROUP & 0x7F); /* a leader */
+    hand_over();
+    for (size_t frames = 0; frames < NMC_BUFFER_LEN / 4; frames++)
+        send(GROUP, 14, 0, NO_MARK);
+    hand_over();
+    if (number != NMC_DONE || written != NMC_BUFFER_LEN / 4 * draws)
+        surprise("sixteen frames in a buffer draw other replies");
+}
+
 static void long_chains(void)
 {
     address_all(NMC_TYPE_IO, NMC_TYPE_IO);
     every_frame();
+    most_frames(NMC_ROOM_LEN);
     address_all(NMC_TYPE_SERVO, NMC_TYPE_IO);
     start_all();
     every_frame();
+    most_frames(NMC_ROOM_LEN);
     address_all(NMC_TYPE_STEPPER, NMC_TYPE_IO);
     start_steppers();
     ticks(20);
@@ -347,12 +411,14 @@ static void long_chains(void)
     ticks(20);
     SEND(GROUP, 7, 0x09);
     ticks(50);
+    most_frames(NMC_MOST_MODULES * 8);
     tick_at(0); /* the stop inputs too */
     address_all(NMC_TYPE_SERVO, NMC_TYPE_SERVO);
     every_frame();
     start_all();
     ticks(20);
     every_frame();
+    most_frames(NMC_ROOM_LEN);
     ticks(2000);
     for (uint32_t power = 0; power < 3; power++) /* it fails, comes back, is too high */
         tick_at(power);
@@ -375,6 +441,29 @@ static void refused_lists(void)
     }
 }
 
+/* Lists of all lengths, then a buffer with a bad mark at one place after another, and short rooms. */
+static void refused_buffers(void)
+{
+    memset(buffer, 0, sizeof buffer);
+    memset(marks, 0, sizeof marks);
+    for (buffer_len = 0; buffer_len <= sizeof buffer; buffer_len++)
+        for (marks_len = 0; marks_len <= sizeof marks; marks_len++)
+            run(BYTES);
+    buffer_len = marks_len = NMC_BUFFER_LEN;
+    for (size_t at = 0; at < NMC_BUFFER_LEN; at++) {
+        marks[at] = 2;
+        run(BYTES);
+        marks[at] = 0;
+    }
+    static const size_t rooms[] = {0, NMC_ROOM_LEN, NMC_BUFFER_ROOM_LEN - 1};
+    for (size_t i = 0; i < sizeof rooms / sizeof rooms[0]; i++) {
+        buffer_room_len = rooms[i];
+        run(BYTES);
+    }
+    buffer_room_len = NMC_BUFFER_ROOM_LEN;
+    buffer_len = 0;
+}
+
 static void refused_calls(void)
 {
     address_all(NMC_TYPE_SERVO, NMC_TYPE_IO);
@@ -382,6 +471,8 @@ static void refused_calls(void)
     room_len--;
     take_byte(0, 0);
     room_len++;
+    hand_over();
+    refused_buffers();
     for (place = 0; place < 34; place++) {
         run(OUTPUTS);
         run(CAUSE);

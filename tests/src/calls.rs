@@ -9,6 +9,13 @@ pub const REPLY_LEN: usize = 19;
 pub const NET_LEN: usize = SLOTS + MOST_MODULES * SLOT_LEN;
 pub const ROOM_LEN: usize = MOST_MODULES * REPLY_LEN;
 pub const SAMPLE_LEN: usize = 10;
+/// Header, address, command and checksum.
+pub const SHORTEST_FRAME: usize = 4;
+/// The most line bytes of one buffer.
+pub const BUFFER_LEN: usize = 64;
+/// Frames that can end in it: one left over from before may end with its first byte, then come the shortest.
+pub const BUFFER_FRAMES: usize = 1 + (BUFFER_LEN - 1) / SHORTEST_FRAME;
+pub const BUFFER_ROOM_LEN: usize = BUFFER_FRAMES * ROOM_LEN;
 
 pub const DONE: u32 = 0;
 pub const UNDAMAGED: u32 = 1;
@@ -52,6 +59,8 @@ pub fn no_sample(module_type: u8) -> Sample {
 pub trait Calls {
     fn setup(&self, net: &mut [u8], types: &[u8]) -> u32;
     fn byte(&self, net: &mut [u8], mark: u32, byte: u8, room: &mut [u8], written: &mut usize) -> u32;
+    /// A whole buffer, each byte with its mark.
+    fn bytes(&self, net: &mut [u8], bytes: &[u8], marks: &[u8], room: &mut [u8], written: &mut usize) -> u32;
     fn tick(&self, net: &mut [u8], samples: &[u8]) -> u32;
     fn outputs(&self, net: &[u8], place: u32, outputs: &mut [u8; 8]) -> u32;
     fn cause(&self, net: &[u8], place: u32, cause: &mut u8) -> u32;

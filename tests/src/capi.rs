@@ -14,6 +14,17 @@ extern "C" {
         room_len: usize,
         written: *mut usize,
     ) -> u32;
+    fn nmc_bytes(
+        net: *mut u8,
+        net_len: usize,
+        bytes: *const u8,
+        bytes_len: usize,
+        marks: *const u8,
+        marks_len: usize,
+        room: *mut u8,
+        room_len: usize,
+        written: *mut usize,
+    ) -> u32;
     fn nmc_tick(net: *mut u8, net_len: usize, samples: *const u8, samples_len: usize) -> u32;
     fn nmc_outputs(net: *const u8, net_len: usize, place: u32, outputs: *mut u8) -> u32;
     fn nmc_cause(net: *const u8, net_len: usize, place: u32, cause: *mut u8) -> u32;
@@ -39,6 +50,14 @@ impl Calls for Library {
 
     fn byte(&self, net: &mut [u8], mark: u32, byte: u8, room: &mut [u8], written: &mut usize) -> u32 {
         unsafe { nmc_byte(net.as_mut_ptr(), net.len(), mark, byte, room.as_mut_ptr(), room.len(), written) }
+    }
+
+    fn bytes(&self, net: &mut [u8], bytes: &[u8], marks: &[u8], room: &mut [u8], written: &mut usize) -> u32 {
+        let (net, net_len) = (net.as_mut_ptr(), net.len());
+        let (room, room_len) = (room.as_mut_ptr(), room.len());
+        unsafe {
+            nmc_bytes(net, net_len, bytes.as_ptr(), bytes.len(), marks.as_ptr(), marks.len(), room, room_len, written)
+        }
     }
 
     fn tick(&self, net: &mut [u8], samples: &[u8]) -> u32 {

@@ -1,6 +1,6 @@
 //! Histories that the library and the model go through side by side. After every call all that was lent is compared,
-//! byte for byte: the number, the record, the room with what lies behind the replies, the length, and the list of samples,
-//! which stays as it was; then whether the record still passes the list, and what the board is to drive.
+//! byte for byte: the number, the record, the room with what lies behind the replies, the length, and the lists, which stay
+//! as they were; then whether the record still passes the list, and what the board is to drive.
 
 use std::collections::VecDeque;
 use std::fmt;
@@ -9,17 +9,17 @@ use crate::branches::{self, uncounted};
 use crate::calls::*;
 use crate::dice::Dice;
 use crate::model::{frame_bytes, item_sizes, items_of, sum, Device, Mode, Module, Network, Servo, Station, Stepper};
-use crate::record::{self, decode, latched, slot, Model, COUNT};
+use crate::record::{self, decode, latched, slot, Model, COUNT, FILL};
 use crate::seen::Seen;
 use crate::slips::Slip;
-use crate::steering::{
-    self, any_record, damaged_record, data_byte, fill_rests, frame, group, individual, spoiled_list,
-};
+use crate::steering::buffer::{any_buffer, frame_on_line, full_buffer, short_traffic, spoiled_buffer, Line};
+use crate::steering::{self, any_record, damaged_record, data_byte, fill_rests, group, individual, spoiled_list};
 
 enum Event {
     Setup(Vec<u8>),
     Record,
     Byte(u32, u8, usize),
+    Buffer(Line, usize),
     Tick(Vec<u8>),
 }
 
@@ -29,6 +29,12 @@ impl fmt::Display for Event {
             Event::Setup(types) => write!(to, "setup {types:?}"),
             Event::Record => write!(to, "another record"),
             Event::Byte(mark, byte, room_len) => write!(to, "byte {byte:02X}, mark {mark}, room {room_len}"),
+            Event::Buffer(line, room_len) => {
+                let (len, marks_len) = (line.bytes.len(), line.marks.len());
+                write!(to, "{len} bytes, {marks_len} marks, room {room_len}:")?;
+                let shown = len.min(BUFFER_LEN + 1);
+                write!(to, " {:02X?} {:?}", &line.bytes[..shown], &line.marks[..marks_len.min(shown)])
+            }
             Event::Tick(list) => {
                 write!(to, "tick, {} bytes:", list.len())?;
                 // no chain asks for more
@@ -150,6 +156,36 @@ impl Pair<'_> {
         if let (true, Some(before), Some(after)) = (ended, decode(&before, self.model.slip), after) {
             self.seen.frame(&before, &after, written);
         }
+        if number <= DAMAGED {
+            self.seen.buffers.byte(before[FILL], self.net[FILL]);
+        }
+        Ok(number)
+    }
+
+    fn buffer(&mut self, line: &Line, room_len: usize) -> Result<u32, String> {
+        self.remember(Event::Buffer(line.clone(), room_len));
+        let before = self.net.clone();
+        let mut by_model = before.clone();
+        let Line { bytes, marks } = line.clone();
+        let mut room = self.room(room_len);
+        let mut model_room = room.clone();
+        let (mut written, mut model_written) = (self.turn, 0);
+        let library = self.library.bytes(&mut self.net, &bytes, &marks, &mut room, &mut written);
+        let model = self.model.bytes(&mut by_model, &line.bytes, &line.marks, &mut model_room, &mut model_written);
+        let number = self.same_number(library, model)?;
+        if written != model_written {
+            return self.disagree(&format!("written: library {written}, model {model_written}"));
+        }
+        self.same_bytes("room", &room, &model_room)?;
+        self.same_bytes("record", &self.net, &by_model)?;
+        self.same_bytes("bytes", &bytes, &line.bytes)?;
+        self.same_bytes("marks", &marks, &line.marks)?;
+        let network = if number == DONE { decode(&before, self.model.slip) } else { None };
+        let ended = network.map_or(0, |network| self.seen.buffer(&network, &bytes, &marks, written));
+        if ended == 0 && self.net.get(COUNT..) != before.get(COUNT..) {
+            return self.disagree("a buffer that ended no frame reached beyond the receiver");
+        }
+        self.after(number != BAD_RECORD, ended > 0)?;
         Ok(number)
     }
 
@@ -237,17 +273,23 @@ struct Session<'a> {
 }
 
 impl Session<'_> {
-    fn room_len(&mut self) -> usize {
+    fn room_len(&mut self, least: usize) -> usize {
         if self.dice.percent(50) {
-            ROOM_LEN
+            least
         } else {
-            ROOM_LEN + self.dice.below(40)
+            least + self.dice.below(40)
         }
     }
 
     fn line(&mut self, mark: u32, byte: u8) -> Result<(), String> {
-        let room_len = self.room_len();
+        let room_len = self.room_len(ROOM_LEN);
         self.pair.byte(mark, byte, room_len)?;
+        Ok(())
+    }
+
+    fn buffer(&mut self, line: &Line) -> Result<(), String> {
+        let room_len = self.room_len(BUFFER_ROOM_LEN);
+        self.pair.buffer(line, room_len)?;
         Ok(())
     }
 
@@ -322,7 +364,7 @@ impl Session<'_> {
             return Ok(None);
         }
         if network.receiver.fill != 0 {
-            self.send(&[0; 16], None)?;
+            self.send(&[0; 16])?;
         }
         Ok(Some(self.dice.pick(&places)))
     }
@@ -346,7 +388,7 @@ impl Session<'_> {
             let stepper = self.stepper(place);
             let (code, data) = steering::stepper::command(&mut self.dice, &stepper);
             let address = self.alone_or_group(&stepper.station, code);
-            self.send(&frame_bytes(address, code, &data), None)?;
+            self.send(&frame_bytes(address, code, &data))?;
             let ticks = self.dice.pick(&[0, 1, 1, 1, 2, 3, 8]);
             for _ in 0..ticks {
                 self.measure(place);
@@ -366,10 +408,10 @@ impl Session<'_> {
             self.make_fit(place, step == 0)?;
             let (code, data) = self.next_command(place)?;
             let address = self.servo(place).station.individual;
-            self.send(&frame_bytes(address, code, &data), None)?;
+            self.send(&frame_bytes(address, code, &data))?;
             if code == 4 && self.dice.percent(70) {
                 let address = self.alone_or_group(&self.servo(place).station, 5);
-                self.send(&frame_bytes(address, 5, &[]), None)?;
+                self.send(&frame_bytes(address, 5, &[]))?;
             }
             let ticks = self.dice.pick(&[0, 1, 1, 2, 3, 8, 30]);
             for _ in 0..ticks {
@@ -392,14 +434,14 @@ impl Session<'_> {
             let servo = self.servo(place);
             let address = servo.station.individual;
             let (code, data) = steering::into_a_mode(&mut self.dice, &servo);
-            self.send(&frame_bytes(address, code, &data), None)?;
+            self.send(&frame_bytes(address, code, &data))?;
             self.follow(place)?;
             let byte = steering::homing_byte(&mut self.dice);
-            self.send(&frame_bytes(address, 9, &[byte]), None)?;
+            self.send(&frame_bytes(address, 9, &[byte]))?;
             if self.dice.percent(40) {
                 let servo = self.servo(place);
                 let data = steering::waiting_load(&mut self.dice, &servo);
-                self.send(&frame_bytes(address, 4, &data), None)?;
+                self.send(&frame_bytes(address, 4, &data))?;
             }
             self.follow(place)?;
             self.switch(place)?;
@@ -444,10 +486,10 @@ impl Session<'_> {
         }
         if gains_too && servo.gains.el < 1000 && self.dice.percent(80) {
             let gains = steering::gains(&mut self.dice);
-            self.send(&frame_bytes(address, 6, &gains), None)?;
+            self.send(&frame_bytes(address, 6, &gains))?;
         }
         if servo.error && self.dice.percent(90) {
-            self.send(&frame_bytes(address, 11, &[]), None)?;
+            self.send(&frame_bytes(address, 11, &[]))?;
         }
         Ok(())
     }
@@ -467,7 +509,7 @@ impl Session<'_> {
     fn settle(&mut self, place: usize) -> Result<(), String> {
         let servo = self.servo(place);
         if servo.mode == Mode::Velocity && servo.goal_speed != 0 {
-            self.send(&frame_bytes(servo.station.individual, 7, &[9]), None)?;
+            self.send(&frame_bytes(servo.station.individual, 7, &[9]))?;
         }
         for _ in 0..40 {
             let servo = self.servo(place);
@@ -480,9 +522,26 @@ impl Session<'_> {
         Ok(())
     }
 
-    fn send(&mut self, bytes: &[u8], marked: Option<usize>) -> Result<(), String> {
-        for (at, byte) in bytes.iter().enumerate() {
-            self.line(u32::from(marked == Some(at)), *byte)?;
+    fn send(&mut self, bytes: &[u8]) -> Result<(), String> {
+        self.hand_over(&Line::unmarked(bytes))
+    }
+
+    /// Bytes as the board hands them over: one by one, in buffers as full as can be, or cut anywhere.
+    fn hand_over(&mut self, line: &Line) -> Result<(), String> {
+        let way = self.dice.below(8);
+        let mut at = 0;
+        while at < line.len() {
+            let left = (line.len() - at).min(BUFFER_LEN);
+            let count = match way {
+                0..=4 => None,
+                5 | 6 => Some(left),
+                _ => self.cut(left),
+            };
+            match count {
+                None => self.line(line.marks[at].into(), line.bytes[at])?,
+                Some(count) => self.buffer(&line.part(at, count))?,
+            }
+            at += count.unwrap_or(1);
             // the board measures and ticks whenever it likes
             match self.dice.below(60) {
                 0 => self.measure_some(),
@@ -493,41 +552,77 @@ impl Session<'_> {
         Ok(())
     }
 
+    /// How many bytes go into the next buffer, if they do.
+    fn cut(&mut self, left: usize) -> Option<usize> {
+        match self.dice.below(20) {
+            0..=4 => None,
+            5 => Some(0),
+            6..=13 => Some(left.min(1 + self.dice.below(6))),
+            _ => Some(1 + self.dice.below(left)),
+        }
+    }
+
+    /// Brings an open frame to its end, mostly.
+    fn leave_frame(&mut self) -> Result<(), String> {
+        if self.pair.net[FILL] != 0 && self.dice.percent(70) {
+            self.send(&[0; 16])?;
+        }
+        Ok(())
+    }
+
     fn send_frame(&mut self) -> Result<(), String> {
+        self.leave_frame()?;
         let network = self.network();
-        if network.receiver.fill != 0 && self.dice.percent(70) {
-            self.send(&[0; 16], None)?;
+        let line = frame_on_line(&mut self.dice, &network);
+        self.hand_over(&line)
+    }
+
+    /// Several frames, cut into two buffers.
+    fn send_several(&mut self) -> Result<(), String> {
+        self.leave_frame()?;
+        let network = self.network();
+        let line = full_buffer(&mut self.dice, &network);
+        let first = self.dice.below(line.len() + 1);
+        self.buffer(&line.part(0, first))?;
+        self.buffer(&line.part(first, line.len() - first))
+    }
+
+    /// Short frames, as many in one buffer as can end in it.
+    fn send_most(&mut self) -> Result<(), String> {
+        if self.pair.net[FILL] != 0 {
+            self.send(&[0; 16])?;
         }
-        let (address, code, data) = frame(&mut self.dice, &network);
-        let mut bytes = frame_bytes(address, code, &data);
-        let mut marked = None;
-        match self.dice.below(25) {
-            0 | 1 => marked = Some(1 + self.dice.below(bytes.len() - 1)),
-            2 => marked = Some(0),
-            3 => *bytes.last_mut().expect("a frame") ^= 1 + self.dice.below(255) as u8,
-            // a sum that leaves the address out
-            4 => *bytes.last_mut().expect("a frame") = bytes[2].wrapping_add(sum(&data)),
-            5 => drop(bytes.remove(self.dice.below(bytes.len()))),
-            _ => {}
-        }
-        self.send(&bytes, marked)
+        let network = self.network();
+        let line = short_traffic(&mut self.dice, &network, BUFFER_FRAMES + 1);
+        self.first_at_its_last(&line)
+    }
+
+    /// Short frames, the first at its last byte when the buffer comes that brings the others.
+    fn first_at_its_last(&mut self, line: &Line) -> Result<(), String> {
+        let begun = SHORTEST_FRAME - 1;
+        let rest = begun + BUFFER_LEN;
+        self.hand_over(&line.part(0, begun))?;
+        self.buffer(&line.part(begun, BUFFER_LEN))?;
+        self.hand_over(&line.part(rest, line.len() - rest))
     }
 
     fn address_the_chain(&mut self) -> Result<(), String> {
+        let mut bytes = Vec::new();
         for place in 0..self.pair.net[COUNT] {
             let own = if self.dice.percent(80) { place + 1 } else { individual(&mut self.dice) };
             let group = if self.dice.percent(50) { 0xFF } else { group(&mut self.dice) };
-            self.send(&frame_bytes(0, 1, &[own, group]), None)?;
+            bytes.extend(frame_bytes(0, 1, &[own, group]));
         }
-        Ok(())
+        self.send(&bytes)
     }
 
     /// Calls that are refused, often for two reasons at once.
     fn refused(&mut self) -> Result<(), String> {
         let list = self.list();
+        let network = self.network();
         let count = self.chain() as u32;
         let dice = &mut self.dice;
-        match dice.below(4) {
+        match dice.below(8) {
             0 => {
                 let mark = dice.pick(&[0, 1, 2, 255, 256, u32::MAX]);
                 let room_len = dice.pick(&[0, 1, ROOM_LEN - 1, ROOM_LEN]);
@@ -537,7 +632,11 @@ impl Session<'_> {
                 let place = dice.pick(&[0, count - 1, count, count + 1, 255, 256, u32::MAX]);
                 self.pair.told(place)?
             }
-            _ => self.pair.tick(&spoiled_list(dice, &list))?,
+            2..=4 => self.pair.tick(&spoiled_list(dice, &list))?,
+            _ => {
+                let (line, room_len) = spoiled_buffer(dice, &network);
+                self.pair.buffer(&line, room_len)?
+            }
         };
         Ok(())
     }
@@ -545,11 +644,12 @@ impl Session<'_> {
     /// One call upon a damaged copy of the record; where it still passes, some more.
     fn damaged(&mut self) -> Result<(), String> {
         let list = self.list();
+        let network = self.network();
         let (kept, kept_measured) = (self.pair.net.clone(), self.measured.clone());
         self.pair.net = damaged_record(&mut self.dice, &kept);
         self.pair.remember(Event::Record);
         self.pair.seen.damaged_records += 1;
-        match self.dice.below(5) {
+        match self.dice.below(7) {
             0 => {
                 let mark = self.dice.pick(&[0, 0, 0, 1, 2]);
                 let room_len = self.dice.pick(&[ROOM_LEN, ROOM_LEN, ROOM_LEN - 1]);
@@ -564,6 +664,14 @@ impl Session<'_> {
                 let number = self.pair.tick(&spoiled)?;
                 let undamaged = uncounted(|| Model { slip: Slip::None }.tick(&mut kept.clone(), &spoiled));
                 self.pair.seen.damaged_record_and_list(number, undamaged);
+            }
+            3 => {
+                let line = any_buffer(&mut self.dice, &network);
+                self.buffer(&line)?;
+            }
+            4 => {
+                let (line, room_len) = spoiled_buffer(&mut self.dice, &network);
+                self.pair.buffer(&line, room_len)?;
             }
             _ => drop(self.pair.tick(&list)?),
         }
@@ -620,6 +728,10 @@ impl Session<'_> {
             match self.dice.below(10) {
                 0 => self.measure_some(),
                 1 => self.tick()?,
+                2 => {
+                    let line = steering::buffer::noise(&mut self.dice);
+                    self.buffer(&line)?;
+                }
                 _ => {
                     let (mark, byte) = (u32::from(self.dice.percent(2)), self.dice.byte());
                     self.line(mark, byte)?;
@@ -632,36 +744,41 @@ impl Session<'_> {
     fn turn(&mut self) -> Result<(), String> {
         match self.dice.below(100) {
             0..=9 => self.drive(),
-            10 | 11 => self.drive_home(),
-            12..=15 => self.drive_stepper(),
-            16..=69 => self.send_frame(),
-            70..=77 => {
+            10..=12 => self.drive_home(),
+            13..=16 => self.drive_stepper(),
+            17..=67 => self.send_frame(),
+            68 | 69 if self.dice.percent(85) => self.send_several(),
+            68 | 69 => self.send_most(),
+            70..=76 => {
                 self.measure_some();
                 Ok(())
             }
-            78..=84 => self.tick(),
-            85 | 86 => {
+            77..=83 => self.tick(),
+            84 | 85 => {
                 let byte = data_byte(&mut self.dice);
                 let mark = self.dice.below(2) as u32;
                 self.line(mark, byte)
             }
-            87 => self.set_up(),
-            88 => self.send(&[0; 16], None),
-            89..=91 => self.refused(),
+            86 => self.set_up(),
+            87 => self.send(&[0; 16]),
+            88..=91 => self.refused(),
             92..=97 => self.damaged(),
             _ => self.host(),
         }
     }
 
-    /// 32 leaders of one group with every item defined: a group frame fills the room to its last byte.
+    /// 32 leaders of one group with every item defined: a group frame fills the room to its last byte, and as many of them
+    /// as can end in a buffer fill the buffer's.
     fn all_lead(&mut self) -> Result<(), String> {
         self.pair.net = self.dice.bytes(NET_LEN);
         let types: [u8; MOST_MODULES] = std::array::from_fn(|_| self.dice.pick(&[0, 2]));
         self.power_up(&types)?;
         for place in 0..MOST_MODULES as u8 {
-            self.send(&frame_bytes(0, 1, &[place + 1, 0x7F]), None)?;
+            self.send(&frame_bytes(0, 1, &[place + 1, 0x7F]))?;
         }
-        self.send(&frame_bytes(0xFF, 2, &[0xFF]), None)
+        self.send(&frame_bytes(0xFF, 2, &[0xFF]))?;
+        let frames = frame_bytes(0xFF, 14, &[]).repeat(BUFFER_FRAMES + 1);
+        self.first_at_its_last(&Line::unmarked(&frames))
     }
 
     fn begin(&mut self) -> Result<(), String> {
@@ -734,7 +851,7 @@ pub fn run_unsteered(library: &dyn Calls, seed: u64, sessions: usize) -> Result<
 fn run_sessions(library: &dyn Calls, slip: Slip, seed: u64, sessions: usize, steered: bool) -> Result<Seen, String> {
     branches::forget();
     let mut seen = Seen::default();
-    let junk = Dice::new(seed).bytes(8 * ROOM_LEN);
+    let junk = Dice::new(seed).bytes(BUFFER_ROOM_LEN + 8 * ROOM_LEN);
     for number in 0..sessions {
         let dice = Dice::new(seed.wrapping_add(number as u64).wrapping_mul(0x2545_F491_4F6C_DD1D));
         let pair = Pair {

@@ -4,6 +4,7 @@
 //! A module type is a `Device`; what every type shares is written once over it. A further type is one more `Device`
 //! and one more case of `Module`.
 
+mod buffer;
 mod homing;
 mod host;
 mod io;
@@ -15,6 +16,7 @@ mod servo;
 mod station;
 mod stepper;
 
+pub use buffer::{number_given, put_replies, Buffer};
 pub use homing::{HomeStop, Homing, LIMITS_MOST};
 pub use host::{frame_bytes, item_sizes, items_of, read_status, Reading};
 pub use io::{Io, IoSample, BITS};

@@ -4,8 +4,8 @@
 use crate::branches::{all_hold, either, reach, Branch};
 use crate::calls::*;
 use crate::model::{
-    self, is_half_turn, stopping_sum, Device, Gains, Homing, Io, IoSample, Load, Mode, Module, Network, Receiver,
-    Servo, ServoSample, Station, Stepper, Way, LIMITS_MOST, SPEED_MOST,
+    self, is_half_turn, stopping_sum, Buffer, Device, Gains, Homing, Io, IoSample, Load, Mode, Module, Network,
+    Receiver, Servo, ServoSample, Station, Stepper, Way, LIMITS_MOST, SPEED_MOST,
 };
 use crate::slips::Slip;
 
@@ -572,6 +572,28 @@ impl Calls for Model {
         } else {
             UNDAMAGED
         }
+    }
+
+    fn bytes(&self, net: &mut [u8], bytes: &[u8], marks: &[u8], room: &mut [u8], written: &mut usize) -> u32 {
+        *written = 0;
+        let buffer = Buffer { bytes, marks, room_len: room.len() };
+        let network = decode(net, self.slip);
+        let refusal = buffer.refusal(network.as_ref(), self.slip);
+        let mut network = match network {
+            Some(network) => network,
+            None => return refusal.expect("a bad record is refused"),
+        };
+        if let Some(number) = refusal {
+            if let Some(half) = buffer.taken_though_refused(number, self.slip) {
+                network.buffer(&half);
+                encode(&network, net);
+            }
+            return number;
+        }
+        let ended = network.buffer(&buffer);
+        encode(&network, net);
+        *written = model::put_replies(&ended, room, self.slip);
+        model::number_given(&ended, self.slip)
     }
 
     fn tick(&self, net: &mut [u8], samples: &[u8]) -> u32 {

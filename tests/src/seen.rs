@@ -1,15 +1,18 @@
 //! What histories have come to, told from the networks before and after each call, so that a test can tell that its
 //! dice still fall everywhere.
 
+use crate::branches::uncounted;
 use crate::calls::{BAD_FIELD, BAD_LIST, BAD_PLACE, BAD_RECORD, MOST_MODULES, ROOM_LEN, SAMPLE_LEN};
 use crate::model::{
     HomeStop, Mode, Module, Network, Receiver, Servo, Touch, CAUSES, EXECUTED, NOT_NOW, OUT_OF_RANGE, SPEED_MOST,
     UNKNOWN, WRONG_COUNT,
 };
 
+pub mod buffers;
 pub mod homing;
 pub mod stepper;
 
+use buffers::{Buffers, Fate};
 use homing::Homings;
 use stepper::Steppers;
 
@@ -99,6 +102,7 @@ pub struct Seen {
     /// Frames by how many modules replied: none, one, more.
     pub repliers: [usize; 3],
     pub bytes: usize,
+    pub buffers: Buffers,
     pub ticks: usize,
     pub full_rooms: usize,
     pub damaged_records: usize,
@@ -194,6 +198,28 @@ impl Seen {
         self.full_rooms += usize::from(written == ROOM_LEN);
     }
 
+    /// A buffer that was taken, by the network before it: as its bytes bring them, each frame that has ended. How many
+    /// these are.
+    pub fn buffer(&mut self, before: &Network, bytes: &[u8], marks: &[u8], written: usize) -> usize {
+        let mut network = before.clone();
+        let mut fates = Vec::new();
+        for (mark, byte) in marks.iter().zip(bytes) {
+            let was = network.receiver.is_at_last().then(|| network.clone());
+            let ended = uncounted(|| network.byte(*mark == 1, *byte));
+            fates.push(match (was, ended) {
+                (Some(was), Some(ended)) => {
+                    let replied = ended.replies.iter().map(|(_, reply)| reply.len()).sum();
+                    self.frame(&was, &network, replied);
+                    uncounted(|| Fate::of_last(&ended, before, &was))
+                }
+                _ if network.receiver.fill == 0 => Fate::Dropped { marked: *mark == 1 },
+                _ => Fate::Inside,
+            });
+        }
+        self.buffers.taken(&fates, written, network.receiver.fill != 0);
+        fates.iter().filter(|fate| matches!(fate, Fate::Ended { .. })).count()
+    }
+
     /// What the frame in the receiver has made of a module that it touched.
     fn touched(&mut self, receiver: &Receiver, before: &Module, after: &Module) {
         let (code, count) = (receiver.command & 15, usize::from(receiver.command >> 4));
@@ -250,6 +276,7 @@ impl Seen {
 
     /// A tick with its list; the networks tell of it before and after.
     pub fn tick(&mut self, before: &Network, after: &Network, list: &[u8]) {
+        self.buffers.tick();
         for (place, pair) in before.modules.iter().zip(&after.modules).enumerate() {
             match pair {
                 (Module::Servo(before), Module::Servo(after)) => self.tick_of_servo(place, before, after),
@@ -297,6 +324,7 @@ impl Seen {
     pub fn another_record(&mut self) {
         self.cuts = Default::default();
         self.homings.another_record();
+        self.buffers.another_record();
     }
 
     fn frame_while_cut(&mut self, code: u8, change: Change, after: &Servo) {

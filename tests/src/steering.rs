@@ -12,6 +12,7 @@ use crate::record::{
 };
 use crate::slips::Slip;
 
+pub mod buffer;
 pub mod stepper;
 
 /// Individual and group bytes that meet each other often, and the header among them.
@@ -102,6 +103,7 @@ fn miscount(dice: &mut Dice, data: &mut Vec<u8>) {
 const DIVIDED: &[(u8, &[u8])] = &[
     (2, &[0xFF]),
     (3, &[0x1F]),
+    (4, &[0x02, 0x64]),
     (4, &[0x02, 0x64]),
     (4, &[0x12, 0x05]),
     (4, &[0x04, 0x03]),

@@ -36,6 +36,7 @@ fn library_and_model_agree() {
     servos_come_everywhere(&seen);
     homing_comes_everywhere(&seen);
     steppers_come_everywhere(&seen);
+    buffers_come_everywhere(&seen);
     calls_give_every_number(&seen);
 }
 
@@ -68,6 +69,8 @@ fn branches_are_reached() {
     // Set Homing, what it outlasts, how home is found, and its stop in every mode
     often_reached(Branch::Limit1Set, Branch::HomingNotShown);
     often_reached(Branch::SetHomingEmpty, Branch::HomeStopKeepsCause);
+    // each refusal of a buffer, each that hides a later one, and how frames stand in a buffer that is taken
+    often_reached(Branch::BufferRecord, Branch::BufferCarriedOut);
     // each refusal of a tick's list, each that hides a later one, and what a good list may hold
     often_reached(Branch::TickDone, Branch::SamplesOfSteppersDiffer);
 }
@@ -206,6 +209,23 @@ fn steppers_come_everywhere(seen: &Seen) {
     for (name, times) in seen.steppers.frames.iter().chain(&seen.steppers.ticks) {
         assert!(*times > 100, "{name}: {times}");
     }
+}
+
+/// Buffers of every length come up, with every number of frames that can end in one, and frames cut in every way.
+fn buffers_come_everywhere(seen: &Seen) {
+    let buffers = &seen.buffers;
+    for len in 0..=BUFFER_LEN {
+        let times = buffers.lengths.get(&len).copied().unwrap_or(0);
+        assert!(times > 100, "buffers of {len} bytes: {times}");
+    }
+    for (frames, times) in buffers.ended.iter().enumerate() {
+        assert!(*times > 100, "buffers in which {frames} frames ended: {times}");
+    }
+    assert!(buffers.full_rooms > 100, "{} full rooms of a buffer", buffers.full_rooms);
+    for (name, times) in buffers.held.iter().chain(&buffers.went_on) {
+        assert!(*times > 100, "{name}: {times}");
+    }
+    assert!(buffers.ended_by_byte > 1000, "begun by a buffer, ended by a byte call: {}", buffers.ended_by_byte);
 }
 
 fn calls_give_every_number(seen: &Seen) {

@@ -16,7 +16,7 @@ fn without_a_slip_the_short_run_passes() {
 
 #[test]
 fn every_slip_is_noticed() {
-    assert!(CALLS.len() >= 300);
+    assert!(CALLS.len() >= 380);
     let mut missed = Vec::new();
     for (slip, words) in CALLS {
         match histories::run(&Library, *slip, SEED, SESSIONS) {
@@ -42,6 +42,21 @@ enum Spoil {
     RefusedLength,
     RefusedRoom,
     RefusedRecord,
+    BufferRoomBehindReplies,
+    BufferOneByteMoreReported,
+    BufferFirstReplyByte,
+    BufferLastReplyByte,
+    BufferPlaceBeyondChain,
+    BufferUnusedByteOfSlot,
+    BufferOfNoBytesTaken,
+    BufferMarksLost,
+    BufferLastByteLost,
+    BufferLastByteTwice,
+    RefusedBufferLength,
+    RefusedBufferRoom,
+    RefusedListsRecord,
+    RefusedMarksRecord,
+    RefusedBufferRoomRecord,
     RefusedLengthLatched,
     RefusedTypeLatched,
     RefusedFieldLatched,
@@ -67,7 +82,7 @@ enum Spoil {
     WriterBehindFrame,
 }
 
-const SPOILS: [Spoil; 32] = [
+const SPOILS: [Spoil; 47] = [
     Spoil::RoomBehindReplies,
     Spoil::OneByteMoreReported,
     Spoil::LastReplyByte,
@@ -77,6 +92,21 @@ const SPOILS: [Spoil; 32] = [
     Spoil::RefusedLength,
     Spoil::RefusedRoom,
     Spoil::RefusedRecord,
+    Spoil::BufferRoomBehindReplies,
+    Spoil::BufferOneByteMoreReported,
+    Spoil::BufferFirstReplyByte,
+    Spoil::BufferLastReplyByte,
+    Spoil::BufferPlaceBeyondChain,
+    Spoil::BufferUnusedByteOfSlot,
+    Spoil::BufferOfNoBytesTaken,
+    Spoil::BufferMarksLost,
+    Spoil::BufferLastByteLost,
+    Spoil::BufferLastByteTwice,
+    Spoil::RefusedBufferLength,
+    Spoil::RefusedBufferRoom,
+    Spoil::RefusedListsRecord,
+    Spoil::RefusedMarksRecord,
+    Spoil::RefusedBufferRoomRecord,
     Spoil::RefusedLengthLatched,
     Spoil::RefusedTypeLatched,
     Spoil::RefusedFieldLatched,
@@ -158,6 +188,39 @@ impl Calls for Spoiled {
             Spoil::RefusedLength if number > DAMAGED => *written = 1,
             Spoil::RefusedRoom if number > DAMAGED && !room.is_empty() => room[0] ^= 1,
             Spoil::RefusedRecord if number == SHORT_ROOM => net[0] ^= 1,
+            _ => {}
+        }
+        number
+    }
+
+    fn bytes(&self, net: &mut [u8], bytes: &[u8], marks: &[u8], room: &mut [u8], written: &mut usize) -> u32 {
+        let (mut handed, mut handed_marks) = (bytes.to_vec(), marks.to_vec());
+        match self.0 {
+            Spoil::BufferMarksLost => handed_marks.iter_mut().for_each(|mark| *mark &= 0xFE),
+            Spoil::BufferLastByteLost if bytes.len() == marks.len() && bytes.len() <= BUFFER_LEN => {
+                handed.pop();
+                handed_marks.pop();
+            }
+            Spoil::BufferLastByteTwice if (1..BUFFER_LEN).contains(&bytes.len()) && bytes.len() == marks.len() => {
+                handed.extend_from_within(bytes.len() - 1..);
+                handed_marks.extend_from_within(marks.len() - 1..);
+            }
+            _ => {}
+        }
+        let number = Library.bytes(net, &handed, &handed_marks, room, written);
+        match self.0 {
+            Spoil::BufferRoomBehindReplies if number == DONE && *written < room.len() => room[*written] ^= 1,
+            Spoil::BufferOneByteMoreReported if number == DONE => *written += 1,
+            Spoil::BufferFirstReplyByte if *written > 0 => room[0] ^= 1,
+            Spoil::BufferLastReplyByte if *written > 0 => room[*written - 1] ^= 1,
+            Spoil::BufferPlaceBeyondChain if number == DONE && net[COUNT] < 32 => net[LAST] ^= 1,
+            Spoil::BufferUnusedByteOfSlot if number == DONE => net[UNUSED] ^= 1,
+            Spoil::BufferOfNoBytesTaken if number == DONE && bytes.is_empty() => net[UNUSED] ^= 1,
+            Spoil::RefusedBufferLength if number != DONE => *written = 1,
+            Spoil::RefusedBufferRoom if number != DONE && !room.is_empty() => room[0] ^= 1,
+            Spoil::RefusedListsRecord if number == BAD_LIST => net[UNUSED] ^= 1,
+            Spoil::RefusedMarksRecord if number == BAD_FIELD => net[UNUSED] ^= 1,
+            Spoil::RefusedBufferRoomRecord if number == SHORT_ROOM => net[UNUSED] ^= 1,
             _ => {}
         }
         number

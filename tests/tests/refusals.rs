@@ -50,6 +50,28 @@ fn byte_call(net: &mut [u8], mark: u32, byte: u8, room_len: usize) -> u32 {
     number
 }
 
+/// A buffer call of which the two lists stay what they are; a refusal leaves record and room, too, and 0 written.
+fn bytes_call(net: &mut [u8], bytes: &[u8], marks: &[u8], room_len: usize) -> u32 {
+    let before = net.to_vec();
+    let (lent, lent_marks) = (bytes.to_vec(), marks.to_vec());
+    let mut room = vec![JUNK; room_len];
+    let mut written = 77;
+    let number = Library.bytes(net, &lent, &lent_marks, &mut room, &mut written);
+    assert_eq!((&lent[..], &lent_marks[..]), (bytes, marks), "number {number}: a list changed");
+    assert!(number == DONE || number > DAMAGED, "number {number}");
+    if number != DONE {
+        assert_eq!(net, before, "refusal {number} changed the record");
+        assert!(room.iter().all(|byte| *byte == JUNK), "refusal {number} wrote into the room");
+        assert_eq!(written, 0, "refusal {number} reported a length");
+    }
+    number
+}
+
+/// The same with as many marks of 0 as bytes, and room enough.
+fn unmarked_call(net: &mut [u8], bytes: &[u8]) -> u32 {
+    bytes_call(net, bytes, &vec![0; bytes.len()], BUFFER_ROOM_LEN)
+}
+
 /// A tick's list for a chain of these types, where all of one type measure the same; no stop input is 1.
 fn list_of(types: &[u8], servo: Sample, io: Sample) -> Vec<u8> {
     let sample = |module_type: &u8| match module_type {
@@ -137,6 +159,8 @@ fn read_call(module_type: u32, items: u8, reply: &[u8]) -> u32 {
 /// Every call that looks at the record, with arguments that are refused for nothing else.
 fn every_call_says(net: &[u8], number: u32) {
     assert_eq!(byte_call(&mut net.to_vec(), 0, 0, ROOM_LEN), number);
+    assert_eq!(unmarked_call(&mut net.to_vec(), &[0]), number);
+    assert_eq!(unmarked_call(&mut net.to_vec(), &[]), number);
     assert_eq!(tick_call(&mut net.to_vec(), &nothing_measured(net)), number);
     assert_eq!(outputs_call(net, 0), number);
     assert_eq!(cause_call(net, 0), number);
@@ -196,6 +220,7 @@ fn record_with_more_of_a_frame_than_its_command_asks() {
             let ends = fill == 3 + count;
             assert_eq!(number == DONE, !ends, "fill {fill} of count {count}");
             assert!(number <= DAMAGED);
+            assert_eq!(unmarked_call(&mut net.clone(), &[0; BUFFER_LEN]), DONE);
             assert_eq!(tick_call(&mut net.clone(), &nothing_measured(&net)), DONE);
         }
         for fill in [4 + count, 19, 20, 128, 255] {
@@ -726,6 +751,76 @@ fn room_too_short_for_every_reply() {
     assert_eq!(byte_call(&mut net, 0, 0x55, ROOM_LEN + 1), DONE);
 }
 
+// ---------------------------------------------------------------- 20, 14, 15 by a buffer
+
+/// What ends the open frame of `network`, then frames to its end: whatever of it is taken, the record changes.
+fn buffer() -> [u8; BUFFER_LEN] {
+    let rest = &frame_bytes(0, 1, &[1, 0xFF])[4..];
+    let frames = frame_bytes(0xFF, 2, &[0x5A]).repeat(BUFFER_LEN);
+    let line: Vec<u8> = rest.iter().chain(&frames).copied().take(BUFFER_LEN).collect();
+    line.try_into().expect("as long as a buffer")
+}
+
+#[test]
+fn buffer_of_different_lists_or_too_long() {
+    let net = network(3);
+    // some of the long ones are good ones in their lowest byte or two
+    let long = [2 * BUFFER_LEN, 255, 256, 257, 256 + BUFFER_LEN, 65_536, 65_536 + BUFFER_LEN];
+    let lengths: Vec<usize> = (0..=BUFFER_LEN + 2).chain(long).collect();
+    let line: Vec<u8> = buffer().into_iter().cycle().take(65_536 + BUFFER_LEN).collect();
+    let marks = vec![0; line.len()];
+    for bytes_len in lengths.iter().copied() {
+        for marks_len in lengths.iter().copied() {
+            let number = if bytes_len == marks_len && bytes_len <= BUFFER_LEN { DONE } else { BAD_LIST };
+            let told = bytes_call(&mut net.clone(), &line[..bytes_len], &marks[..marks_len], BUFFER_ROOM_LEN);
+            assert_eq!(told, number, "{bytes_len} bytes, {marks_len} marks");
+        }
+    }
+}
+
+#[test]
+fn buffer_with_a_mark_other_than_none_or_one() {
+    let net = network(3);
+    let line = buffer();
+    for len in [1, 2, 5, BUFFER_LEN] {
+        for at in 0..len {
+            let mut marks = vec![0; len];
+            for mark in 0..=255 {
+                marks[at] = mark;
+                let number = if mark <= 1 { DONE } else { BAD_FIELD };
+                let told = bytes_call(&mut net.clone(), &line[..len], &marks, BUFFER_ROOM_LEN);
+                assert_eq!(told, number, "mark {mark} at {at} of {len}");
+            }
+        }
+    }
+    assert_eq!(bytes_call(&mut net.clone(), &line, &[1; BUFFER_LEN], BUFFER_ROOM_LEN), DONE);
+    assert_eq!(bytes_call(&mut net.clone(), &line, &[255; BUFFER_LEN], BUFFER_ROOM_LEN), BAD_FIELD);
+    // outside of frames, too
+    let mut idle = net;
+    idle[..=MARK].fill(0);
+    assert_eq!(bytes_call(&mut idle, &[0x55], &[2], BUFFER_ROOM_LEN), BAD_FIELD);
+}
+
+#[test]
+fn room_too_short_for_every_reply_to_a_buffer() {
+    assert_eq!(BUFFER_ROOM_LEN, 9728);
+    for modules in [1, 3, 32] {
+        let net = network(modules);
+        // nothing, no frame's end, one, and as many as there are
+        for len in [0, 1, 2, BUFFER_LEN] {
+            let (line, marks) = (&buffer()[..len], &[0; BUFFER_LEN][..len]);
+            let fewer_frames = (0..BUFFER_FRAMES).map(|frames| frames * ROOM_LEN);
+            for room_len in fewer_frames.chain([1, BUFFER_FRAMES * REPLY_LEN * modules - 1, BUFFER_ROOM_LEN - 1]) {
+                let number = bytes_call(&mut net.clone(), line, marks, room_len);
+                assert_eq!(number, SHORT_ROOM, "room {room_len} for {len} bytes, {modules} modules");
+            }
+            for room_len in [BUFFER_ROOM_LEN, BUFFER_ROOM_LEN + 1, 2 * BUFFER_ROOM_LEN] {
+                assert_eq!(bytes_call(&mut net.clone(), line, marks, room_len), DONE, "room {room_len}");
+            }
+        }
+    }
+}
+
 // ---------------------------------------------------------------- 20, 13, 14 by a tick's list
 
 /// Chains of all types, so that each stands at an end and beside its like and the others.
@@ -981,6 +1076,47 @@ fn byte_refusals_in_order() {
     assert_eq!(byte_call(&mut good.clone(), 2, 0, 0), BAD_FIELD);
     assert_eq!(byte_call(&mut good.clone(), 2, 0, 607), BAD_FIELD);
     assert_eq!(byte_call(&mut good.clone(), 1, 0, 607), SHORT_ROOM);
+}
+
+/// Records that break the list, each in another way or by its length.
+fn bad_records(good: &[u8]) -> Vec<Vec<u8>> {
+    let spoils = [(slot(1), 7), (slot(0) + CAUSE, 6), (COUNT, 0), (MARK, 2)];
+    let spoiled = spoils.into_iter().map(|(at, byte)| {
+        let mut net = good.to_vec();
+        net[at] = byte;
+        net
+    });
+    spoiled.chain([good[..NET_LEN - 1].to_vec(), Vec::new()]).collect()
+}
+
+/// As many bytes and marks, with every choice of marks and room: what comes first of all faults is told.
+fn first_fault_is_told(net: &[u8], earlier: [(bool, u32); 2], bytes: usize, marks: usize) {
+    let line: Vec<u8> = buffer().into_iter().cycle().take(bytes).collect();
+    // marks above 1 nowhere, at the first byte, at the last, everywhere
+    for bad_marks in [0..0, 0..marks.min(1), marks.saturating_sub(1)..marks, 0..marks] {
+        for room_len in [BUFFER_ROOM_LEN, BUFFER_ROOM_LEN - 1, ROOM_LEN, 0] {
+            let mut marks = vec![1; marks];
+            marks[bad_marks.clone()].fill(2);
+            let later = [(!bad_marks.is_empty(), BAD_FIELD), (room_len < BUFFER_ROOM_LEN, SHORT_ROOM)];
+            let mut faults = earlier.into_iter().chain(later).filter(|(there, _)| *there);
+            let number = faults.next().map_or(DONE, |(_, number)| number);
+            let told = bytes_call(&mut net.to_vec(), &line, &marks, room_len);
+            assert_eq!(told, number, "{bytes} bytes, marks {marks:?}, room {room_len}, {earlier:?}");
+        }
+    }
+}
+
+#[test]
+fn buffer_refusals_in_order() {
+    let good = network(2);
+    let bad = bad_records(&good);
+    for (net, bad_record) in bad.iter().map(|net| (net, true)).chain([(&good, false)]) {
+        let most = BUFFER_LEN;
+        for (bytes, marks) in [(0, 0), (8, 8), (most, most), (8, 7), (7, 8), (8, 0), (0, 8), (most + 1, most + 1)] {
+            let bad_lists = bytes != marks || bytes > most;
+            first_fault_is_told(net, [(bad_record, BAD_RECORD), (bad_lists, BAD_LIST)], bytes, marks);
+        }
+    }
 }
 
 #[test]

@@ -1,7 +1,7 @@
 // Which refusal a call meets, by its table.
 ghost use mathlib.Core.Path.{_≡_};
 ghost use Rattle.base_layout.specs.First.{first};
-ghost use Rattle.api_rules.specs.Table.{setupTable, byteTable, tickTable, placeTable};
+ghost use Rattle.api_rules.specs.Table.{setupTable, byteTable, bufferTable, tickTable, placeTable};
 
 pub fn setup_refusal(net: &[u8], types: &[u8]) -> u32
     ensures { λ r. ⌜ r ≡ first (setupTable (now (net .entry)) (now (types .entry))) ⌝ }
@@ -28,6 +28,25 @@ pub fn byte_refusal(net: &[u8], mark: u32, room: &[u8]) -> u32
         return 14;
     }
     if room.len() < net_rules::ROOM_LEN {
+        return 15;
+    }
+    0
+}
+
+// A buffer of bytes with their marks.
+pub fn buffer_refusal(net: &[u8], bytes: &[u8], marks: &[u8], room: &[u8]) -> u32
+    ensures { λ r. ⌜ r ≡ first (bufferTable (now (net .entry)) (now (bytes .entry)) (now (marks .entry)) (now (room .entry))) ⌝ }
+{
+    if !net_record::is_valid(net) {
+        return 16;
+    }
+    if (bytes.len() != marks.len()) | (net_rules::BUFFER_MOST < bytes.len()) {
+        return 20;
+    }
+    if !net_record::is_all_marks(marks) {
+        return 14;
+    }
+    if room.len() < net_rules::BUFFER_ROOM_LEN {
         return 15;
     }
     0

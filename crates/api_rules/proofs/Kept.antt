@@ -19,10 +19,10 @@ use Rattle.net_rules.proofs.Stored as Stored
 use Rattle.net_rules.proofs.Kept as Net
 use Rattle.net_rules.proofs.Powered as Powered
 use Rattle.net_rules.proofs.Listed.{samples-good}
-use Rattle.api_rules.specs.Table.{setupTable, byteTable, tickTable}
-use Rattle.api_rules.specs.Calls.{stepOf, setupRecord, byteRecord, tickRecord}
+use Rattle.api_rules.specs.Table.{setupTable, byteTable, bufferTable, tickTable}
+use Rattle.api_rules.specs.Calls.{stepOf, setupRecord, byteRecord, bufferOf, bufferRecord, tickRecord}
 use Rattle.api_rules.specs.Promises.{Passes, ValidRecord, Kept, Holds, ThereAndBack}
-use Rattle.api_rules.proofs.Refused.{done, either-way, setup-passes, setup-some, byte-passes, tick-passes}
+use Rattle.api_rules.proofs.Refused.{done, either-way, setup-passes, setup-some, byte-passes, buffer-passes, tick-passes}
 
 -- a record after a call, and the network that it should hold
 After : List ℕ → Net Module → Type 0
@@ -43,6 +43,11 @@ byte-after : (net : List ℕ) (mark byte : ℕ) → byte < 256 → ValidRecord n
 byte-after net mark byte h v =
     stored-after (stepOf net mark byte .net) net (Net.kept-by-byte kind slots Good preserves (netIn slots net) (byteOf byte (eqb mark 1)) (held net v) h) v
 
+buffer-after : (net bytes marks : List ℕ) → Bytes bytes → ValidRecord net
+    → After (stored slots (bufferOf net bytes marks .net) net) (bufferOf net bytes marks .net)
+buffer-after net bytes marks b v =
+    stored-after (bufferOf net bytes marks .net) net (Net.kept-by-bytes kind slots Good preserves bytes marks (netIn slots net) b (held net v)) v
+
 tick-after : (net samples : List ℕ) → Bytes samples → allInRange (length (netIn slots net .modules)) samples ≡ true → ValidRecord net
     → After (stored slots (tickStep (samplesFor (netIn slots net) samples) (netIn slots net)) net) (tickStep (samplesFor (netIn slots net) samples) (netIn slots net))
 tick-after net samples b r v =
@@ -58,23 +63,29 @@ setup-after net types e =
     ((q .1, q .2), q .0)
 
 pub kept : Kept
-unfolding After setupRecord byteRecord tickRecord
+unfolding After setupRecord byteRecord bufferRecord tickRecord
 kept = record {
   setup = λ net types p. subst ValidRecord (done (setupTable net types) _ (fresh types) refl p) (setup-after net types p .0);
   byte = λ net mark byte room h v.
       either-way ValidRecord (byteTable net mark room) net (stored slots (stepOf net mark byte .net) net) v (λ p. byte-after net mark byte h v .0);
+  buffer = λ net bytes marks room b v.
+      either-way ValidRecord (bufferTable net bytes marks room) net (stored slots (bufferOf net bytes marks .net) net) v
+      (λ p. buffer-after net bytes marks b v .0);
   tick = λ net samples b v.
       either-way ValidRecord (tickTable net samples) net (stored slots (tickStep (samplesFor (netIn slots net) samples) (netIn slots net)) net) v
       (λ p. tick-after net samples b (tick-passes net samples p .ranged) v .0);
 }
 
 pub holds : Holds
-unfolding After setupRecord byteRecord tickRecord
+unfolding After setupRecord byteRecord bufferRecord tickRecord
 holds = record {
   setup = λ net types p. ap (netIn slots) (sym (done (setupTable net types) _ (fresh types) refl p)) ∙ setup-after net types p .1;
   byte = λ net mark byte room h b p.
       ap (netIn slots) (sym (done (byteTable net mark room) net (stored slots (stepOf net mark byte .net) net) refl p))
       ∙ byte-after net mark byte h (byte-passes net mark room p .0, b) .1;
+  buffer = λ net bytes marks room b h p.
+      ap (netIn slots) (sym (done (bufferTable net bytes marks room) net (stored slots (bufferOf net bytes marks .net) net) refl p))
+      ∙ buffer-after net bytes marks b (buffer-passes net bytes marks room p .valid, h) .1;
   tick = λ net samples b h p.
       let t = tick-passes net samples p in
       ap (netIn slots) (sym (done (tickTable net samples) net (stored slots (tickStep (samplesFor (netIn slots net) samples) (netIn slots net)) net) refl p))

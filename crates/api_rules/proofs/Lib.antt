@@ -8,4 +8,5 @@ pub mod TickBounds
 pub mod Status
 pub mod Chain
 pub mod Room
+pub mod Full
 pub mod Listed

@@ -1,22 +1,22 @@
 -- Tables of refusals: what a call that was refused, or was not, may use. Assumes nothing.
 use mathlib.Core.Path.{_≡_, refl, sym, ap, _∙_}
 use mathlib.Core.List.{List}
-use mathlib.Core.Bool.{Bool, true, false, cond, _||_}
+use mathlib.Core.Bool.{Bool, true, false, cond, not, _||_}
 use Prim.Native.Nat.{ℕ, zero, suc, _<_, _≤_}
 use native.Mathlib.Omega.{arith}
 use borrow.Author.Tests.{eq-eqb, ne-eqb, eqb-true, eqb-false, ltb-true, ltb-false, not-false}
 use lib.ListN.{length}
 use lib.Dec.{eqb, ltb}
 use Rattle.base_layout.specs.Bytes.{pasted}
-use Rattle.chain_rules.specs.Chain.{Step, flat}
+use Rattle.chain_rules.specs.Chain.{Step, Outcome, flat}
 use Rattle.types_rules.specs.Types.{Module, slots}
 use Rattle.net_rules.specs.declared.Called.{Called}
-use Rattle.net_rules.specs.Record.{chainMost, recordSize, roomSize, netIn, stored, valid}
-use Rattle.net_rules.specs.Calls.{byteOf, calledBy, listSize, allTyped, allInRange, samplesFor, tickStep}
+use Rattle.net_rules.specs.Record.{chainMost, recordSize, roomSize, bufferMost, bufferRoomSize, netIn, stored, valid}
+use Rattle.net_rules.specs.Calls.{byteOf, calledBy, allMarks, listSize, allTyped, allInRange, samplesFor, tickStep}
 use Rattle.base_layout.specs.First.{Line, first}
-use Rattle.api_rules.specs.Table.{setupTable, byteTable, tickTable, placeTable}
+use Rattle.api_rules.specs.Table.{setupTable, byteTable, bufferTable, tickTable, placeTable}
 use Rattle.api_rules.specs.Promises.{Passes}
-use Rattle.api_rules.specs.Calls.{unless, stepOf, tickRecord, byteNumber, byteRecord, byteRoom, byteWritten}
+use Rattle.api_rules.specs.Calls.{unless, stepOf, tickRecord, byteNumber, byteRecord, byteRoom, byteWritten, bufferOf, bufferRecord, bufferRoom, bufferWritten}
 use Rattle.base_layout.proofs.First.{none-applies}
 
 -- by the number that a refusing function gave
@@ -58,6 +58,59 @@ pub byte-passes : (net : List ℕ) (mark : ℕ) (room : List ℕ) → first (byt
 byte-passes net mark room e =
     let n = none-applies (byteTable net mark room) (omega arith, (omega arith, (omega arith, tt))) e in
     (not-false _ (n .0), ltb-false _ _ (n .1 .1 .0))
+
+-- what a buffer that is done may use
+pub record Buffers (net bytes marks room : List ℕ) : Type 0 where
+  pub valid : valid slots net ≡ true
+  pub same : length bytes ≡ length marks
+  pub most : length bytes ≤ bufferMost
+  pub good : allMarks marks ≡ true
+  pub enough : bufferRoomSize ≤ length room
+
+pub buffer-passes : (net bytes marks room : List ℕ) → Passes (bufferTable net bytes marks room) → Buffers net bytes marks room
+buffer-passes net bytes marks room e =
+    let n = none-applies (bufferTable net bytes marks room) (omega arith, (omega arith, (omega arith, (omega arith, tt)))) e in
+    let l = or-false (not (eqb (length bytes) (length marks))) (ltb bufferMost (length bytes)) (n .1 .0) in
+    record {
+      valid = not-false _ (n .0);
+      same = eqb-true _ _ (not-false _ (l .0));
+      most = ltb-false _ _ (l .1);
+      good = not-false _ (n .1 .1 .0);
+      enough = ltb-false _ _ (n .1 .1 .1 .0);
+    }
+
+-- the buffer, refused and done
+module _ (net bytes marks room : List ℕ) {n : ℕ} (e : n ≡ first (bufferTable net bytes marks room)) where
+  abbrev lines : List Line
+  lines = bufferTable net bytes marks room
+
+  abbrev outcome : Outcome Module
+  outcome = bufferOf net bytes marks
+
+  pub buffer-refused : (n ≡ 0 → ⊥)
+      → (n ≡ first lines)
+      × ((net ≡ bufferRecord net bytes marks room) × ((room ≡ bufferRoom net bytes marks room) × (0 ≡ bufferWritten net bytes marks room)))
+  unfolding bufferRecord bufferRoom bufferWritten
+  buffer-refused h = (
+    e,
+    (
+      refused lines net (stored slots (outcome .net) net) e h,
+      (refused lines room (pasted 0 (flat (outcome .replies)) room) e h, refused lines 0 (length (flat (outcome .replies))) e h),
+    ),
+  )
+
+  pub buffer-done : n ≡ 0 → {w : ℕ} {net′ room′ : List ℕ}
+      → (w ≡ length (flat (outcome .replies))) × ((net′ ≡ stored slots (outcome .net) net) × (room′ ≡ pasted 0 (flat (outcome .replies)) room))
+      → (0 ≡ first lines)
+      × ((net′ ≡ bufferRecord net bytes marks room) × ((room′ ≡ bufferRoom net bytes marks room) × (w ≡ bufferWritten net bytes marks room)))
+  unfolding bufferRecord bufferRoom bufferWritten
+  buffer-done z p = (
+    sym z ∙ e,
+    (
+      p .1 .0 ∙ done lines net (stored slots (outcome .net) net) e z,
+      (p .1 .1 ∙ done lines room (pasted 0 (flat (outcome .replies)) room) e z, p .0 ∙ done lines 0 (length (flat (outcome .replies))) e z),
+    ),
+  )
 
 -- what a tick that is done may use
 pub record Ticks (net samples : List ℕ) : Type 0 where

@@ -1,5 +1,5 @@
--- What a byte call writes: its replies at the room's start, never more than the room that it asks for; no frame, nothing. Assumes nothing.
-use mathlib.Core.Path.{_≡_, refl, sym, ap, _∙_}
+-- What byte calls and buffers write: their replies at the room's start, never more than the room that they ask for; no frame, nothing. Assumes nothing.
+use mathlib.Core.Path.{_≡_, refl, sym, ap, ap₂, _∙_}
 use mathlib.Core.List.{List, []}
 use mathlib.Core.Bool.{Bool, true, false, cond}
 use Prim.Native.Nat.{ℕ, _*_, _≤_}
@@ -15,24 +15,25 @@ use Rattle.line_receiver.specs.declared.Received.{Received}
 use Rattle.line_receiver.specs.declared.Answer.{Answer}
 use Rattle.line_receiver.specs.declared.Answer.the-variants.{Ended, Nothing}
 use Rattle.line_receiver.specs.Receive.{taken, numberOf}
-use Rattle.line_receiver.specs.Frames.{Byte, Frame, frameIn}
+use Rattle.line_receiver.specs.Frames.{Byte, endedBy, ends}
+use Rattle.line_receiver.proofs.Ending.{most-end}
 use Rattle.module_rules.specs.Owes.{replySize}
-use Rattle.chain_rules.specs.Chain.{Net, Step, flat, said, byteStep}
+use Rattle.chain_rules.specs.Chain.{Net, Step, flat, byteStep}
 use Rattle.chain_rules.proofs.Bytes.{step-on, step-end}
-use Rattle.chain_rules.proofs.Replies.{flat-join}
-use Rattle.chain_rules.proofs.Along as Along
+use Rattle.chain_rules.proofs.Taking.{step-few, few-within, few-replies}
 use Rattle.types_rules.specs.Types.{Module, kind, slots}
 use Rattle.types_rules.proofs.Laws.{lawful, said-short}
-use Rattle.net_rules.specs.Record.{receiverSize, roomSize, receiverBytes, netIn, stored}
-use Rattle.net_rules.specs.Calls.{byteOf}
+use Rattle.net_rules.specs.Record.{receiverSize, roomSize, bufferRoomSize, receiverBytes, netIn, stored, valid}
+use Rattle.net_rules.specs.Calls.{byteOf, bytesOf}
 use Rattle.net_rules.proofs.Valid.{valid-is}
 use Rattle.net_rules.proofs.Head.{length-receiver}
 use Rattle.net_rules.proofs.Exact.{waits, length-modules}
+use Rattle.net_rules.proofs.Buffer.{own-marks}
 use Rattle.base_layout.specs.First.{Line, first}
-use Rattle.api_rules.specs.Table.{byteTable}
-use Rattle.api_rules.specs.Calls.{stepOf, byteNumber, byteRecord, byteRoom, byteWritten}
-use Rattle.api_rules.specs.Promises.{Passes, WrittenRoom, NoFrame}
-use Rattle.api_rules.proofs.Refused.{done, either-way, byte-passes}
+use Rattle.api_rules.specs.Table.{byteTable, bufferTable}
+use Rattle.api_rules.specs.Calls.{unless, stepOf, byteNumber, byteRecord, byteRoom, byteWritten, bufferOf, bufferRoom, bufferWritten}
+use Rattle.api_rules.specs.Promises.{Passes, Put, WrittenRoom, BufferWritten, NoFrame}
+use Rattle.api_rules.proofs.Refused.{done, either-way, byte-passes, buffer-passes}
 use Rattle.api_rules.proofs.Unchanged.{number-done, answers}
 
 -- a list put at a room's start
@@ -42,52 +43,37 @@ begins xs room = ap (take (length xs)) (pasted-start xs room) ∙ take-append-se
 rest : (xs room : List ℕ) → drop (length xs) (pasted 0 xs room) ≡ drop (length xs) room
 rest xs room = ap (drop (length xs)) (pasted-start xs room) ∙ drop-append-seam xs (drop (length xs) room)
 
--- the replies of a chain, each module's no longer than a reply can be
-flat-short : (n : Net Module) (b : Byte) → length (flat (byteStep kind n b .replies)) ≤ replySize * length (n .modules)
-flat-short n b =
-    let t : Received = taken (n .receiver) (b .value) (b .mark) in
-    go (t .answer) (t .next) refl
+put-there : (ls : List Line) (out room : List ℕ) → (Passes ls → length out ≤ length room)
+    → Put ls out room (unless ls room (pasted 0 out room)) (unless ls 0 (length out))
+put-there ls out room fits = record {
+  reported = λ p. sym (done ls 0 (length out) refl p);
+  begins = λ p. ap₂ (λ (k : ℕ) (l : List ℕ). take k l) (sym (done ls 0 (length out) refl p)) (sym (done ls room (pasted 0 out room) refl p)) ∙ begins out room;
+  rest = go (eqb (first ls) 0);
+  long = either-way (λ (l : List ℕ). length l ≡ length room) ls room (pasted 0 out room) refl (λ p. let f = fits p in length-pasted 0 out room (omega arith));
+}
   where
-    go : (a : Answer) (r : Receiver) → taken (n .receiver) (b .value) (b .mark) ≡ record { next = r; answer = a }
-        → length (flat (byteStep kind n b .replies)) ≤ replySize * length (n .modules)
-    go Nothing r e = rw (step-on kind n b r e) (omega arith)
-    go (Ended d) r e =
-        let f : Frame = frameIn (n .receiver) d in
-        rw (step-end kind n b r d e, flat-join 0 (said kind f true (n .modules))) (Along.said-short kind f replySize (said-short f) true (n .modules))
+    go : (t : Bool) → drop (cond t (length out) 0) (cond t (pasted 0 out room) room) ≡ drop (cond t (length out) 0) room
+    go true = rest out room
+    go false = refl
 
-module _ (net : List ℕ) (mark byte : ℕ) (room : List ℕ) where
-  -- the replies' bytes
-  abbrev out : List ℕ
-  out = flat (stepOf net mark byte .replies)
+-- a valid record's modules fit a frame's room
+most-said : (net : List ℕ) → valid slots net ≡ true → replySize * length (netIn slots net .modules) ≤ roomSize
+most-said net v = let m = valid-is slots net v .most in omega (arith, length-modules slots net)
 
-  -- how many there are in a call that is not refused
-  out-short : length out ≤ replySize * length (netIn slots net .modules)
-  out-short = flat-short (netIn slots net) (byteOf byte (eqb mark 1))
-
-  out-most : Passes (byteTable net mark room) → length out ≤ roomSize
-  out-most p =
-      let m = valid-is slots net (byte-passes net mark room p .0) .most in
-      let s = out-short in
-      omega (arith, length-modules slots net)
-
-  pub written-done : Passes (byteTable net mark room) → byteWritten net mark byte room ≡ length out
-  unfolding byteWritten
-  written-done p = sym (done (byteTable net mark room) 0 (length out) refl p)
-
-  pub room-done : Passes (byteTable net mark room) → byteRoom net mark byte room ≡ pasted 0 out room
-  unfolding byteRoom
-  room-done p = sym (done (byteTable net mark room) room (pasted 0 out room) refl p)
+-- one byte ends one frame at most
+step-short : (n : Net Module) (b : Byte) → length (flat (byteStep kind n b .replies)) ≤ replySize * length (n .modules)
+step-short n b = one-at-most (taken (n .receiver) (b .value) (b .mark) .answer) (step-few kind replySize (replySize * length (n .modules)) said-short n b (omega arith))
+  where
+    one-at-most : (a : Answer) {k c : ℕ} → k ≤ c * endedBy a → k ≤ c
+    one-at-most Nothing h = omega arith
+    one-at-most (Ended d) h = omega arith
 
 pub written-room : WrittenRoom
 unfolding byteWritten byteRoom
 written-room net mark byte room = record {
-  reported = λ p. written-done net mark byte room p;
-  begins = λ p. rw (written-done net mark byte room p, room-done net mark byte room p) (begins xs room);
-  rest = go (eqb (first ls) 0);
-  long = either-way (λ (l : List ℕ). length l ≡ length room) ls room (pasted 0 xs room) refl
-      (λ p. length-pasted 0 xs room (omega (arith, out-most net mark byte room p, byte-passes net mark room p .1)));
-  short = either-way (λ (n : ℕ). n ≤ replySize * length (netIn slots net .modules)) ls 0 (length xs) (omega arith) (λ p. out-short net mark byte room);
-  most = either-way (λ (n : ℕ). n ≤ roomSize) ls 0 (length xs) (omega arith) (λ p. out-most net mark byte room p);
+  put = put-there ls xs room (λ p. let q = byte-passes net mark room p in omega (arith, out-most p));
+  short = either-way (λ (n : ℕ). n ≤ replySize * length (netIn slots net .modules)) ls 0 (length xs) (omega arith) (λ p. short);
+  most = either-way (λ (n : ℕ). n ≤ roomSize) ls 0 (length xs) (omega arith) out-most;
 }
   where
     xs : List ℕ
@@ -96,9 +82,45 @@ written-room net mark byte room = record {
     ls : List Line
     ls = byteTable net mark room
 
-    go : (t : Bool) → drop (cond t (length xs) 0) (cond t (pasted 0 xs room) room) ≡ drop (cond t (length xs) 0) room
-    go true = rest xs room
-    go false = refl
+    short : length xs ≤ replySize * length (netIn slots net .modules)
+    short = step-short (netIn slots net) (byteOf byte (eqb mark 1))
+
+    out-most : Passes ls → length xs ≤ roomSize
+    out-most p = omega (arith, short, most-said net (byte-passes net mark room p .0))
+
+-- a buffer
+pub buffer-written : BufferWritten
+unfolding bufferWritten bufferRoom
+buffer-written net bytes marks room = record {
+  put = put-there ls xs room (λ p. omega (arith, out-most p, buffer-passes net bytes marks room p .enough));
+  frames = sixteen;
+  few = either-way (λ (n : ℕ). n ≤ replySize * length (netIn slots net .modules) * ends bs r) ls 0 (length xs) (omega arith)
+      (λ p. few-replies kind replySize said-short bs (netIn slots net));
+  most = either-way (λ (n : ℕ). n ≤ bufferRoomSize) ls 0 (length xs) (omega arith) out-most;
+}
+  where
+    bs : List Byte
+    bs = bytesOf bytes marks
+
+    r : Receiver
+    r = netIn slots net .receiver
+
+    xs : List ℕ
+    xs = flat (bufferOf net bytes marks .replies)
+
+    ls : List Line
+    ls = bufferTable net bytes marks room
+
+    sixteen : Passes ls → ends bs r ≤ 16
+    sixteen p = let q = buffer-passes net bytes marks room p in omega (arith, most-end bs r, own-marks bytes marks (q .same) .long)
+
+    out-most : Passes ls → length xs ≤ bufferRoomSize
+    out-most p =
+        omega (
+          arith,
+          few-within kind replySize roomSize said-short bs (netIn slots net) (most-said net (buffer-passes net bytes marks room p .valid)),
+          sixteen p,
+        )
 
 -- a call that gives 0 is not refused
 zero-passes : (net : List ℕ) (mark byte : ℕ) (room : List ℕ) → byteNumber net mark byte room ≡ 0 → Passes (byteTable net mark room)
@@ -128,7 +150,7 @@ still n b z =
         absurd (not-ended d (sym (ap (λ (s : Step Module). s .number) q) ∙ z))
 
 pub no-frame : NoFrame
-unfolding byteRecord
+unfolding byteRecord byteRoom
 no-frame net mark byte room b z =
     let p = zero-passes net mark byte room z in
     let q = still (netIn slots net) (byteOf byte (eqb mark 1)) (sym (number-done net mark byte room p) ∙ z) in
@@ -142,6 +164,6 @@ no-frame net mark byte room b z =
           ∙ ap (λ (k : ℕ). drop k (pasted 0 (receiverBytes r) net)) (sym (length-receiver r))
           ∙ rest (receiverBytes r) net
           ∙ ap (λ (k : ℕ). drop k net) (length-receiver r),
-      room-done net mark byte room p ∙ ap (λ (s : Step Module). pasted 0 (flat (s .replies)) room) q ∙ pasted-none 0 room,
-      written-done net mark byte room p ∙ ap (λ (s : Step Module). length (flat (s .replies))) q,
+      sym (done (byteTable net mark room) room (pasted 0 (flat (stepOf net mark byte .replies)) room) refl p) ∙ ap (λ (s : Step Module). pasted 0 (flat (s .replies)) room) q ∙ pasted-none 0 room,
+      written-room net mark byte room .put .reported p ∙ ap (λ (s : Step Module). length (flat (s .replies))) q,
     )

@@ -7,6 +7,7 @@ pub tables : Tables
 tables = record {
   setup = λ net types. (refl, (omega arith, (omega arith, (omega arith, tt))));
   byte = λ net mark room. (refl, (omega arith, (omega arith, (omega arith, tt))));
+  buffer = λ net bytes marks room. (refl, (omega arith, (omega arith, (omega arith, (omega arith, tt)))));
   tick = λ net samples. (refl, (omega arith, (omega arith, (omega arith, (omega arith, tt)))));
   place = λ net place. (refl, (omega arith, (omega arith, tt)));
 }

@@ -23,7 +23,7 @@ use Rattle.api_rules.specs.Table.{setupTable, byteTable, tickTable, plac
 use Rattle.api_rules.specs.Calls.{unless, stepOf, setupRecord, byteNumber, tickRecord, outputsBytes, causeByte, readingBytes}
 use Rattle.api_rules.specs.Promises.{Refuses, Passes, Unchanged, Answers, OutputsTold, CauseTold, ReadingSpelled, OneOutcome}
 use Rattle.api_rules.specs.TablePromises.{ByteNumbers}
-use Rattle.api_rules.proofs.Refused.{refused, done, byte-refused}
+use Rattle.api_rules.proofs.Refused.{refused, done, byte-refused, buffer-refused}
 
 -- what is refused is as it was
 same : {A : Type 0} (ls : List Line) (x y : A) → Refuses ls → unless ls x y ≡ x
@@ -36,6 +36,9 @@ unchanged = record {
   byte = λ net mark byte room h.
       let p = byte-refused net mark byte room refl h in
       record { number = sym (p .0); netKept = sym (p .1 .0); roomKept = sym (p .1 .1 .0); written = sym (p .1 .1 .1) };
+  buffer = λ net bytes marks room h.
+      let p = buffer-refused net bytes marks room refl h .1 in
+      record { netKept = sym (p .0); roomKept = sym (p .1 .0); written = sym (p .1 .1) };
   tick = λ net samples h. same (tickTable net samples) net (stored slots (tickStep (samplesFor (netIn slots net) samples) (netIn slots net)) net) h;
   outputs = λ net place bytes h. same (placeTable net place) bytes (outputsAt (netIn slots net) place) h;
   cause = λ net place byte h. same (placeTable net place) byte (causeAt (netIn slots net) place) h;

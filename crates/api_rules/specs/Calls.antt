@@ -6,13 +6,13 @@ use mathlib.Core.Bool.{cond}
 use lib.ListN.{length, getD}
 use lib.Dec.{eqb}
 use Rattle.base_layout.specs.Bytes.{le, pasted}
-use Rattle.chain_rules.specs.Chain.{Step, flat, byteStep}
+use Rattle.chain_rules.specs.Chain.{Step, Outcome, flat, byteStep, taking}
 use Rattle.types_rules.specs.Types.{Module, kind, slots}
 use Rattle.net_rules.specs.Record.{netIn, stored}
-use Rattle.net_rules.specs.Calls.{byteOf, fresh, tickStep, samplesFor, outputsAt, causeAt}
+use Rattle.net_rules.specs.Calls.{byteOf, bytesOf, fresh, tickStep, samplesFor, outputsAt, causeAt}
 use Rattle.host_rules.specs.declared.Reading.{Reading}
 use Rattle.base_layout.specs.First.{Line, first}
-use Rattle.api_rules.specs.Table.{setupTable, byteTable, tickTable, placeTable}
+use Rattle.api_rules.specs.Table.{setupTable, byteTable, bufferTable, tickTable, placeTable}
 
 -- what holds where no line of a table applies, and what where one does
 abbrev pub unless : {A : Type 0} → List Line → A → A → A
@@ -37,6 +37,19 @@ byteRoom net mark byte room = unless (byteTable net mark room) room (pasted 0 (f
 
 unfoldable pub byteWritten : List ℕ → ℕ → ℕ → List ℕ → ℕ
 byteWritten net mark byte room = unless (byteTable net mark room) 0 (length (flat (stepOf net mark byte .replies)))
+
+-- a buffer (02 P2): what its bytes, one after another, make of the network that the record holds. Its number is its table's
+abbrev pub bufferOf : List ℕ → List ℕ → List ℕ → Outcome Module
+bufferOf net bytes marks = taking kind (bytesOf bytes marks) (netIn slots net)
+
+unfoldable pub bufferRecord : List ℕ → List ℕ → List ℕ → List ℕ → List ℕ
+bufferRecord net bytes marks room = unless (bufferTable net bytes marks room) net (stored slots (bufferOf net bytes marks .net) net)
+
+unfoldable pub bufferRoom : List ℕ → List ℕ → List ℕ → List ℕ → List ℕ
+bufferRoom net bytes marks room = unless (bufferTable net bytes marks room) room (pasted 0 (flat (bufferOf net bytes marks .replies)) room)
+
+unfoldable pub bufferWritten : List ℕ → List ℕ → List ℕ → List ℕ → ℕ
+bufferWritten net bytes marks room = unless (bufferTable net bytes marks room) 0 (length (flat (bufferOf net bytes marks .replies)))
 
 -- a tick with its list of samples (02 P11)
 unfoldable pub tickRecord : List ℕ → List ℕ → List ℕ

@@ -2,35 +2,36 @@
 -- keeps what the chain promises is in proofs/Chain.antt.
 use mathlib.Core.Path.{_≡_}
 use mathlib.Core.Logic.{_↔_}
-use Prim.Native.Nat.{ℕ, _+_, _*_, _/_, _<_, _≤_}
+use Prim.Native.Nat.{ℕ, zero, suc, _+_, _*_, _/_, _<_, _≤_}
 use mathlib.Core.List.{List, [], _∷_, _++_}
-use mathlib.Core.Bool.{true}
+use mathlib.Core.Bool.{true, false}
 use mathlib.Core.Option.{some}
-use lib.ListN.{length, getD, getElem?, take, drop}
+use lib.ListN.{length, getD, getElem?, take, drop, replicate}
 use Rattle.base_layout.specs.Bytes.{le, Bytes}
 use Rattle.base_layout.specs.First.{Line, first, Ordered}
-use Rattle.line_receiver.specs.Frames.{Frame}
+use Rattle.line_receiver.specs.Frames.{Frame, ends}
 use Rattle.module_rules.specs.Report.{itemsFor}
 use Rattle.module_rules.specs.Kind.{executed, replied}
 use Rattle.module_rules.specs.Slots.{slotSize}
 use Rattle.module_rules.specs.Rules.{reply, kindOf}
 use Rattle.module_rules.specs.Owes.{replySize}
-use Rattle.chain_rules.specs.Chain.{flat}
+use Rattle.chain_rules.specs.Chain.{Outcome, flat, addresses, taking}
 use Rattle.types_rules.specs.Table.{ModuleType, Of, rulesOf, slotsOf, LinesOf}
-use Rattle.types_rules.specs.Types.{slots, typeOfSlot, sampleFor}
-use Rattle.net_rules.specs.Record.{receiverSize, fillAt, commandAt, markedAt, chainMost, countAt, slotsAt, recordSize, roomSize, netIn, valid}
-use Rattle.net_rules.specs.Calls.{setUp, tenAt, tickStep, samplesFor}
+use Rattle.types_rules.specs.Types.{Module, kind, slots, typeOfSlot, sampleFor}
+use Rattle.net_rules.specs.Record.{receiverSize, fillAt, commandAt, markedAt, chainMost, countAt, slotsAt, recordSize, roomSize, bufferRoomSize, netIn, valid}
+use Rattle.net_rules.specs.Calls.{setUp, bytesOf, tenAt, tickStep, samplesFor}
 use Rattle.net_rules.specs.Promises.{There, Back}
 use Rattle.host_rules.specs.declared.Answered.{Answered}
 use Rattle.host_rules.specs.Reading.{statusOf}
 use Rattle.host_rules.specs.Promises.{shown}
-use Rattle.api_rules.specs.Table.{setupTable, byteTable, tickTable, placeTable}
-use Rattle.api_rules.specs.Calls.{setupRecord, stepOf, byteNumber, byteRecord, byteRoom, byteWritten, tickRecord, outputsBytes, causeByte, readingBytes}
+use Rattle.api_rules.specs.Table.{setupTable, byteTable, bufferTable, tickTable, placeTable}
+use Rattle.api_rules.specs.Calls.{setupRecord, stepOf, byteNumber, byteRecord, byteRoom, byteWritten, bufferOf, bufferRecord, bufferRoom, bufferWritten, tickRecord, outputsBytes, causeByte, readingBytes}
 
--- The tables have the order of document 01, "Numbers given back": 16, 11, 12, 13, 14, 15; and of document 02, P11: 20 stands before 13.
+-- The tables have the order of document 01, "Numbers given back": 16, 11, 12, 13, 14, 15; and of document 02, P2 and P11: 20 stands before 13 and 14.
 pub record Tables : Type 0 where
   pub setup : (net types : List ℕ) → Ordered (setupTable net types) (16 ∷ 11 ∷ 12 ∷ [])
   pub byte : (net : List ℕ) (mark : ℕ) (room : List ℕ) → Ordered (byteTable net mark room) (16 ∷ 14 ∷ 15 ∷ [])
+  pub buffer : (net bytes marks room : List ℕ) → Ordered (bufferTable net bytes marks room) (16 ∷ 20 ∷ 14 ∷ 15 ∷ [])
   pub tick : (net samples : List ℕ) → Ordered (tickTable net samples) (16 ∷ 20 ∷ 13 ∷ 14 ∷ [])
   pub place : (net : List ℕ) (place : ℕ) → Ordered (placeTable net place) (16 ∷ 13 ∷ [])
 
@@ -48,11 +49,18 @@ pub record Untouched (net : List ℕ) (mark byte : ℕ) (room : List ℕ) : Type
   pub roomKept : byteRoom net mark byte room ≡ room
   pub written : byteWritten net mark byte room ≡ 0
 
+-- what a refused buffer leaves
+pub record UntouchedBuffer (net bytes marks room : List ℕ) : Type 0 where
+  pub netKept : bufferRecord net bytes marks room ≡ net
+  pub roomKept : bufferRoom net bytes marks room ≡ room
+  pub written : bufferWritten net bytes marks room ≡ 0
+
 -- A call that its table refuses gives the table's number, leaves all that was lent as it was, and reports 0 bytes written. (The number of the
 -- calls other than the byte call is the table's by their contract.)
 pub record Unchanged : Type 0 where
   pub setup : (net types : List ℕ) → Refuses (setupTable net types) → setupRecord net types ≡ net
   pub byte : (net : List ℕ) (mark byte : ℕ) (room : List ℕ) → Refuses (byteTable net mark room) → Untouched net mark byte room
+  pub buffer : (net bytes marks room : List ℕ) → Refuses (bufferTable net bytes marks room) → UntouchedBuffer net bytes marks room
   pub tick : (net samples : List ℕ) → Refuses (tickTable net samples) → tickRecord net samples ≡ net
   pub outputs : (net : List ℕ) (place : ℕ) (bytes : List ℕ) → Refuses (placeTable net place) → outputsBytes net place bytes ≡ bytes
   pub cause : (net : List ℕ) (place byte : ℕ) → Refuses (placeTable net place) → causeByte net place byte ≡ byte
@@ -73,6 +81,7 @@ ValidRecord s = (valid slots s ≡ true) × Bytes s
 pub record Kept : Type 0 where
   pub setup : (net types : List ℕ) → Passes (setupTable net types) → ValidRecord (setupRecord net types)
   pub byte : (net : List ℕ) (mark byte : ℕ) (room : List ℕ) → byte < 256 → ValidRecord net → ValidRecord (byteRecord net mark byte room)
+  pub buffer : (net bytes marks room : List ℕ) → Bytes bytes → ValidRecord net → ValidRecord (bufferRecord net bytes marks room)
   pub tick : (net samples : List ℕ) → Bytes samples → ValidRecord net → ValidRecord (tickRecord net samples)
 
 -- After a call that was not refused the record holds the network that the step of the definitions makes of the one that it held.
@@ -83,6 +92,11 @@ pub record Holds : Type 0 where
       → Bytes net
       → Passes (byteTable net mark room)
       → netIn slots (byteRecord net mark byte room) ≡ stepOf net mark byte .net
+  pub buffer : (net bytes marks room : List ℕ)
+      → Bytes bytes
+      → Bytes net
+      → Passes (bufferTable net bytes marks room)
+      → netIn slots (bufferRecord net bytes marks room) ≡ bufferOf net bytes marks .net
   pub tick : (net samples : List ℕ)
       → Bytes samples
       → Bytes net
@@ -147,19 +161,77 @@ pub record Satisfies (s : List ℕ) : Type 0 where
 abbrev pub Listed : Type 0
 Listed = (s : List ℕ) → Bytes s → (valid slots s ≡ true) ↔ Satisfies s
 
--- A byte call that is not refused writes the replies at the room's start and reports their length; the rest of the room is as it was, and
--- a reply's greatest length for each module is always enough.
+-- A call with these refusals that replies with out: if it is not refused, out stands at the room's start and its length is reported; the rest of the
+-- room is as it was.
+pub record Put (ls : List Line) (out room left : List ℕ) (written : ℕ) : Type 0 where
+  pub reported : Passes ls → written ≡ length out
+  pub begins : Passes ls → take written left ≡ out
+  pub rest : drop written left ≡ drop written room
+  pub long : length left ≡ length room
+
+-- A byte call puts its replies so, and a reply's greatest length for each module is always enough.
 pub record Written (net : List ℕ) (mark byte : ℕ) (room : List ℕ) : Type 0 where
-  pub reported : Passes (byteTable net mark room) → byteWritten net mark byte room ≡ length (flat (stepOf net mark byte .replies))
-  pub begins : Passes (byteTable net mark room)
-      → take (byteWritten net mark byte room) (byteRoom net mark byte room) ≡ flat (stepOf net mark byte .replies)
-  pub rest : drop (byteWritten net mark byte room) (byteRoom net mark byte room) ≡ drop (byteWritten net mark byte room) room
-  pub long : length (byteRoom net mark byte room) ≡ length room
+  pub put : Put (byteTable net mark room) (flat (stepOf net mark byte .replies)) room (byteRoom net mark byte room) (byteWritten net mark byte room)
   pub short : byteWritten net mark byte room ≤ replySize * length (netIn slots net .modules)
   pub most : byteWritten net mark byte room ≤ roomSize
 
 abbrev pub WrittenRoom : Type 0
 WrittenRoom = (net : List ℕ) (mark byte : ℕ) (room : List ℕ) → Written net mark byte room
+
+-- So does a buffer, with the replies to all of its bytes one after another. At most 16 frames end in it, and its room is always enough for a reply of
+-- each module to each of them (02 P2).
+pub record WrittenBuffer (net bytes marks room : List ℕ) : Type 0 where
+  pub put :
+      Put (bufferTable net bytes marks room) (flat (bufferOf net bytes marks .replies)) room (bufferRoom net bytes marks room)
+      (bufferWritten net bytes marks room)
+  pub frames : Passes (bufferTable net bytes marks room) → ends (bytesOf bytes marks) (netIn slots net .receiver) ≤ 16
+  pub few : bufferWritten net bytes marks room ≤ replySize * length (netIn slots net .modules) * ends (bytesOf bytes marks) (netIn slots net .receiver)
+  pub most : bufferWritten net bytes marks room ≤ bufferRoomSize
+
+abbrev pub BufferWritten : Type 0
+BufferWritten = (net bytes marks room : List ℕ) → WrittenBuffer net bytes marks room
+
+-- some bytes so many times over
+abbrev pub times : ℕ → List ℕ → List ℕ
+times zero xs = []
+times (suc k) xs = xs ++ times k xs
+
+-- 02 P2: sixteen times the last byte of a No Op for address 1 and the first three bytes of the next: 64 bytes, none of them marked
+abbrev pub noOps : List ℕ
+noOps = times 16 (0x0F ∷ 0xAA ∷ 0x01 ∷ 0x0E ∷ [])
+
+abbrev pub unmarked : List ℕ
+unmarked = replicate 64 0
+
+-- this record is valid, it has 32 modules, and at it a room of 9,728 bytes is filled by the replies to the 16 frames that end in those bytes
+pub record Full (net room : List ℕ) : Type 0 where
+  pub valid : ValidRecord net
+  pub chain : length (netIn slots net .modules) ≡ 32
+  pub lent : length room ≡ 9728
+  pub passes : Passes (bufferTable net noOps unmarked room)
+  pub frames : ends (bytesOf noOps unmarked) (netIn slots net .receiver) ≡ 16
+  pub filled : bufferWritten net noOps unmarked room ≡ 9728
+
+-- There is such a record, of 32 servos that all have address 1 and show all items: so a buffer asks for no more room than it can need (02 P2).
+abbrev pub Reached : Type 0
+Reached = (net : List ℕ) × Full net (replicate 9728 0)
+
+-- 02 P2: Touching is judged for each frame of a buffer, when it ends: Set Address 1 and Set Address 2, both for address 0, in one buffer to two modules
+-- that are at power-up address the first as 1 and the second as 2, and draw a reply from each.
+pub record TwoAddressed (first second : ℕ) (o : Outcome Module) : Type 0 where
+  pub addressed : addresses kind (o .net .modules)
+      ≡ record { individual = 1; group = 255; leader = false; low = true }
+      ∷ record { individual = 2; group = 255; leader = false; low = true }
+      ∷ []
+  pub replied : flat (o .replies) ≡ first ∷ first ∷ second ∷ second ∷ []
+
+-- so a servo, whose status is then 0x11, and an I/O module behind it
+abbrev pub InOneBuffer : Type 0
+InOneBuffer =
+    TwoAddressed 0x11 0
+    (taking kind
+    (bytesOf (0xAA ∷ 0x00 ∷ 0x21 ∷ 0x01 ∷ 0xFF ∷ 0x21 ∷ 0xAA ∷ 0x00 ∷ 0x21 ∷ 0x02 ∷ 0xFF ∷ 0x22 ∷ []) (replicate 12 0))
+    (setUp (0 ∷ 2 ∷ [])))
 
 -- A byte that ends no frame, for which the call gives 0, changes no byte of the record but the receiver's, and none of the room.
 abbrev pub NoFrame : Type 0

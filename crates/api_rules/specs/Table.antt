@@ -1,4 +1,4 @@
--- The refusals of each call of a network, in the order of the table (document 01, "Numbers given back"; document 02, P1 and P11).
+-- The refusals of each call of a network, in the order of the table (document 01, "Numbers given back"; document 02, P1, P2 and P11).
 use Prim.Native.Nat.{ℕ}
 use mathlib.Core.List.{List, [], _∷_}
 use mathlib.Core.Bool.{not, _||_}
@@ -6,8 +6,8 @@ use lib.ListN.{length}
 use lib.Dec.{eqb, ltb}
 use Rattle.base_layout.specs.First.{Line}
 use Rattle.types_rules.specs.Types.{slots}
-use Rattle.net_rules.specs.Record.{chainMost, recordSize, roomSize, netIn, valid}
-use Rattle.net_rules.specs.Calls.{allKnown, listSize, allTyped, allInRange}
+use Rattle.net_rules.specs.Record.{chainMost, recordSize, roomSize, bufferMost, bufferRoomSize, netIn, valid}
+use Rattle.net_rules.specs.Calls.{allKnown, allMarks, listSize, allTyped, allInRange}
 
 -- 16: the record breaks the list of what a record satisfies, its length among it
 abbrev pub broken : List ℕ → Line
@@ -31,6 +31,16 @@ byteTable net mark room =
     broken net
     ∷ record { number = 14; applies = ltb 1 mark }
     ∷ record { number = 15; applies = ltb (length room) roomSize }
+    ∷ []
+
+-- 02 P2, a buffer of bytes with their marks: 16, 20 the two lists differ in length or are longer than 64, 14 any of the marks is neither 0 nor 1, 15 the
+-- room is under what a buffer needs, however few bytes there are
+abbrev pub bufferTable : List ℕ → List ℕ → List ℕ → List ℕ → List Line
+bufferTable net bytes marks room =
+    broken net
+    ∷ record { number = 20; applies = not (eqb (length bytes) (length marks)) || ltb bufferMost (length bytes) }
+    ∷ record { number = 14; applies = not (allMarks marks) }
+    ∷ record { number = 15; applies = ltb (length room) bufferRoomSize }
     ∷ []
 
 -- 02 P11, a tick with its list of samples: 16, 20 the list is not as long as the chain asks, 13 a sample is of another type than its module, 14 a

@@ -1,4 +1,4 @@
--- Each condition of the tables of refusals at its bounds, with the figures of document 01, "Numbers given back", and document 02, P11: what is given on either side
+-- Each condition of the tables of refusals at its bounds, with the figures of document 01, "Numbers given back", and document 02, P2 and P11: what is given on either side
 -- where no earlier line applies. Each promise is proved under its name, with small letters, in proofs/.
 use mathlib.Core.Path.{_≡_}
 use Prim.Native.Nat.{ℕ, _+_, _*_, _<_, _≤_}
@@ -15,7 +15,7 @@ use Rattle.types_rules.specs.Types.{Module, slots, typeOf}
 use Rattle.types_rules.specs.Promises.{ThereIs}
 use Rattle.net_rules.specs.Record.{netIn, valid}
 use Rattle.base_layout.specs.First.{first}
-use Rattle.api_rules.specs.Table.{setupTable, byteTable, tickTable, placeTable}
+use Rattle.api_rules.specs.Table.{setupTable, byteTable, bufferTable, tickTable, placeTable}
 use Rattle.api_rules.specs.Calls.{byteNumber}
 use Rattle.api_rules.specs.Promises.{Passes}
 
@@ -31,6 +31,7 @@ chainLength net = length (netIn slots net .modules)
 pub record Sixteen (net : List ℕ) : Type 0 where
   pub long : (length net ≡ 4116 → ⊥) → valid slots net ≡ false
   pub byte : (mark : ℕ) (room : List ℕ) → valid slots net ≡ false → first (byteTable net mark room) ≡ 16
+  pub buffer : (bytes marks room : List ℕ) → valid slots net ≡ false → first (bufferTable net bytes marks room) ≡ 16
   pub tick : (samples : List ℕ) → valid slots net ≡ false → first (tickTable net samples) ≡ 16
   pub place : (place : ℕ) → valid slots net ≡ false → first (placeTable net place) ≡ 16
 
@@ -66,6 +67,31 @@ pub record LineByte (net : List ℕ) (mark : ℕ) (room : List ℕ) : Type 0 whe
 
 abbrev pub ByteBounds : Type 0
 ByteBounds = (net : List ℕ) (mark : ℕ) (room : List ℕ) → valid slots net ≡ true → LineByte net mark room
+
+-- 02 P2, a buffer: as many marks as bytes and at most 64, else 20; every mark 0 or 1, wherever the first frame ends, else 14; a room of 9,728 bytes, else
+-- 15, also for no bytes at all.
+pub record Buffered (net bytes marks room : List ℕ) : Type 0 where
+  pub done : length bytes ≡ length marks
+      → length bytes ≤ 64
+      → ((i : ℕ) → i < length marks → getD marks i 0 ≤ 1)
+      → 9728 ≤ length room
+      → first (bufferTable net bytes marks room) ≡ 0
+  pub differ : (length bytes ≡ length marks → ⊥) → first (bufferTable net bytes marks room) ≡ 20
+  pub many : 65 ≤ length bytes → first (bufferTable net bytes marks room) ≡ 20
+  pub fourteen : length bytes ≡ length marks
+      → length bytes ≤ 64
+      → (i : ℕ)
+      → i < length marks
+      → 2 ≤ getD marks i 0
+      → first (bufferTable net bytes marks room) ≡ 14
+  pub fifteen : length bytes ≡ length marks
+      → length bytes ≤ 64
+      → ((i : ℕ) → i < length marks → getD marks i 0 ≤ 1)
+      → length room < 9728
+      → first (bufferTable net bytes marks room) ≡ 15
+
+abbrev pub BufferBounds : Type 0
+BufferBounds = (net bytes marks room : List ℕ) → valid slots net ≡ true → Buffered net bytes marks room
 
 -- a field out of range at place i of a tick's list: a servo's power above 2 or limit inputs above 3 (02 P8), an I/O module's input bits above 4,095, a
 -- step-motor module's stop input above 1

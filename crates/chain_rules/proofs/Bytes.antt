@@ -27,7 +27,7 @@ module _ {M S : Type 0} (K : Kind M S) where
   pub byte-taken : ByteTaken K
   byte-taken = (step-on, step-end)
 
-  number-is : (n : Net M) (b : Byte) → byteStep K n b .number ≡ numberOf (taken (n .receiver) (b .value) (b .mark) .answer)
+  pub number-is : (n : Net M) (b : Byte) → byteStep K n b .number ≡ numberOf (taken (n .receiver) (b .value) (b .mark) .answer)
   number-is n b = go (taken (n .receiver) (b .value) (b .mark) .answer) refl
     where
       r : Receiver

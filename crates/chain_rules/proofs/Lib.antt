@@ -3,3 +3,4 @@ pub mod Replies
 pub mod Bytes
 pub mod Along
 pub mod Timing
+pub mod Taking

@@ -100,6 +100,20 @@ byteStep K n b =
       | Ended d ↦ frameStep K (frameIn (n .receiver) d) (t .next) (n .modules)
     ]
 
+-- the network then, and all replies with their places, the earliest first
+pub record Outcome (M : Type 0) : Type 0 where
+  pub net : Net M
+  pub replies : List Reply
+
+-- an outcome, with replies that came before it
+abbrev pub after : {M : Type 0} → List Reply → Outcome M → Outcome M
+after earlier o = record { net = o .net; replies = earlier ++ o .replies }
+
+-- 02 P2: bytes one after another, by the step that the byte call is proved against
+abbrev pub taking : {M S : Type 0} → Kind M S → List Byte → Net M → Outcome M
+taking K [] n = record { net = n; replies = [] }
+taking K (b ∷ bs) n = after (byteStep K n b .replies) (taking K bs (byteStep K n b .net))
+
 -- 02 P11: a tick with a list of samples, a module's own at its place in the chain; without one a module is left as it is
 abbrev pub timed : {M S : Type 0} → Kind M S → List S → List M → List M
 timed K xs [] = []

@@ -1,19 +1,19 @@
 -- What is promised of any chain, whatever its module type. Each is proved under its name, with small letters, in proofs/.
 use mathlib.Core.Path.{_≡_}
-use Prim.Native.Nat.{ℕ, suc, _≤_}
-use mathlib.Core.List.{List, [], _∷_, map}
+use Prim.Native.Nat.{ℕ, suc, _*_, _≤_}
+use mathlib.Core.List.{List, [], _∷_, _++_, map}
 use mathlib.Core.Bool.{Bool, true, false, cond, _&&_}
 use mathlib.Core.Option.{Option, some, none, Option·map}
 use lib.ListN.{length, getElem?}
 use Rattle.line_receiver.specs.declared.Receiver.{Receiver}
 use Rattle.line_receiver.specs.declared.Answer.the-variants.{Ended}
 use Rattle.line_receiver.specs.Receive.{total, waits, taken}
-use Rattle.line_receiver.specs.Frames.{Byte, Frame, frameIn}
+use Rattle.line_receiver.specs.Frames.{Byte, Frame, frameIn, ends}
 use Rattle.line_receiver.specs.Promises.{Numbered}
 use Rattle.module_rules.specs.declared.Address.{Address}
 use Rattle.module_rules.specs.Touch.{named}
 use Rattle.module_rules.specs.Kind.{Kind, executed, replied}
-use Rattle.chain_rules.specs.Chain.{Net, Reply, flat, join, repliesOf, once, addresses, touched, enabledAt, handed, said, repliesFrom, frameStep, byteStep, timed}
+use Rattle.chain_rules.specs.Chain.{Net, Reply, flat, join, repliesOf, once, addresses, touched, enabledAt, handed, said, repliesFrom, frameStep, byteStep, taking, timed}
 
 -- After a frame the module at place i is the one that was there, executed exactly if the addresses before the frame say that it is touched.
 abbrev pub TouchedBefore : {M S : Type 0} → Kind M S → Type 0
@@ -124,6 +124,20 @@ ByteTaken {M} K =
 -- The number of a byte tells what it ended: 0 nothing, 1 an undamaged frame, 2 a damaged one (01 Numbers given back).
 abbrev pub NumberTold : {M S : Type 0} → Kind M S → Type 0
 NumberTold {M} K = (n : Net M) (b : Byte) → Numbered (taken (n .receiver) (b .value) (b .mark) .answer) (byteStep K n b .number)
+
+-- 02 P2: Bytes one after another: none change nothing, one does what its step does, and where they are cut does not matter: in two parts they make of
+-- a network what they make in one, and the replies to the first part come before those to the second.
+pub record InParts {M S : Type 0} (K : Kind M S) : Type 0 where
+  pub none : (n : Net M) → taking K [] n ≡ record { net = n; replies = [] }
+  pub one : (b : Byte) (n : Net M) → taking K (b ∷ []) n ≡ record { net = byteStep K n b .net; replies = byteStep K n b .replies }
+  pub net : (xs ys : List Byte) (n : Net M) → taking K (xs ++ ys) n .net ≡ taking K ys (taking K xs n .net) .net
+  pub replies : (xs ys : List Byte) (n : Net M) → taking K (xs ++ ys) n .replies ≡ taking K xs n .replies ++ taking K ys (taking K xs n .net) .replies
+
+-- 02 P2: Where no module's reply is longer than k, all replies to some bytes are no longer than that for each module and each frame that ends.
+abbrev pub FewReplies : {M S : Type 0} → Kind M S → Type 0
+FewReplies {M} K =
+    (k : ℕ) → ((f : Frame) (m : M) → length (replied K f m) ≤ k)
+    → (bs : List Byte) (n : Net M) → length (flat (taking K bs n .replies)) ≤ k * length (n .modules) * ends bs (n .receiver)
 
 -- the module at a place after a tick, by the sample at that place of the list
 abbrev pub handedIn : {M S : Type 0} → Kind M S → Option S → M → M

@@ -11,9 +11,9 @@ use Rattle.line_receiver.specs.Frames.{Byte, Frame, frameIn}
 use Rattle.module_rules.specs.declared.Address.{Address}
 use Rattle.module_rules.specs.Touch.{individually, named, speaks}
 use Rattle.module_rules.specs.Kind.{Kind, executed, replied, Lined, Along}
-use Rattle.chain_rules.specs.Chain.{Net, Step, handed, said, repliesFrom, byteStep, timed}
+use Rattle.chain_rules.specs.Chain.{Net, Step, handed, said, repliesFrom, byteStep, timed, Outcome, after, taking}
 use Rattle.chain_rules.proofs.Bytes.{step-on, step-end}
-use Rattle.demands_history_rules.specs.Events.{Event, sent, ticked, Outcome, after, taking, event, run, each, RunsAlong}
+use Rattle.demands_history_rules.specs.Events.{Event, sent, ticked, event, run, each, RunsAlong}
 
 -- an outcome without replies
 abbrev pub silently : {M : Type 0} → Receiver → List M → Outcome M

@@ -48,5 +48,5 @@ passed-leaves net (tick samples) h v p = holds .tick net samples h (v .1) p
 
 pub passed-writes : (net : List ℕ) (c : Call) → Passes (refusals net c) → writes net c ≡ flat (event kind (does (netIn slots net) c) (netIn slots net) .replies)
 passed-writes net (byte mark x room) p =
-    written-room net mark x room .begins p ∙ ap flat (sym (append-nil (stepOf net mark x .replies)))
+    written-room net mark x room .put .begins p ∙ ap flat (sym (append-nil (stepOf net mark x .replies)))
 passed-writes net (tick samples) p = refl

@@ -14,13 +14,13 @@ use Rattle.line_receiver.specs.Frames.{Byte, Frame, Reading, waiting, ended, re
 use Rattle.line_receiver.proofs.Holding.{reads-on, reads-end}
 use Rattle.line_receiver.proofs.Marked.{marked}
 use Rattle.module_rules.specs.Kind.{Kind, executed, replied}
-use Rattle.chain_rules.specs.Chain.{Net, Reply, Step, repliesOf, once, addresses, touched, handed, said, repliesFrom}
+use Rattle.chain_rules.specs.Chain.{Net, Reply, Step, repliesOf, once, addresses, touched, handed, said, repliesFrom, Outcome, after, taking}
 use Rattle.chain_rules.specs.Promises.{handedIn}
 use Rattle.chain_rules.proofs.Touching.{touched-before}
 use Rattle.chain_rules.proofs.Timing.{own-sample}
 use Rattle.chain_rules.proofs.Replies.{replies-are}
 use Rattle.chain_rules.proofs.Bytes.{step-on, step-end}
-use Rattle.demands_history_rules.specs.Events.{Event, sent, ticked, Outcome, after, taking, event, Reads, FramesAreWhole, ofFrame, ownTick, met, alone, aloneReplies}
+use Rattle.demands_history_rules.specs.Events.{Event, sent, ticked, event, Reads, FramesAreWhole, ofFrame, ownTick, met, alone, aloneReplies}
 
 pub frames-are-whole : FramesAreWhole
 frames-are-whole address command ds last h e = (_, marked address command ds last h e)

@@ -12,7 +12,7 @@ use Rattle.line_receiver.specs.Receive.{taken}
 use Rattle.line_receiver.specs.Frames.{Byte, Frame, frameIn}
 use Rattle.module_rules.specs.Touch.{named}
 use Rattle.module_rules.specs.Kind.{Kind, executed, Lined}
-use Rattle.chain_rules.specs.Chain.{Net, Step, handed, byteStep, timed, changed}
+use Rattle.chain_rules.specs.Chain.{Net, Step, handed, byteStep, timed, changed, Outcome, after, taking}
 use Rattle.chain_rules.proofs.Bytes.{step-on, step-end}
 use Rattle.types_rules.specs.Types.{Module, AnySample, kind, slots}
 use Rattle.net_rules.specs.Record.{netIn}
@@ -20,7 +20,7 @@ use Rattle.net_rules.specs.Calls.{samplesFor, tickStep}
 use Rattle.net_rules.proofs.Listed.{length-samples}
 use Rattle.api_rules.proofs.Kept.{holds}
 use Rattle.demands_history_rules.specs.Events as New
-use Rattle.demands_history_rules.specs.Events.{Event, Outcome, after, taking, run}
+use Rattle.demands_history_rules.specs.Events.{Event, run}
 use Rattle.demands_history_rules.specs.Older.{Beside, sampledBy, tickedBeside, olderKind, Older, sent, sampled, ticked, olderEvent, olderRun, plain, waitingIn, gathered, Together, sampledFrom, SamplesThenTick, TheLater, AsBefore}
 use Rattle.demands_history_rules.proofs.Along.{taking-along}
 

@@ -1,16 +1,13 @@
 -- A history a byte at a time makes of a network what it makes of it frame by frame. Assumes nothing.
 use mathlib.Core.Path.{_≡_, refl, sym, ap, _∙_}
-use mathlib.Core.List.{List, [], _∷_, _++_, map, append-nil, append-assoc}
+use mathlib.Core.List.{List, [], _∷_, _++_, map, append-nil}
 use Rattle.line_receiver.specs.Frames.{Byte}
 use Rattle.module_rules.specs.Kind.{Kind}
-use Rattle.chain_rules.specs.Chain.{Net, Reply, byteStep}
-use Rattle.demands_history_rules.specs.Events.{Event, sent, ticked, Outcome, after, taking, event, run, singly}
+use Rattle.chain_rules.specs.Chain.{Net, Reply, byteStep, after, taking}
+use Rattle.chain_rules.proofs.Taking.{after-after}
+use Rattle.demands_history_rules.specs.Events.{Event, sent, ticked, event, run, singly}
 
 module _ {M S : Type 0} (K : Kind M S) where
-  -- replies in front of replies in front of an outcome
-  after-after : (x y : List Reply) (o : Outcome M) → after (x ++ y) o ≡ after x (after y o)
-  after-after x y o = ap (λ (l : List Reply). record { net = o .net; replies = l }) (append-assoc x y (o .replies))
-
   -- bytes one by one, before more of a history
   bytes-singly : (bs : List Byte) (h : List (Event (List S))) (n : Net M)
       → run K (map (λ (b : Byte). sent (b ∷ [])) bs ++ h) n ≡ after (taking K bs n .replies) (run K h (taking K bs n .net))

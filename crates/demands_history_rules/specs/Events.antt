@@ -10,26 +10,12 @@ use Rattle.line_receiver.specs.Receive.{idle}
 use Rattle.line_receiver.specs.Frames.{Byte, Frame, waiting, ended, reads, header}
 use Rattle.module_rules.specs.declared.Address.{Address}
 use Rattle.module_rules.specs.Kind.{Kind, executed, replied, Along}
-use Rattle.chain_rules.specs.Chain.{Net, Reply, once, addresses, touched, byteStep, timed}
+use Rattle.chain_rules.specs.Chain.{Net, once, addresses, touched, Outcome, after, taking, timed}
 
 -- what happens: the bytes of a frame come, or a tick with what it carries. A network's tick carries a list of samples, a module's its own (02 P11).
 pub data Event (T : Type 0) : Type 0 where
   sent : List Byte → Event T
   ticked : T → Event T
-
--- the network then, and all replies with their places, the earliest first
-pub record Outcome (M : Type 0) : Type 0 where
-  pub net : Net M
-  pub replies : List Reply
-
--- an outcome, with replies that came before it
-abbrev pub after : {M : Type 0} → List Reply → Outcome M → Outcome M
-after earlier o = record { net = o .net; replies = earlier ++ o .replies }
-
--- bytes one after another, by the step that the byte call is proved against
-abbrev pub taking : {M S : Type 0} → Kind M S → List Byte → Net M → Outcome M
-taking K [] n = record { net = n; replies = [] }
-taking K (b ∷ bs) n = after (byteStep K n b .replies) (taking K bs (byteStep K n b .net))
 
 -- an event: a tick changes every module, each by its own sample
 abbrev pub event : {M S : Type 0} → Kind M S → Event (List S) → Net M → Outcome M

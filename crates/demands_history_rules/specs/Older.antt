@@ -6,7 +6,7 @@ use mathlib.Core.List.{List, [], _∷_, _++_, map}
 use lib.ListN.{length}
 use Rattle.line_receiver.specs.Frames.{Byte}
 use Rattle.module_rules.specs.Kind.{Kind}
-use Rattle.chain_rules.specs.Chain.{Net, changed}
+use Rattle.chain_rules.specs.Chain.{Net, changed, Outcome, after, taking}
 use Rattle.types_rules.specs.Types.{Module, AnySample, kind, slots}
 use Rattle.net_rules.specs.Record.{netIn}
 use Rattle.net_rules.specs.Calls.{samplesFor}
@@ -15,7 +15,7 @@ use Rattle.api_rules.specs.Table.{tickTable}
 use Rattle.api_rules.specs.Calls.{tickRecord}
 use Rattle.api_rules.specs.Promises.{Passes}
 use Rattle.demands_history_rules.specs.Events as New
-use Rattle.demands_history_rules.specs.Events.{Event, Outcome, after, taking, event, run, each}
+use Rattle.demands_history_rules.specs.Events.{Event, event, run, each}
 
 -- 01 Servo, I/O module, Sample: a module beside the sample that waits for its next tick
 pub record Beside (M S : Type 0) : Type 0 where

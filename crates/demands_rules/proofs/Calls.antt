@@ -1,17 +1,14 @@
 -- Any calls. Assumes nothing.
 use mathlib.Core.Path.{_≡_, refl, sym, ap, ap₂, _∙_}
 use mathlib.Core.Logic.{_⊎_, inl, inr}
-use mathlib.Core.List.{List, [], _∷_, _++_, append-assoc}
-use Prim.Native.Nat.{ℕ, _≤_}
-use native.Mathlib.Omega.{arith}
-use lib.ListN.{length, length-map}
+use mathlib.Core.List.{List, [], _∷_, _++_}
+use Prim.Native.Nat.{ℕ}
 use Rattle.chain_rules.specs.Chain.{Net, Reply, flat}
+use Rattle.chain_rules.proofs.Taking.{flat-append}
 use Rattle.types_rules.specs.Types.{Module, AnySample, kind, slots}
 use Rattle.types_rules.proofs.Laws.{lawful}
-use Rattle.net_rules.specs.Record.{chainMost, netIn, stored}
-use Rattle.net_rules.proofs.Valid.{valid-is}
-use Rattle.net_rules.proofs.Stored as Stored
-use Rattle.net_rules.proofs.Stored.{there, stored-twice}
+use Rattle.net_rules.specs.Record.{netIn, stored}
+use Rattle.net_rules.proofs.Stored.{there}
 use Rattle.api_rules.specs.Table.{byteTable, tickTable}
 use Rattle.api_rules.specs.Calls.{byteRecord, tickRecord}
 use Rattle.api_rules.specs.Promises.{ValidRecord, Refuses, Passes}
@@ -20,16 +17,12 @@ use Rattle.api_rules.proofs.Refused.{refused, done}
 use Rattle.demands_history_rules.specs.Events.{Event, event, run}
 use Rattle.demands_history_rules.specs.Calls.{Call, byte, tick, AllHanded, refusals, leaves, leftBy, writes, writtenBy, does, doneBy}
 use Rattle.demands_history_rules.proofs.Calls.{passes?, call-kept, refused-leaves, refused-writes, passed-leaves, passed-writes}
-use Rattle.demands_rules.proofs.Types.{typeOf, types, event-types, call-types, same-sizes}
+use Rattle.net_rules.proofs.Types.{types, stored-over}
+use Rattle.demands_rules.proofs.Types.{event-types, call-types}
 use Rattle.demands_rules.specs.Motion.{FromSetup, AnyCalls, RefusedIsNoStep}
 
 pub from-setup : FromSetup
 from-setup net types p = (kept .setup net types p, holds .setup net types p)
-
-flat-append : (xs ys : List Reply) → flat (xs ++ ys) ≡ flat xs ++ flat ys
-flat-append [] ys = refl
-flat-append (x ∷ xs) ys =
-    ap (λ (l : List ℕ). x .bytes ++ l) (flat-append xs ys) ∙ sym (append-assoc (x .bytes) (flat xs) (flat ys))
 
 -- the events of a list of calls, by whether the first is refused
 pub done-passed : (c : Call) (cs : List Call) (net : List ℕ) → Passes (refusals net c) → doneBy (c ∷ cs) net ≡ does (netIn slots net) c ∷ doneBy cs (leaves net c)
@@ -63,20 +56,15 @@ left-by net c v = at (passes? (refusals net c))
     at (inl p) = record { net′ = event kind (does (netIn slots net) c) (netIn slots net) .net; types = event-types c (netIn slots net); left = passed-stored net c p }
     at (inr r) = same (refused-leaves net c r)
 
--- as many modules as there are types
-as-many : (ms ns : List Module) → types ms ≡ types ns → length ns ≤ chainMost → length ms ≤ chainMost
-as-many ms ns e h = let q : length ms ≡ length ns = sym (length-map ms typeOf) ∙ ap length e ∙ length-map ns typeOf in omega arith
-
 -- a network of the same types, written into the record after any calls, is as if written into the record before them
 written-after : (net : List ℕ) (cs : List Call) (n : Net Module) → ValidRecord net → AllHanded cs → types (n .modules) ≡ types (netIn slots net .modules)
     → stored slots n (leftBy cs net) ≡ stored slots n net
 written-after net [] n v h e = refl
 written-after net (c ∷ cs) n v h e =
     let l = left-by net c v in
-    let most : length (netIn slots net .modules) ≤ chainMost = Stored.holds lawful net (v .1) (v .0) .most in
     written-after (leaves net c) cs n (call-kept net c (h .0) v) (h .1) (e ∙ sym (call-types net c (h .0) v))
     ∙ ap (stored slots n) (l .left)
-    ∙ stored-twice lawful (l .net′) n net (valid-is slots net (v .0) .size) (as-many (l .net′ .modules) (netIn slots net .modules) (l .types) most) (as-many (n .modules) (netIn slots net .modules) e most) (same-sizes (l .net′ .modules) (n .modules) (l .types ∙ sym e))
+    ∙ stored-over (l .net′) n net (v .1) (v .0) (l .types) e
 
 -- ---- any calls
 

@@ -28,7 +28,8 @@ use Rattle.demands_history_rules.specs.Events.{event}
 use Rattle.demands_history_rules.specs.Calls.{Call, byte, tick, Handed, AllHanded, refusals, leaves, leftBy, does}
 use Rattle.demands_history_rules.proofs.Calls.{call-kept, passed-leaves}
 use Rattle.demands_rules.specs.Place.{ticksOf, ticksIn}
-use Rattle.demands_rules.proofs.Types.{typeOf, types, call-types, of-type}
+use Rattle.net_rules.proofs.Types.{typeOf, types}
+use Rattle.demands_rules.proofs.Types.{call-types, of-type}
 use Rattle.demands_rules.proofs.OnTheLine.{small, byte-goes}
 
 -- a servo alone on the line

@@ -91,7 +91,7 @@ every-call = record {
 -- ---- histories of calls
 
 -- a servo at rest sets out by a load's start alone
-sets-out : SettingOut servo AtRest LoadStarts
+pub sets-out : SettingOut servo AtRest LoadStarts
 sets-out = record {
   undamaged = load-undamaged;
   frame = λ f alone m t r. at (execute f alone m) (frame-rests f alone m t (rests-resting m r));

@@ -16,7 +16,7 @@ use Rattle.line_receiver.specs.Receive.{taken}
 use Rattle.line_receiver.specs.Frames.{Byte, Frame, reads, clean, written, values, AreBytes}
 use Rattle.module_rules.specs.Commands.{asked}
 use Rattle.module_rules.specs.Rules as Any
-use Rattle.chain_rules.specs.Chain.{Net, addresses, touched, byteStep}
+use Rattle.chain_rules.specs.Chain.{Net, addresses, touched, byteStep, Outcome}
 use Rattle.servo_motion.specs.Trapezoid.{terms, stop, pick, greatest, nextSpeed}
 use Rattle.servo_motion.specs.Setpoint.{distance, moved}
 use Rattle.servo_motion.specs.Velocity.{toward}
@@ -59,7 +59,7 @@ use Rattle.demands_rules.proofs.Sent.{what-moves-was-sent}
 use Rattle.demands_rules.proofs.EveryCall.{every-call, never}
 use Rattle.demands_rules.proofs.OnTheLine.{small, fed-handed, fed-done}
 use Rattle.demands_rules.proofs.ServoQuestion.{question-on-the-line}
-use Rattle.demands_rules.proofs.Types.{types as typesOf}
+use Rattle.net_rules.proofs.Types.{types as typesOf}
 use Rattle.demands_rules.proofs.Computing.{Lone, atPower, tick-goes, power-bytes}
 
 -- ---- a servo and frames for it
@@ -243,7 +243,7 @@ module _ (orders : List Byte) (small : AreBytes (values orders)) where
   ends-with =
       any-calls lent (calls orders) valid are-handed .network
       ∙ ap (λ (l : List (Event (List AnySample))). run kind l (netIn slots lent) .net) all-done
-      ∙ ap (λ (o : Events.Outcome Module). o .net) (run-singly kind (happens orders) (netIn slots lent))
+      ∙ ap (λ (o : Outcome Module). o .net) (run-singly kind (happens orders) (netIn slots lent))
       ∙ ap (λ (n : Net Module). run kind (happens orders) n .net) held
 
   ends-in : (gone : Servo) → getElem? (run kind (happens orders) (setUp types) .net .modules) 0 ≡ some (servo, gone) → At (leftBy (calls orders) lent) 0 gone

@@ -18,6 +18,7 @@ pub mod Question
 pub mod Order
 pub mod OnTheLine
 pub mod ServoQuestion
+pub mod Buffers
 pub mod Dipping
 pub mod HomingRun
 pub mod Winding

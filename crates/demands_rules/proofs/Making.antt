@@ -35,7 +35,8 @@ use Rattle.api_rules.proofs.Refused.{refused, done}
 use Rattle.demands_history_rules.specs.Calls.{Call, byte, tick, Handed, refusals, leaves}
 use Rattle.demands_history_rules.proofs.Calls.{passes?, refused-leaves, passed-leaves}
 use Rattle.demands_rules.specs.Place.{AtOf, sampleAt, inTime}
-use Rattle.demands_rules.proofs.Types.{typeOf, call-types, own-same, of-type}
+use Rattle.net_rules.proofs.Types.{typeOf}
+use Rattle.demands_rules.proofs.Types.{call-types, own-same, of-type}
 
 -- the call ends no frame that touches place i
 abbrev pub Silent : List ℕ → ℕ → Call → Type 0

@@ -3,12 +3,13 @@ use mathlib.Core.Path.{_≡_, refl, sym, ap, ap₂, _∙_}
 use mathlib.Core.List.{List, [], _∷_, map}
 use Prim.Native.Nat.{ℕ}
 use Rattle.line_receiver.specs.Receive.{idle}
+use Rattle.chain_rules.specs.Chain.{Outcome}
 use Rattle.types_rules.specs.Table.{ModuleType, servo, inout, stepper, rulesOf}
 use Rattle.types_rules.specs.Types.{Module, typeIn, kind, powered}
 use Rattle.types_rules.specs.Numbering.{asOlder, olderKind}
 use Rattle.types_rules.proofs.Numbering.{renumbered}
 use Rattle.net_rules.specs.Calls.{setUp}
-use Rattle.demands_history_rules.specs.Events.{Outcome, run}
+use Rattle.demands_history_rules.specs.Events.{run}
 use Rattle.demands_history_rules.proofs.Along.{runs-along}
 use Rattle.demands_rules.specs.Numbering.{OnlyTheNumber}
 

@@ -15,14 +15,14 @@ use Rattle.module_rules.specs.declared.Address.{Address}
 use Rattle.module_rules.specs.Touch.{individually}
 use Rattle.module_rules.specs.Kind.{executed}
 use Rattle.module_rules.specs.Rules.{execute}
-use Rattle.chain_rules.specs.Chain.{Net, addresses, touched}
+use Rattle.chain_rules.specs.Chain.{Net, addresses, touched, Outcome, taking}
 use Rattle.chain_rules.proofs.Touching.{touched-before}
 use Rattle.types_rules.specs.Table.{ModuleType, Of, rulesOf}
 use Rattle.types_rules.specs.Types.{Module, AnySample, kind, slots}
 use Rattle.net_rules.specs.Record.{roomSize, netIn, valid}
 use Rattle.net_rules.specs.Calls.{byteOf}
 use Rattle.api_rules.specs.Promises.{ValidRecord, Passes}
-use Rattle.demands_history_rules.specs.Events.{Event, sent, Outcome, taking, run, Reads, singly}
+use Rattle.demands_history_rules.specs.Events.{Event, sent, run, Reads, singly}
 use Rattle.demands_history_rules.specs.Calls.{Call, byte, AllHanded, refusals, leaves, leftBy, doneBy}
 use Rattle.demands_history_rules.proofs.Events.{whole-event, event-idle}
 use Rattle.demands_history_rules.proofs.Singly.{run-singly}

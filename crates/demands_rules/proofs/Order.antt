@@ -12,13 +12,13 @@ use Rattle.line_receiver.specs.Frames.{Byte, Frame}
 use Rattle.module_rules.specs.declared.Address.{Address}
 use Rattle.module_rules.specs.Touch.{named}
 use Rattle.module_rules.specs.Kind.{Kind, executed}
-use Rattle.chain_rules.specs.Chain.{Net, repliesOf, addresses, touched, handed, timed}
+use Rattle.chain_rules.specs.Chain.{Net, repliesOf, addresses, touched, handed, timed, Outcome}
 use Rattle.module_rules.specs.declared.Station.{Station}
 use Rattle.types_rules.specs.Types.{Module, AnySample, kind, slots}
 use Rattle.types_rules.proofs.Promised.{every-type}
 use Rattle.types_rules.proofs.Kept.{given-address}
 use Rattle.net_rules.specs.Record.{netIn, stored}
-use Rattle.demands_history_rules.specs.Events.{Event, sent, ticked, Outcome, event, run, Reads, Harmless, Ordinary, singly, ownTick, met, metBy, metInTurn, alone, aloneReplies}
+use Rattle.demands_history_rules.specs.Events.{Event, sent, ticked, event, run, Reads, Harmless, Ordinary, singly, ownTick, met, metBy, metInTurn, alone, aloneReplies}
 use Rattle.demands_history_rules.specs.Calls.{Call, tick, doneBy}
 use Rattle.demands_rules.specs.Order.{EachAlone, MeetsTheSame, EndsTheSame, KeepsAddress, OrderDoesNotMatter, OrderOfAll, OfAnyKind, Product, ByCalls, OwnTicks}
 use Rattle.demands_history_rules.proofs.Events.{of-frame, below, fromSome, whole-event, event-idle}

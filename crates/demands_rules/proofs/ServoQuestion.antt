@@ -36,7 +36,7 @@ unready m (inr e) =
     ap (λ (t : Bool). m .settings .load .waits && t && ready m) e ∙ ap (λ (t : Bool). t && ready m) (and-false (m .settings .load .waits))
 
 -- what a servo hands in
-loads : Loading servo needed NoneReady NoLoad
+pub loads : Loading servo needed NoneReady NoLoad
 loads = record {
   start = Start;
   miscounted = short-asks;

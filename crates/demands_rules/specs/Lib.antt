@@ -8,6 +8,7 @@ pub mod Loaded
 pub mod Sent
 pub mod Meaning
 pub mod Order
+pub mod Buffers
 pub mod Quickest
 pub mod Numbering
 pub mod Causes

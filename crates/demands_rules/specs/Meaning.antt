@@ -10,7 +10,7 @@ use Rattle.line_receiver.specs.Receive.{idle}
 use Rattle.line_receiver.specs.Frames.{Frame, ended, reads, clean, after}
 use Rattle.line_receiver.specs.Promises as Line
 use Rattle.module_rules.specs.Promises.{Replied}
-use Rattle.chain_rules.specs.Chain.{Net, addresses, handed, said, repliesFrom}
+use Rattle.chain_rules.specs.Chain.{Net, addresses, handed, said, repliesFrom, Outcome, taking}
 use Rattle.inout_rules.specs.Promises.{ReadValue, Shown}
 use Rattle.servo_motion.specs.declared.Profile.{Profile}
 use Rattle.servo_motion.specs.Profile.{left, byTrapezoid, byVelocity, speeds}
@@ -36,7 +36,6 @@ use Rattle.types_rules.specs.Types.{Module, kind}
 use Rattle.net_rules.specs.Calls.{setUp}
 use Rattle.host_rules.specs.Writing.{writtenOf, roomAfter}
 use Rattle.api_rules.specs.Promises.{StatusRead}
-use Rattle.demands_history_rules.specs.Events.{Outcome, taking}
 
 -- an undamaged frame
 abbrev pub frame : ℕ → ℕ → List ℕ → Frame

@@ -8,14 +8,14 @@ use lib.ListN.{length, getElem?}
 use Rattle.line_receiver.specs.Receive.{idle}
 use Rattle.line_receiver.specs.Frames.{Byte, Frame}
 use Rattle.module_rules.specs.Kind.{Kind}
-use Rattle.chain_rules.specs.Chain.{Net, repliesOf, addresses, touched}
+use Rattle.chain_rules.specs.Chain.{Net, repliesOf, addresses, touched, Outcome}
 use Rattle.types_rules.specs.Types.{Module, AnySample, kind, slots}
 use Rattle.net_rules.specs.Record.{netIn}
 use Rattle.net_rules.specs.Calls.{outputsAt}
 use Rattle.base_layout.specs.First.{first}
 use Rattle.api_rules.specs.Table.{tickTable}
 use Rattle.api_rules.specs.Promises.{Refuses, ValidRecord}
-use Rattle.demands_history_rules.specs.Events.{Event, sent, ticked, Outcome, run, Reads, Harmless, Whole, Ordinary, singly, metBy, metInTurn, alone, aloneReplies}
+use Rattle.demands_history_rules.specs.Events.{Event, sent, ticked, run, Reads, Harmless, Whole, Ordinary, singly, metBy, metInTurn, alone, aloneReplies}
 use Rattle.demands_history_rules.specs.Calls.{Call, tick, AllHanded, leftBy, doneBy}
 
 -- Each alone: after any whole frames and ticks a module's record and replies are what it makes by itself of what it met: the frames that touched it, and

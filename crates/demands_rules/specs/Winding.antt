@@ -5,7 +5,7 @@ use Prim.Native.Nat.{ℕ, suc, _-_, _^_}
 use mathlib.Core.List.{List, [], _∷_, _++_}
 use mathlib.Core.Bool.{true}
 use Rattle.line_receiver.specs.Frames.{Frame, clean, written}
-use Rattle.chain_rules.specs.Chain.{flat}
+use Rattle.chain_rules.specs.Chain.{flat, taking}
 use Rattle.servo_rules.specs.declared.Sample.{Sample}
 use Rattle.servo_rules.specs.declared.Servo.{Servo}
 use Rattle.servo_rules.specs.Answers.{typeNumber}
@@ -13,7 +13,7 @@ use Rattle.servo_rules.specs.CutPromises.{Blanks}
 use Rattle.types_rules.specs.Types.{kind}
 use Rattle.net_rules.specs.Calls.{setUp}
 use Rattle.api_rules.specs.Promises.{ValidRecord}
-use Rattle.demands_history_rules.specs.Events.{taking, run}
+use Rattle.demands_history_rules.specs.Events.{run}
 use Rattle.demands_history_rules.specs.Calls.{Call, AllHanded, leftBy}
 use Rattle.demands_rules.specs.ServoPlace.{At, Stands, Executed, Ticked}
 use Rattle.demands_rules.specs.Meaning.{gives, Holds}

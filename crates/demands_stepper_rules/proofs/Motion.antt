@@ -23,7 +23,8 @@ use Rattle.demands_rules.specs.SettingOut.{CallStarts}
 use Rattle.demands_rules.proofs.Making.{same-place, fits-at, made, was-there, set-up-is}
 use Rattle.demands_rules.proofs.Placing.{call-at, valid-after}
 use Rattle.demands_rules.proofs.SettingOut as Any
-use Rattle.demands_stepper_rules.specs.Motion.{Rests, Moves, Starts, EveryCall, Never, NeverFromSetup, StopInputEnds}
+use Rattle.demands_rules.proofs.Buffers.{never-of-any-type}
+use Rattle.demands_stepper_rules.specs.Motion.{Rests, Moves, Starts, EveryCall, Never, NeverFromSetup, NeverInBuffers, StopInputEnds}
 use Rattle.demands_stepper_rules.proofs.Starting.{sets-out}
 
 -- a call starts a module that is at rest, or leaves it there
@@ -54,6 +55,9 @@ never = Any.never stepper Rests Starts sets-out
 
 pub never-from-setup : NeverFromSetup
 never-from-setup = Any.never-from-setup stepper Rests Starts sets-out
+
+pub never-in-buffers : NeverInBuffers
+never-in-buffers = never-of-any-type stepper Rests Starts sets-out
 
 -- ---- the stop input
 

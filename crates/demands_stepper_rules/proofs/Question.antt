@@ -23,8 +23,9 @@ use Rattle.types_rules.specs.Table.{stepper}
 use Rattle.demands_rules.specs.Question.{Loading}
 use Rattle.demands_rules.proofs.Question as Any
 use Rattle.demands_rules.proofs.OnTheLine as Line
+use Rattle.demands_rules.proofs.Buffers.{question-of-any-type}
 use Rattle.demands_rules.proofs.InTime as Time
-use Rattle.demands_stepper_rules.specs.Question.{MissedTells, NoneReady, NoLoad, Question, QuestionOnTheLine, QuestionInTime, Twice}
+use Rattle.demands_stepper_rules.specs.Question.{MissedTells, NoneReady, NoLoad, Question, QuestionOnTheLine, QuestionInBuffers, QuestionInTime, Twice}
 use Rattle.demands_stepper_rules.proofs.Starting.{begins}
 
 -- a load with another count than its control byte asks for has a wrong count; code 5 without data asks for a start
@@ -70,6 +71,9 @@ question = Any.question stepper needed NoneReady NoLoad loads
 
 pub question-on-the-line : QuestionOnTheLine
 question-on-the-line = Line.question-on-the-line stepper needed NoneReady NoLoad loads
+
+pub question-in-buffers : QuestionInBuffers
+question-in-buffers = question-of-any-type stepper needed NoneReady NoLoad loads
 
 pub question-in-time : QuestionInTime
 question-in-time = Time.question-in-time stepper needed NoneReady NoLoad loads

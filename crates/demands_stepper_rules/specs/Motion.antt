@@ -25,6 +25,7 @@ use Rattle.demands_history_rules.specs.Calls.{Call, tick, Handed, AllHanded, le
 use Rattle.demands_rules.specs.Place.{AtOf, after, Stands, Ticked}
 use Rattle.demands_rules.specs.Loaded.{control, Has}
 use Rattle.demands_rules.specs.SettingOut as Any
+use Rattle.demands_rules.specs.Buffers as Buffers
 
 -- 02 P3: motion is a speed other than 0
 abbrev pub Rests : Stepper → Type 0
@@ -68,6 +69,10 @@ Never = Any.Never stepper Rests Starts
 
 abbrev pub NeverFromSetup : Type 0
 NeverFromSetup = Any.NeverFromSetup stepper Rests Starts
+
+-- So it is where a board hands over buffers (02 P2).
+abbrev pub NeverInBuffers : Type 0
+NeverInBuffers = Buffers.NeverInBuffers stepper Rests Starts
 
 -- 02 P3: at input 1 the tick ends the motion; and if after later calls the module moves, one of the calls after that tick was a start.
 abbrev pub StopInputEnds : Type 0

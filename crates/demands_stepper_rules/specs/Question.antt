@@ -9,6 +9,7 @@ use Rattle.stepper_rules.specs.Carried.{needed}
 use Rattle.stepper_rules.specs.Answers.{withCause, execute}
 use Rattle.types_rules.specs.Table.{stepper}
 use Rattle.demands_rules.specs.Question as Any
+use Rattle.demands_rules.specs.Buffers as Buffers
 use Rattle.demands_rules.specs.Question.{IsStart}
 use Rattle.demands_stepper_rules.specs.Motion.{Starts}
 
@@ -24,12 +25,15 @@ NoneReady m = (m .load .waits ≡ false) ⊎ ((m .load .speed ≡ 0) ⊎ ((m .lo
 abbrev pub NoLoad : Stepper → Type 0
 NoLoad m = m .load .waits ≡ false
 
--- It does not go: at one module, on the line, and in any time.
+-- It does not go: at one module, on the line, by the buffer (02 P2), and in any time.
 abbrev pub Question : Type 0
 Question = Any.Question stepper needed NoneReady
 
 abbrev pub QuestionOnTheLine : Type 0
 QuestionOnTheLine = Any.QuestionOnTheLine stepper needed NoneReady
+
+abbrev pub QuestionInBuffers : Type 0
+QuestionInBuffers = Buffers.QuestionInBuffers stepper needed NoneReady
 
 abbrev pub QuestionInTime : Type 0
 QuestionInTime = Any.QuestionInTime stepper needed NoLoad

@@ -5,8 +5,8 @@ ghost use Rattle.base_layout.specs.Bytes.{pasted};
 ghost use Rattle.host_rules.specs.Writing.{writtenOf, roomAfter};
 ghost use Rattle.host_rules.specs.Reading.{statusOf};
 ghost use Rattle.base_layout.specs.First.{first};
-ghost use Rattle.api_rules.specs.Table.{setupTable, tickTable, placeTable};
-ghost use Rattle.api_rules.specs.Calls.{setupRecord, byteNumber, byteRecord, byteRoom, byteWritten, tickRecord, outputsBytes, causeByte, numbersBytes, readingBytes};
+ghost use Rattle.api_rules.specs.Table.{setupTable, bufferTable, tickTable, placeTable};
+ghost use Rattle.api_rules.specs.Calls.{setupRecord, byteNumber, byteRecord, byteRoom, byteWritten, bufferRecord, bufferRoom, bufferWritten, tickRecord, outputsBytes, causeByte, numbersBytes, readingBytes};
 use host_rules::Reading;
 
 // A network of the given types at power-up: 0, or 16, 11, 12.
@@ -45,6 +45,29 @@ pub extern "C" fn nmc_byte(
     let called = net_traffic::byte(net, byte, mark == 1, room);
     *written = called.written;
     called.number
+}
+
+// A buffer of bytes of the line, each with its mark, as the byte calls for them one by one: 0, or 16, 20, 14, 15.
+#[no_mangle]
+pub extern "C" fn nmc_bytes(
+    net: &mut [u8],
+    bytes: &[u8],
+    marks: &[u8],
+    room: &mut [u8],
+    written: &mut usize,
+) -> u32
+    ensures { λ r. ⌜ r ≡ first (bufferTable (now (net .entry)) (now (bytes .entry)) (now (marks .entry)) (now (room .entry))) ⌝ }
+    ensures { λ _. ⌜ now (net .exit) ≡ bufferRecord (now (net .entry)) (now (bytes .entry)) (now (marks .entry)) (now (room .entry)) ⌝ }
+    ensures { λ _. ⌜ now (room .exit) ≡ bufferRoom (now (net .entry)) (now (bytes .entry)) (now (marks .entry)) (now (room .entry)) ⌝ }
+    ensures { λ _. ⌜ now (written .exit) ≡ bufferWritten (now (net .entry)) (now (bytes .entry)) (now (marks .entry)) (now (room .entry)) ⌝ }
+{
+    *written = 0;
+    let number = api_refusals::buffer_refusal(net, bytes, marks, room);
+    if number != 0 {
+        return number;
+    }
+    *written = net_traffic::bytes(net, bytes, marks, room);
+    0
 }
 
 // A tick, with a sample for every module in chain order: 0, or 16, 20, 13, 14.

@@ -5,3 +5,4 @@ pub mod Only
 pub mod Kept
 pub mod Nulls
 pub mod Numbers
+pub mod Ending

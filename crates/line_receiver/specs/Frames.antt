@@ -6,6 +6,7 @@ use mathlib.Core.Bool.{Bool, false, _||_}
 use lib.ListN.{length}
 use Rattle.line_receiver.specs.declared.Receiver.{Receiver}
 use Rattle.line_receiver.specs.declared.Received.{Received}
+use Rattle.line_receiver.specs.declared.Answer.{Answer}
 use Rattle.line_receiver.specs.declared.Answer.the-variants.{Ended, Nothing}
 use Rattle.line_receiver.specs.Receive.{sum8, carried, opens, taken}
 
@@ -66,6 +67,18 @@ reads (b ∷ bs) r =
 unfoldable pub after : List Byte → Receiver → Receiver
 after [] r = r
 after (b ∷ bs) r = after bs (taken r (b .value) (b .mark) .next)
+
+-- 02 P2: how many frames an answer ends: one or none.
+abbrev pub endedBy : Answer → ℕ
+endedBy Nothing = 0
+endedBy (Ended d) = 1
+
+-- 02 P2: how many frames end among these bytes.
+unfoldable pub ends : List Byte → Receiver → ℕ
+ends [] r = 0
+ends (b ∷ bs) r =
+    let t : Received = taken r (b .value) (b .mark) in
+    endedBy (t .answer) + ends bs (t .next)
 
 -- 01 Frames: bytes that an idle receiver drops, each of them marked or not 0xAA.
 abbrev pub Quiet : List Byte → Type 0

@@ -1,6 +1,6 @@
 -- What is promised of the receiver (document 01, "Frames"). Each promise is proved under its own name, with a small first letter, in proofs/.
 use mathlib.Core.Path.{_≡_}
-use Prim.Native.Nat.{ℕ, _+_, _/_, _%_, _<_, _≤_}
+use Prim.Native.Nat.{ℕ, _+_, _*_, _/_, _%_, _<_, _≤_}
 use mathlib.Core.List.{List, [], _∷_, _++_}
 use mathlib.Core.Bool.{Bool, true, false, not, _||_}
 use mathlib.Core.Logic.{_↔_}
@@ -10,7 +10,7 @@ use Rattle.line_receiver.specs.declared.Receiver.{Receiver}
 use Rattle.line_receiver.specs.declared.Answer.{Answer}
 use Rattle.line_receiver.specs.declared.Answer.the-variants.{Ended, Nothing}
 use Rattle.line_receiver.specs.Receive.{sum8, idle, taken, numberOf}
-use Rattle.line_receiver.specs.Frames.{Byte, Frame, header, clean, values, anyMark, written, ended, reads, after, Quiet, AreBytes}
+use Rattle.line_receiver.specs.Frames.{Byte, Frame, header, clean, values, anyMark, written, ended, reads, after, ends, Quiet, AreBytes}
 
 -- 01 Frames: what holds of every receiver that began idle: fifteen data places, bytes throughout, nothing kept while it is idle, and never
 -- more bytes in than the command asks for.
@@ -62,6 +62,11 @@ Only =
 -- Whatever unfinished frame a receiver holds, sixteen zero bytes without marks leave it idle.
 abbrev pub Nulls : Type 0
 Nulls = (r : Receiver) → Sound r → after (clean (replicate 16 0)) r ≡ idle
+
+-- 02 P2: A frame has four bytes or more, of which all but the last may have come before. So of n bytes at most a quarter of n + 3 end a frame,
+-- whatever the receiver holds; of 64 at most 16.
+abbrev pub MostEnd : Type 0
+MostEnd = (bs : List Byte) (r : Receiver) → 4 * ends bs r ≤ length bs + 3
 
 -- The receiver that every network begins with is sound.
 abbrev pub Fresh : Type 0

@@ -3,7 +3,7 @@ ghost use mathlib.Core.Path.{_≡_};
 ghost use mathlib.Core.Bool.{true};
 ghost use Prim.Native.Nat.{_+_, _≤_, _<_};
 ghost use lib.ListN.{length};
-ghost use Rattle.base_layout.specs.Bytes.{readAt};
+ghost use Rattle.base_layout.specs.Bytes.{pasted, readAt};
 ghost use Rattle.types_rules.specs.Types.{slots};
 ghost use Rattle.net_rules.specs.Record.{receiverIn, receiverBytes, okReceiver, blank, netIn, valid, receiverSize};
 use line_receiver::Receiver;
@@ -37,7 +37,7 @@ pub fn receiver_in(s: &[u8]) -> Receiver
     }
 }
 
-pub fn receiver_bytes(r: Receiver) -> [u8; net_rules::RECEIVER_LEN]
+fn receiver_bytes(r: Receiver) -> [u8; net_rules::RECEIVER_LEN]
     ensures { λ s. ⌜ s ≡ receiverBytes r ⌝ }
 {
     let b = r.bytes;
@@ -62,6 +62,15 @@ pub fn receiver_bytes(r: Receiver) -> [u8; net_rules::RECEIVER_LEN]
         r.fill,
         r.marked as u8,
     ]
+}
+
+// The receiver put into the record.
+pub fn put_receiver(net: &mut [u8], r: Receiver)
+    requires { ⌜ receiverSize ≤ length (now net) ⌝ }
+    ensures { λ _. ⌜ now (net .exit) ≡ pasted 0 (receiverBytes r) (now (net .entry)) ⌝ }
+{
+    let bytes = receiver_bytes(r);
+    base_layout::put_all(net, 0, &bytes);
 }
 
 // Whether the receiver's bytes are all 0. In a row they compile to one test.

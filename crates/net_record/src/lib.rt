@@ -1,4 +1,4 @@
-// The lent record: whether it is valid and a list of samples is one for it, setup, outputs and causes.
+// The lent record: whether it is valid and a list of samples is one for it, setup, outputs and causes; and whether a buffer's marks are good.
 ghost use mathlib.Core.Path.{_≡_};
 ghost use mathlib.Core.Bool.{true};
 ghost use mathlib.Core.List.{map};
@@ -7,7 +7,7 @@ ghost use lib.ListN.{length, replicate, drop};
 ghost use Rattle.module_rules.specs.Slots.{slotSize};
 ghost use Rattle.types_rules.specs.Types.{slots, powered, outputs};
 ghost use Rattle.net_rules.specs.Record.{recordSize, slotsAt, okSlots, modulesIn, netIn, putModules, valid, chainMost};
-ghost use Rattle.net_rules.specs.Calls.{allKnown, fresh, ofType, listSize, allTyped, allInRange, outputsAt, causeAt};
+ghost use Rattle.net_rules.specs.Calls.{allKnown, allMarks, fresh, ofType, listSize, allTyped, allInRange, outputsAt, causeAt};
 
 // Whether the first n slots are valid.
 fn is_each_ok(net: &[u8], n: usize) -> bool
@@ -120,6 +120,19 @@ pub fn cause(net: &[u8], place: usize) -> u8
     let at = net_rules::SLOTS_AT + module_rules::SLOT_LEN * place;
     let end = at + module_rules::SLOT_LEN;
     module_station::station_in(&net[at..end]).cause
+}
+
+// Whether every mark of a buffer is 0 or 1. All are looked at, which compiles to few tests.
+pub fn is_all_marks(marks: &[u8]) -> bool
+    ensures { λ r. ⌜ r ≡ allMarks (now (marks .entry)) ⌝ }
+{
+    let mut good = true;
+    let mut i: usize = 0;
+    while i < marks.len() {
+        good = good & (marks[i] <= 1);
+        i += 1;
+    }
+    good
 }
 
 // Whether all types are known.

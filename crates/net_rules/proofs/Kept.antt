@@ -2,7 +2,9 @@
 use mathlib.Core.Path.{_≡_, refl}
 use mathlib.Core.List.{List, [], _∷_}
 use mathlib.Core.Bool.{Bool, true, false, cond, _&&_}
+use Prim.Native.Nat.{ℕ, suc}
 use native.Mathlib.Omega.{arith}
+use lib.Dec.{eqb}
 use lib.ListN.{length}
 use Rattle.base_layout.specs.Bytes.{Bytes}
 use Rattle.line_receiver.specs.declared.Receiver.{Receiver}
@@ -15,11 +17,12 @@ use Rattle.line_receiver.specs.Promises.{Sound}
 use Rattle.line_receiver.proofs.Kept.{kept}
 use Rattle.module_rules.specs.Touch.{individually, named}
 use Rattle.module_rules.specs.Kind.{Kind, executed}
-use Rattle.chain_rules.specs.Chain.{Net, handed, byteStep, timed}
+use Rattle.chain_rules.specs.Chain.{Net, handed, byteStep, taking, timed}
 use Rattle.chain_rules.proofs.Along.{length-handed}
 use Rattle.chain_rules.proofs.Timing.{length-timed}
 use Rattle.chain_rules.proofs.Bytes.{step-on, step-end}
 use Rattle.module_rules.specs.Slots.{Preserves, Slots}
+use Rattle.net_rules.specs.Calls.{byteOf, bytesOf}
 use Rattle.net_rules.specs.Promises.{Each, SoundNet, KeptByByte, KeptByTick}
 use Rattle.base_layout.proofs.Laws.{bytes-take}
 
@@ -62,6 +65,12 @@ module _ {M S : Type 0} (K : Kind M S) (L : Slots M) (Good : S → Type 0) where
           rw (step-end K n b r d e)
           (same-count n r (handed K f true (n .modules)) h s (length-handed K f true (n .modules))
           (handed-fit K L Good p (n .modules) f true (content-bytes (n .receiver) d (h .receiver)) (h .each)))
+
+  pub kept-by-bytes : Preserves K L Good → (xs ms : List ℕ) (n : Net M) → Bytes xs → SoundNet L n → SoundNet L (taking K (bytesOf xs ms) n .net)
+  kept-by-bytes p [] ms n b h = h
+  kept-by-bytes p (x ∷ xs) [] n b h = h
+  kept-by-bytes p (x ∷ xs) (m ∷ ms) n b h =
+      kept-by-bytes p xs ms (byteStep K n (byteOf x (eqb m 1)) .net) (λ i. b (suc i)) (kept-by-byte p n (byteOf x (eqb m 1)) h (b 0))
 
   pub kept-by-tick : KeptByTick K L Good
   kept-by-tick p n xs h g =

@@ -12,5 +12,8 @@ pub mod Ahead
 pub mod OneTurn
 pub mod Rounds
 pub mod Calls
+pub mod Types
+pub mod Taking
+pub mod Buffer
 pub mod Powered
 pub mod Listed

@@ -1,11 +1,11 @@
 -- Tests that hold together, and tests made in turn. Assumes nothing.
 use mathlib.Core.Path.{_≡_, refl, sym, ap, _∙_}
 use mathlib.Core.List.{List, [], _∷_, map}
-use mathlib.Core.Bool.{Bool, true, false, cond, _&&_, and-assoc}
-use Prim.Native.Nat.{ℕ, zero, suc, _+_, _-_, _/_, _<_}
+use mathlib.Core.Bool.{Bool, true, false, cond, _&&_, and-assoc, and-true as and-nothing}
+use Prim.Native.Nat.{ℕ, zero, suc, _+_, _-_, _/_, _<_, _≤_}
 use native.Mathlib.Numerals.{add-one}
 use native.Mathlib.Omega.{arith}
-use lib.ListN.{length, getD, take, drop}
+use lib.ListN.{length, getD, take, drop, drop-of-length-le}
 use lib.Seq.{drop-cons, drop-drop}
 use lib.Dec.{eqb, leb}
 use borrow.Author.Tests.{eq-eqb}
@@ -13,7 +13,7 @@ use Rattle.base_layout.specs.Bytes.{readAt}
 use Rattle.base_layout.specs.Every.{every, everyFrom}
 use Rattle.module_rules.specs.Slots.{Slots, slotSize}
 use Rattle.types_rules.specs.Types.{known}
-use Rattle.net_rules.specs.Calls.{allKnown}
+use Rattle.net_rules.specs.Calls.{allKnown, allMarks}
 use Rattle.net_rules.specs.Record.{blank, okReceiver, okSlots, receiverSize, fillAt, commandAt, markedAt}
 
 pub cond-true : (a b : Bool) → cond a b false ≡ true → (a ≡ true) × (b ≡ true)
@@ -58,3 +58,13 @@ idle-test s z e =
 -- a turn of the loop that looks for an unknown type
 pub known-turn : (ts : List ℕ) (i : ℕ) → i < length ts → allKnown (drop i ts) ≡ (known (getD ts i 0) && allKnown (drop (i + 1) ts))
 known-turn ts i h = rw (add-one i, drop-cons ts i 0 h)
+
+-- marks: those looked at so far are good, and those that are left
+pub marks-turn : (ms : List ℕ) (i : ℕ) (so-far : Bool) {all : Bool} → i < length ms → (so-far && allMarks (drop i ms)) ≡ all
+    → ((so-far && leb (getD ms i 0) 1) && allMarks (drop (i + 1) ms)) ≡ all
+unfolding allMarks
+marks-turn ms i so-far h e = and-assoc so-far (leb (getD ms i 0) 1) (allMarks (drop (i + 1) ms)) ∙ rw (add-one i) (rw (drop-cons ms i 0 h) at e)
+
+pub marks-over : (ms : List ℕ) (i : ℕ) (so-far : Bool) {all : Bool} → length ms ≤ i → (so-far && allMarks (drop i ms)) ≡ all → so-far ≡ all
+unfolding allMarks
+marks-over ms i so-far h e = let z : drop i ms ≡ [] = drop-of-length-le ms {i = i} h in sym (and-nothing so-far) ∙ rw z at e

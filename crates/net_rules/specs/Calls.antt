@@ -4,7 +4,7 @@ use mathlib.Core.List.{List, [], _∷_, map}
 use mathlib.Core.Bool.{Bool, true, false, _&&_}
 use mathlib.Core.Option.{Option, some, none}
 use lib.ListN.{length, replicate, set, getD, getElem?, take, drop}
-use lib.Dec.{eqb}
+use lib.Dec.{eqb, leb}
 use Rattle.line_receiver.specs.declared.Received.{Received}
 use Rattle.line_receiver.specs.declared.Answer.the-variants.{Ended, Nothing}
 use Rattle.line_receiver.specs.Receive.{idle, taken}
@@ -62,6 +62,17 @@ samplesFor n l = samplesIn (length (n .modules)) l
 -- a byte of the line with its mark
 abbrev pub byteOf : ℕ → Bool → Byte
 byteOf value mark = record { value = value; mark = mark }
+
+-- 02 P2: bytes of the line, each with its mark, which is set where it is 1
+abbrev pub bytesOf : List ℕ → List ℕ → List Byte
+bytesOf [] marks = []
+bytesOf (x ∷ xs) [] = []
+bytesOf (x ∷ xs) (m ∷ ms) = byteOf x (eqb m 1) ∷ bytesOf xs ms
+
+-- 02 P2, 14: whether every mark is 0 or 1
+unfoldable pub allMarks : List ℕ → Bool
+allMarks [] = true
+allMarks (m ∷ ms) = leb m 1 && allMarks ms
 
 -- whether the module at a place is of type t; beyond the chain there is none
 abbrev pub isOf : ℕ → Option Module → Bool

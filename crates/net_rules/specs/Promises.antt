@@ -3,7 +3,9 @@ use mathlib.Core.Path.{_≡_}
 use Prim.Native.Nat.{ℕ, _<_, _≤_}
 use mathlib.Core.List.{List, [], _∷_}
 use mathlib.Core.Bool.{true}
-use lib.ListN.{length}
+use mathlib.Core.Option.{some}
+use lib.ListN.{length, getD, getElem?}
+use lib.Dec.{eqb}
 use Rattle.base_layout.specs.Bytes.{Bytes}
 use Rattle.line_receiver.specs.Frames.{Byte}
 use Rattle.line_receiver.specs.Promises.{Sound}
@@ -11,6 +13,7 @@ use Rattle.module_rules.specs.Kind.{Kind}
 use Rattle.chain_rules.specs.Chain.{Net, byteStep, timed}
 use Rattle.module_rules.specs.Slots.{Slots, Preserves}
 use Rattle.net_rules.specs.Record.{recordSize, netIn, stored, valid, chainMost}
+use Rattle.net_rules.specs.Calls.{byteOf, bytesOf}
 
 -- every one of some things has P
 abbrev pub Each : {A : Type 0} → (A → Type 0) → List A → Type 0
@@ -51,3 +54,11 @@ abbrev pub KeptByTick : {M S : Type 0} → Kind M S → Slots M → (S → Type 
 KeptByTick {M} {S} K L Good =
     Preserves K L Good → (n : Net M) (xs : List S) → SoundNet L n → Each Good xs
     → SoundNet L (record { receiver = n .receiver; modules = timed K xs (n .modules) })
+
+-- 02 P2: Each byte of a buffer has the mark that stands at its own place, which is set where it is 1.
+pub record Paired (bytes marks : List ℕ) : Type 0 where
+  pub long : length (bytesOf bytes marks) ≡ length bytes
+  pub each : (i : ℕ) → i < length bytes → getElem? (bytesOf bytes marks) i ≡ some (byteOf (getD bytes i 0) (eqb (getD marks i 0) 1))
+
+abbrev pub OwnMarks : Type 0
+OwnMarks = (bytes marks : List ℕ) → length bytes ≡ length marks → Paired bytes marks

@@ -55,6 +55,17 @@ recordSize = slotsAt + chainMost * slotSize
 abbrev pub roomSize : ℕ
 roomSize = chainMost * replySize
 
+-- 02 P2: the most bytes of a buffer, and the room that its call needs, for the replies to every frame that can end among so many: a frame has four
+-- bytes or more, of which all but the last may have come before
+abbrev pub bufferMost : ℕ
+bufferMost = 64
+
+abbrev pub roomFor : ℕ → ℕ
+roomFor k = (k + 3) / 4 * roomSize
+
+abbrev pub bufferRoomSize : ℕ
+bufferRoomSize = roomFor bufferMost
+
 unfoldable pub receiverIn : List ℕ → Receiver
 receiverIn s = receiver .codec .dec 0 s
 

@@ -3,11 +3,13 @@
 use Prim.Native.Nat.{ℕ, zero, suc, _+_}
 use mathlib.Core.List.{List, [], _∷_}
 use mathlib.Core.Bool.{Bool, true, cond, _&&_}
-use lib.ListN.{take, drop, length, replicate}
+use lib.ListN.{take, drop, length, replicate, getD}
 use Rattle.base_layout.specs.Bytes.{pasted}
-use Rattle.line_receiver.specs.declared.Answer.the-variants.{Ended}
+use Rattle.line_receiver.specs.declared.Receiver.{Receiver}
+use Rattle.line_receiver.specs.declared.Answer.{Answer}
+use Rattle.line_receiver.specs.declared.Answer.the-variants.{Ended, Nothing}
 use Rattle.line_receiver.specs.Receive.{numberOf}
-use Rattle.line_receiver.specs.Frames.{Frame}
+use Rattle.line_receiver.specs.Frames.{Frame, frameIn}
 use Rattle.module_rules.specs.Touch.{named}
 use Rattle.module_rules.specs.Kind.{Kind, executed, replied}
 use Rattle.module_rules.specs.Slots.{Slots, slotSize}
@@ -16,7 +18,7 @@ use Rattle.types_rules.specs.Types.{kind, slots}
 use Rattle.net_rules.specs.declared.Called.{Called}
 use Rattle.net_rules.specs.declared.Turn.{Turn}
 use Rattle.net_rules.specs.declared.Walked.{Walked}
-use Rattle.net_rules.specs.Record.{chainMost, slotsAt}
+use Rattle.net_rules.specs.Record.{chainMost, countAt, slotsAt}
 use Rattle.net_rules.specs.Calls.{noted}
 
 module _ {M S : Type 0} (K : Kind M S) (L : Slots M) where
@@ -69,4 +71,20 @@ endedOf f n s = record {
   number = numberOf (Ended (f .damaged));
   written = length (join (speech kind slots f true n slotsAt s));
   lengths = noted (speech kind slots f true n slotsAt s) 0 (replicate chainMost 0);
+}
+
+-- by the receiver's answer: what is said, the record after it, and what the code hands back
+unfoldable pub speechBy : Receiver → Answer → List ℕ → List (List ℕ)
+speechBy r Nothing s = []
+speechBy r (Ended d) s = speech kind slots (frameIn r d) true (getD s countAt 0) slotsAt s
+
+unfoldable pub walkedBy : Receiver → Answer → List ℕ → List ℕ
+walkedBy r Nothing s = s
+walkedBy r (Ended d) s = walked kind slots (frameIn r d) true (getD s countAt 0) slotsAt s
+
+unfoldable pub answeredOf : Receiver → Answer → List ℕ → Called
+answeredOf r a s = record {
+  number = numberOf a;
+  written = length (join (speechBy r a s));
+  lengths = noted (speechBy r a s) 0 (replicate chainMost 0);
 }

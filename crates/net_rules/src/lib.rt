@@ -23,6 +23,13 @@ pub const NET_LEN: usize = SLOTS_AT + CHAIN_MOST * module_rules::SLOT_LEN;
 // The room that a byte call needs: for a reply of every module.
 pub const ROOM_LEN: usize = CHAIN_MOST * module_rules::REPLY_LEN;
 
+// The most line bytes of a buffer, the most frames that can end among them, and the room for the replies to so many.
+pub const BUFFER_MOST: usize = 64;
+
+pub const BUFFER_ENDS: usize = 16;
+
+pub const BUFFER_ROOM_LEN: usize = BUFFER_ENDS * ROOM_LEN;
+
 // What a byte call hands back: its number, the length of all replies, and of the reply of each place.
 pub struct Called {
     pub number: u32,

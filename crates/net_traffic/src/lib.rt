@@ -7,12 +7,12 @@ ghost use Rattle.base_layout.specs.Bytes.{pasted};
 ghost use Rattle.line_receiver.specs.Receive.{numberOf};
 ghost use Rattle.line_receiver.specs.Frames.{frameIn};
 ghost use Rattle.line_receiver.specs.declared.Answer;
-ghost use Rattle.chain_rules.specs.Chain.{join, flat, byteStep};
+ghost use Rattle.chain_rules.specs.Chain.{join, flat, byteStep, taking};
 ghost use Rattle.module_rules.specs.Slots.{slotSize};
 ghost use Rattle.types_rules.specs.Types.{kind, slots};
-ghost use Rattle.net_rules.specs.Record.{recordSize, slotsAt, countAt, okSlots, netIn, stored, valid, chainMost, roomSize};
-ghost use Rattle.net_rules.specs.Walk.{walked, speech, ticked, endedOf};
-ghost use Rattle.net_rules.specs.Calls.{samplesIn, listSize, samplesFor, tickStep, calledBy, byteOf};
+ghost use Rattle.net_rules.specs.Record.{recordSize, slotsAt, countAt, okSlots, netIn, stored, valid, chainMost, roomSize, roomFor};
+ghost use Rattle.net_rules.specs.Walk.{walked, speech, ticked, endedOf, speechBy, walkedBy, answeredOf};
+ghost use Rattle.net_rules.specs.Calls.{samplesIn, listSize, samplesFor, tickStep, calledBy, byteOf, bytesOf};
 use line_receiver::Answer;
 use line_receiver::Receiver;
 use module_rules::Head;
@@ -49,6 +49,24 @@ fn hand_on(net: &mut [u8], r: Receiver, damaged: bool, room: &mut [u8]) -> Calle
     }
 }
 
+// What the receiver's answer to a byte brings: a frame that has ended is handed along the chain, and nothing more stops here.
+fn answered(net: &mut [u8], r: Receiver, answer: Answer, room: &mut [u8]) -> Called
+    requires { ⌜ (length (now net) ≡ recordSize) × (getD (now net) countAt 0 ≤ chainMost) × (roomSize ≤ length (now room)) × (length (r .bytes) ≡ 15) ⌝ }
+    requires { ⌜ okSlots slots (getD (now net) countAt 0) (drop slotsAt (now net)) ≡ true ⌝ }
+    ensures { λ c. ⌜ c ≡ answeredOf r answer (now (net .entry)) ⌝ }
+    ensures { λ _. ⌜ now (net .exit) ≡ walkedBy r answer (now (net .entry)) ⌝ }
+    ensures { λ _. ⌜ now (room .exit) ≡ pasted 0 (join (speechBy r answer (now (net .entry)))) (now (room .entry)) ⌝ }
+{
+    let Answer::Ended(damaged) = answer else {
+        return Called {
+            number: 0,
+            written: 0,
+            lengths: [0u8; net_rules::CHAIN_MOST],
+        };
+    };
+    hand_on(net, r, damaged, room)
+}
+
 // A byte of the line.
 pub fn byte(net: &mut [u8], value: u8, mark: bool, room: &mut [u8]) -> Called
     requires { ⌜ (valid slots (now net) ≡ true) × (roomSize ≤ length (now room)) ⌝ }
@@ -58,18 +76,39 @@ pub fn byte(net: &mut [u8], value: u8, mark: bool, room: &mut [u8]) -> Called
 {
     let r = net_receiver::receiver_in(net);
     let got = r.take(value, mark);
-    let next = got.next;
-    let bytes = net_receiver::receiver_bytes(next);
-    base_layout::put_all(net, 0, &bytes);
     let answer = got.answer;
-    let Answer::Ended(damaged) = answer else {
-        return Called {
-            number: 0,
-            written: 0,
-            lengths: [0u8; net_rules::CHAIN_MOST],
+    let called = answered(net, r, answer, room);
+    let next = got.next;
+    net_receiver::put_receiver(net, next);
+    called
+}
+
+// Bytes of the line, each with its mark, and the length of all replies to them. The receiver goes from byte to byte by value and is put into
+// the record once.
+pub fn bytes(net: &mut [u8], values: &[u8], marks: &[u8], room: &mut [u8]) -> usize
+    requires { ⌜ (valid slots (now net) ≡ true) × (length (now values) ≡ length (now marks)) × (roomFor (length (now values)) ≤ length (now room)) ⌝ }
+    ensures { λ w. ⌜ w ≡ length (flat (taking kind (bytesOf (now (values .entry)) (now (marks .entry))) (netIn slots (now (net .entry))) .replies)) ⌝ }
+    ensures { λ _. ⌜ now (net .exit) ≡ stored slots (taking kind (bytesOf (now (values .entry)) (now (marks .entry))) (netIn slots (now (net .entry))) .net) (now (net .entry)) ⌝ }
+    ensures { λ _. ⌜ now (room .exit) ≡ pasted 0 (flat (taking kind (bytesOf (now (values .entry)) (now (marks .entry))) (netIn slots (now (net .entry))) .replies)) (now (room .entry)) ⌝ }
+{
+    let mut r = net_receiver::receiver_in(net);
+    let mut written: usize = 0;
+    let mut i: usize = 0;
+    while i < values.len() {
+        let held = r;
+        let got = held.take(values[i], marks[i] == 1);
+        let next = got.next;
+        r = next;
+        i += 1;
+        let answer = got.answer;
+        let Answer::Ended(damaged) = answer else {
+            continue;
         };
-    };
-    hand_on(net, r, damaged, room)
+        let called = hand_on(net, held, damaged, &mut room[written..]);
+        written += called.written;
+    }
+    net_receiver::put_receiver(net, r);
+    written
 }
 
 // A tick at the first n modules, each with its own sample.

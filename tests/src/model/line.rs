@@ -30,6 +30,11 @@ pub struct Receiver {
 }
 
 impl Receiver {
+    /// Whether the next byte ends the frame.
+    pub fn is_at_last(&self) -> bool {
+        self.fill >= 3 && self.fill - 3 >= self.command >> 4
+    }
+
     pub fn take(&mut self, marked: bool, byte: u8, slip: Slip) -> Option<Frame> {
         if self.fill == 0 {
             self.open(marked, byte, slip);

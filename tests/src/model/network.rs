@@ -70,7 +70,7 @@ impl Module {
         each!(self, device => device.meet(frame, touch, slip))
     }
 
-    fn reply(&self, frame: &Frame, slip: Slip) -> Vec<u8> {
+    pub fn reply(&self, frame: &Frame, slip: Slip) -> Vec<u8> {
         each!(self, device => device.reply(frame, slip))
     }
 
@@ -121,7 +121,7 @@ impl Network {
 
     pub fn byte(&mut self, marked: bool, byte: u8) -> Option<Ended> {
         let frame = self.receiver.take(marked, byte, self.slip)?;
-        let replies = self.hand_along(&frame);
+        let replies = self.hand_along(&frame, &self.clone());
         Some(Ended { frame, replies })
     }
 
@@ -196,12 +196,12 @@ impl Network {
         }
     }
 
-    fn hand_along(&mut self, frame: &Frame) -> Vec<(usize, Vec<u8>)> {
+    /// A frame on its way along the chain: who is touched and who leads is judged by the network before it.
+    pub fn hand_along(&mut self, frame: &Frame, before: &Network) -> Vec<(usize, Vec<u8>)> {
         let slip = self.slip;
-        let before = self.clone();
         let mut replies = Vec::new();
         for place in 0..self.modules.len() {
-            let judged = if slip == Slip::TwoBecomeOne { &*self } else { &before };
+            let judged = if slip == Slip::TwoBecomeOne { &*self } else { before };
             let touch = match judged.touch(place, frame.address) {
                 Some(touch) => touch,
                 None => continue,
