@@ -2,8 +2,9 @@
  * A network of NMC modules on one board, and the host's side of the line.
  *
  * The network lives in a record of NMC_NET_LEN bytes that the board keeps and
- * lends to each call. Set it up once, hand over every line byte as it comes,
- * and tick at the control rate with what every module has measured.
+ * lends to each call. Set it up once, hand over the line's bytes as they come,
+ * a buffer at a time or one by one, and tick at the control rate with what every
+ * module has measured.
  *
  * Each call gives back one of the numbers below. A refused call (11 and above)
  * leaves everything lent as it was, but for *written, which is then 0, and the
@@ -24,19 +25,21 @@ extern "C" {
 #endif
 
 /* Each landing raises it and says in CHANGELOG.md what is new. */
-#define NMC_VERSION "1.10.0"
+#define NMC_VERSION "1.11.0"
 #define NMC_VERSION_MAJOR 1
-#define NMC_VERSION_MINOR 10
+#define NMC_VERSION_MINOR 11
 #define NMC_VERSION_PATCH 0
 
-#define NMC_MOST_MODULES 32u  /* in one chain */
-#define NMC_NET_LEN 4116u     /* the network's record, for any chain */
-#define NMC_ROOM_LEN 608u     /* room for all replies that one byte can draw */
-#define NMC_FRAME_LEN 19u     /* the longest frame */
-#define NMC_REPLY_LEN 19u     /* the longest reply of one module */
-#define NMC_SAMPLE_LEN 10u    /* what one module measures, in a tick's list */
-#define NMC_OUTPUTS_LEN 8u    /* what one module drives */
-#define NMC_READING_LEN 33u   /* a reply taken apart */
+#define NMC_MOST_MODULES 32u      /* in one chain */
+#define NMC_NET_LEN 4116u         /* the network's record, for any chain */
+#define NMC_ROOM_LEN 608u         /* room for all replies that one byte can draw */
+#define NMC_BUFFER_LEN 64u        /* the most line bytes of one buffer */
+#define NMC_BUFFER_ROOM_LEN 9728u /* room for all replies that a buffer can draw */
+#define NMC_FRAME_LEN 19u         /* the longest frame */
+#define NMC_REPLY_LEN 19u         /* the longest reply of one module */
+#define NMC_SAMPLE_LEN 10u        /* what one module measures, in a tick's list */
+#define NMC_OUTPUTS_LEN 8u        /* what one module drives */
+#define NMC_READING_LEN 33u       /* a reply taken apart */
 
 /* Module types. */
 #define NMC_TYPE_SERVO 0u
@@ -50,13 +53,14 @@ enum nmc_number {
     NMC_BAD_CHAIN = 11,  /* setup: not 1 to 32 modules */
     NMC_BAD_TYPE = 12,   /* setup, status reader: no such module type */
     NMC_BAD_PLACE = 13,  /* no such place; tick: a sample of another type */
-    NMC_BAD_FIELD = 14,  /* mark not 0 or 1; tick: a sample out of range */
+    NMC_BAD_FIELD = 14,  /* a mark not 0 or 1; tick: a sample out of range */
     NMC_SHORT_ROOM = 15, /* room too short */
     NMC_BAD_RECORD = 16, /* record of another length, or spoiled */
     NMC_BAD_FRAME = 17,  /* writer: address, code or data too large */
     NMC_BAD_LENGTH = 18, /* status reader: not as type and items ask */
     NMC_BAD_SUM = 19,    /* status reader: wrong checksum */
-    NMC_BAD_LIST = 20    /* tick: not one sample for each module */
+    NMC_BAD_LIST = 20    /* tick: not one sample for each module; buffer: not
+                            as many marks as bytes, or over NMC_BUFFER_LEN */
 };
 
 /*
@@ -89,6 +93,25 @@ uint32_t nmc_setup(uint8_t *net, size_t net_len, const uint8_t *types, size_t ch
  */
 uint32_t nmc_byte(uint8_t *net, size_t net_len, uint32_t mark, uint8_t byte, uint8_t *room,
                   size_t room_len, size_t *written);
+
+/*
+ * A whole buffer from the line, 0 to NMC_BUFFER_LEN bytes, each with its mark
+ * of 0 or 1: marks[i] came with bytes[i]. It does what nmc_byte would, called
+ * for one after another: the same network, and the same replies in the same
+ * order, one frame's behind the other's in room; *written is the length of all
+ * of them, and the rest of the room is left alone. The record is tested once,
+ * so that a buffer costs little more than a byte does. It gives 0: which of the
+ * bytes ended a frame, damaged or not, only nmc_byte tells.
+ *
+ * Refused is first a buffer that has not as many marks as bytes, or more than
+ * NMC_BUFFER_LEN of them (20), then one with any mark above 1 (14), then a room
+ * under NMC_BUFFER_ROOM_LEN (15), however few the bytes are: at most 16 frames
+ * can end in a buffer, and each can draw NMC_ROOM_LEN. Of a refused buffer no
+ * byte is taken.
+ */
+uint32_t nmc_bytes(uint8_t *net, size_t net_len, const uint8_t *bytes, size_t bytes_len,
+                   const uint8_t *marks, size_t marks_len, uint8_t *room, size_t room_len,
+                   size_t *written);
 
 /*
  * Puts what the servo at a place measures into a tick's list, which must reach

@@ -5,8 +5,6 @@ use std::collections::BTreeMap;
 use std::path::{Path, PathBuf};
 use std::{env, fs};
 
-use doljurven_tests::calls::{BUFFER_LEN, BUFFER_ROOM_LEN};
-
 /// A section of the document, and the crates whose constants it names, the nearest first.
 struct Section {
     heading: &'static str,
@@ -219,16 +217,11 @@ fn header_has_the_lengths_of_the_sources() {
         ("NMC_MOST_MODULES", "CHAIN_MOST"),
         ("NMC_REPLY_LEN", "REPLY_LEN"),
         ("NMC_SAMPLE_LEN", "SAMPLE_LEN"),
+        ("NMC_BUFFER_LEN", "BUFFER_MOST"),
+        ("NMC_BUFFER_ROOM_LEN", "BUFFER_ROOM_LEN"),
     ] {
         assert_eq!(defined(&header, name), sources.value(NETWORK, constant), "{name}");
     }
-}
-
-#[test]
-fn header_has_the_lengths_of_a_buffer() {
-    let header = text(project().join("include/doljurven.h"));
-    assert_eq!(defined(&header, "NMC_BUFFER_LEN"), BUFFER_LEN as i64);
-    assert_eq!(defined(&header, "NMC_BUFFER_ROOM_LEN"), BUFFER_ROOM_LEN as i64);
 }
 
 /// What stands in backquotes in capital letters: a constant, or a sum that begins with one. Behind it the number that
