@@ -25,10 +25,9 @@ use Rattle.types_rules.specs.Types.{Module, kind, slots}
 use Rattle.types_rules.proofs.Laws.{lawful, said-short}
 use Rattle.net_rules.specs.Record.{receiverSize, roomSize, bufferRoomSize, receiverBytes, netIn, stored, valid}
 use Rattle.net_rules.specs.Calls.{byteOf, bytesOf}
-use Rattle.net_rules.proofs.Valid.{valid-is}
 use Rattle.net_rules.proofs.Head.{length-receiver}
-use Rattle.net_rules.proofs.Exact.{waits, length-modules}
-use Rattle.net_rules.proofs.Buffer.{own-marks}
+use Rattle.net_rules.proofs.Exact.{waits}
+use Rattle.net_rules.proofs.Buffer.{own-marks, most-said}
 use Rattle.base_layout.specs.First.{Line, first}
 use Rattle.api_rules.specs.Table.{byteTable, bufferTable}
 use Rattle.api_rules.specs.Calls.{unless, stepOf, byteNumber, byteRecord, byteRoom, byteWritten, bufferOf, bufferRoom, bufferWritten}
@@ -55,10 +54,6 @@ put-there ls out room fits = record {
     go : (t : Bool) → drop (cond t (length out) 0) (cond t (pasted 0 out room) room) ≡ drop (cond t (length out) 0) room
     go true = rest out room
     go false = refl
-
--- a valid record's modules fit a frame's room
-most-said : (net : List ℕ) → valid slots net ≡ true → replySize * length (netIn slots net .modules) ≤ roomSize
-most-said net v = let m = valid-is slots net v .most in omega (arith, length-modules slots net)
 
 -- one byte ends one frame at most
 step-short : (n : Net Module) (b : Byte) → length (flat (byteStep kind n b .replies)) ≤ replySize * length (n .modules)

@@ -6,15 +6,12 @@ use Prim.Native.Nat.{ℕ, _≤_}
 use native.Mathlib.Omega.{arith}
 use lib.ListN.{length}
 use lib.Dec.{eqb, ltb}
-use Rattle.line_receiver.specs.declared.Receiver.{Receiver}
-use Rattle.line_receiver.specs.declared.Received.{Received}
-use Rattle.line_receiver.specs.declared.Answer.{Answer}
-use Rattle.line_receiver.specs.declared.Answer.the-variants.{Ended, Nothing}
+use Rattle.line_receiver.specs.declared.Answer.the-variants.{Ended}
 use Rattle.line_receiver.specs.Receive.{taken, numberOf}
 use Rattle.line_receiver.specs.Frames.{Byte}
 use Rattle.line_receiver.specs.Promises.{Numbered}
 use Rattle.chain_rules.specs.Chain.{Net, byteStep}
-use Rattle.chain_rules.proofs.Bytes.{step-on, step-end, number-told}
+use Rattle.chain_rules.proofs.Bytes.{step-either, number-told}
 use Rattle.types_rules.specs.Types.{Module, kind, slots}
 use Rattle.net_rules.specs.Record.{roomSize, netIn, stored, valid}
 use Rattle.net_rules.specs.Calls.{byteOf, fresh, tickStep, samplesFor, outputsIn, outputsAt, causeIn, causeAt}
@@ -50,13 +47,7 @@ ended-small true = omega arith
 ended-small false = omega arith
 
 pub step-small : (n : Net Module) (b : Byte) → byteStep kind n b .number ≤ 2
-step-small n b =
-    let t : Received = taken (n .receiver) (b .value) (b .mark) in
-    go (t .answer) (t .next) refl
-  where
-    go : (a : Answer) (r : Receiver) → taken (n .receiver) (b .value) (b .mark) ≡ record { next = r; answer = a } → byteStep kind n b .number ≤ 2
-    go Nothing r e = rw (step-on kind n b r e) (omega arith)
-    go (Ended d) r e = rw (step-end kind n b r d e) (ended-small d)
+step-small n b = step-either kind (λ s. s .number ≤ 2) n b (λ r e. omega arith) (λ r d e. ended-small d)
 
 -- a byte call's number where it is not refused
 pub number-done : (net : List ℕ) (mark byte : ℕ) (room : List ℕ) → Passes (byteTable net mark room) → byteNumber net mark byte room ≡ stepOf net mark byte .number

@@ -6,16 +6,13 @@ use Prim.Native.Nat.{ℕ, suc, _+_, _*_, _≤_}
 use native.Mathlib.Omega.{arith}
 use native.Mathlib.Nat.{mul-suc}
 use lib.ListN.{length, length-append}
-use Rattle.line_receiver.specs.declared.Receiver.{Receiver}
-use Rattle.line_receiver.specs.declared.Answer.{Answer}
-use Rattle.line_receiver.specs.declared.Answer.the-variants.{Ended, Nothing}
 use Rattle.line_receiver.specs.Frames.{Byte, Frame, frameIn}
-use Rattle.line_receiver.specs.Receive.{total, taken}
+use Rattle.line_receiver.specs.Receive.{total}
 use Rattle.module_rules.specs.Touch.{named, speaks}
 use Rattle.module_rules.specs.Kind.{Kind, executed, replied}
-use Rattle.chain_rules.specs.Chain.{Net, Step, join, handed, said, byteStep}
+use Rattle.chain_rules.specs.Chain.{Net, join, handed, said, byteStep}
 use Rattle.module_rules.proofs.Speaking.{speaks-before}
-use Rattle.chain_rules.proofs.Bytes.{step-on, step-end}
+use Rattle.chain_rules.proofs.Bytes.{step-either}
 
 pub length-join : (ws : List (List ℕ)) → length (join ws) ≡ total (map (λ (w : List ℕ). length w) ws)
 length-join [] = refl
@@ -52,11 +49,7 @@ module _ {M S : Type 0} (K : Kind M S) (f : Frame) where
 
 -- a byte leaves as many modules as before
 pub length-stepped : {M S : Type 0} (K : Kind M S) (n : Net M) (b : Byte) → length (byteStep K n b .net .modules) ≡ length (n .modules)
-length-stepped {M} K n b = go (taken (n .receiver) (b .value) (b .mark) .answer) refl
-  where
-    r : Receiver
-    r = taken (n .receiver) (b .value) (b .mark) .next
-
-    go : (a : Answer) → taken (n .receiver) (b .value) (b .mark) ≡ record { next = r; answer = a } → length (byteStep K n b .net .modules) ≡ length (n .modules)
-    go Nothing e = ap (λ (s : Step M). length (s .net .modules)) (step-on K n b r e)
-    go (Ended d) e = ap (λ (s : Step M). length (s .net .modules)) (step-end K n b r d e) ∙ length-handed K (frameIn (n .receiver) d) true (n .modules)
+length-stepped K n b =
+    step-either K (λ s. length (s .net .modules) ≡ length (n .modules)) n b
+    (λ r e. refl)
+    (λ r d e. length-handed K (frameIn (n .receiver) d) true (n .modules))

@@ -1,8 +1,9 @@
 -- What a byte makes of a network. Assumes nothing.
-use mathlib.Core.Path.{_≡_, refl, ap, subst⁻¹}
+use mathlib.Core.Path.{_≡_, refl, sym, ap, subst⁻¹}
 use mathlib.Core.List.{[]}
 use mathlib.Core.Bool.{Bool}
 use Rattle.line_receiver.specs.declared.Receiver.{Receiver}
+use Rattle.line_receiver.specs.declared.Received.{Received}
 use Rattle.line_receiver.specs.declared.Answer.{Answer}
 use Rattle.line_receiver.specs.declared.Answer.the-variants.{Ended, Nothing}
 use Rattle.line_receiver.specs.Receive.{waits, taken, numberOf}
@@ -27,15 +28,34 @@ module _ {M S : Type 0} (K : Kind M S) where
   pub byte-taken : ByteTaken K
   byte-taken = (step-on, step-end)
 
-  pub number-is : (n : Net M) (b : Byte) → byteStep K n b .number ≡ numberOf (taken (n .receiver) (b .value) (b .mark) .answer)
-  number-is n b = go (taken (n .receiver) (b .value) (b .mark) .answer) refl
+  -- what holds of the step in both cases: the byte ends nothing, or it ends a frame
+  pub step-either : (P : Step M → Type 0) (n : Net M) (b : Byte)
+      → ((r : Receiver) → taken (n .receiver) (b .value) (b .mark) ≡ waits r
+      → P (record { number = 0; net = record { receiver = r; modules = n .modules }; replies = [] }))
+      → ((r : Receiver) (d : Bool) → taken (n .receiver) (b .value) (b .mark) ≡ record { next = r; answer = Ended d }
+      → P (frameStep K (frameIn (n .receiver) d) r (n .modules)))
+      → P (byteStep K n b)
+  step-either P n b on end = go (taken (n .receiver) (b .value) (b .mark) .answer) refl
     where
       r : Receiver
       r = taken (n .receiver) (b .value) (b .mark) .next
 
-      go : (a : Answer) → taken (n .receiver) (b .value) (b .mark) ≡ record { next = r; answer = a } → byteStep K n b .number ≡ numberOf a
-      go Nothing e = ap (λ (s : Step M). s .number) (step-on n b r e)
-      go (Ended d) e = ap (λ (s : Step M). s .number) (step-end n b r d e)
+      go : (a : Answer) → taken (n .receiver) (b .value) (b .mark) ≡ record { next = r; answer = a } → P (byteStep K n b)
+      go Nothing e = subst⁻¹ P (step-on n b r e) (on r e)
+      go (Ended d) e = subst⁻¹ P (step-end n b r d e) (end r d e)
+
+  -- the number and the receiver of the step, by the byte alone
+  pub number-is : (n : Net M) (b : Byte) → byteStep K n b .number ≡ numberOf (taken (n .receiver) (b .value) (b .mark) .answer)
+  number-is n b =
+      step-either (λ s. s .number ≡ numberOf (taken (n .receiver) (b .value) (b .mark) .answer)) n b
+      (λ r e. ap (λ (t : Received). numberOf (t .answer)) (sym e))
+      (λ r d e. ap (λ (t : Received). numberOf (t .answer)) (sym e))
+
+  pub step-receiver : (n : Net M) (b : Byte) → byteStep K n b .net .receiver ≡ taken (n .receiver) (b .value) (b .mark) .next
+  step-receiver n b =
+      step-either (λ s. s .net .receiver ≡ taken (n .receiver) (b .value) (b .mark) .next) n b
+      (λ r e. ap (λ (t : Received). t .next) (sym e))
+      (λ r d e. ap (λ (t : Received). t .next) (sym e))
 
   pub number-told : NumberTold K
   number-told n b =

@@ -5,15 +5,12 @@ use mathlib.Core.Bool.{true}
 use Prim.Native.Nat.{ℕ, _*_, _≤_}
 use native.Mathlib.Omega.{arith}
 use lib.ListN.{length, length-append}
-use Rattle.line_receiver.specs.declared.Receiver.{Receiver}
-use Rattle.line_receiver.specs.declared.Answer.{Answer}
-use Rattle.line_receiver.specs.declared.Answer.the-variants.{Ended, Nothing}
 use Rattle.line_receiver.specs.Receive.{taken}
 use Rattle.line_receiver.specs.Frames.{Byte, Frame, frameIn, endedBy, ends}
 use Rattle.module_rules.specs.Kind.{Kind, replied}
-use Rattle.chain_rules.specs.Chain.{Net, Reply, Step, Outcome, flat, said, byteStep, after, taking}
+use Rattle.chain_rules.specs.Chain.{Net, Reply, Outcome, flat, said, byteStep, after, taking}
 use Rattle.chain_rules.specs.Promises.{InParts, FewReplies}
-use Rattle.chain_rules.proofs.Bytes.{step-on, step-end}
+use Rattle.chain_rules.proofs.Bytes.{step-either, step-receiver}
 use Rattle.chain_rules.proofs.Along.{said-short, length-stepped}
 use Rattle.chain_rules.proofs.Replies.{flat-join}
 
@@ -42,32 +39,15 @@ module _ {M S : Type 0} (K : Kind M S) where
     replies = λ xs ys n. ap (λ (o : Outcome M). o .replies) (parts xs ys n);
   }
 
-  -- the receiver takes the byte, whatever it ends
-  pub step-receiver : (n : Net M) (b : Byte) → byteStep K n b .net .receiver ≡ taken (n .receiver) (b .value) (b .mark) .next
-  step-receiver n b = go (taken (n .receiver) (b .value) (b .mark) .answer) refl
-    where
-      r : Receiver
-      r = taken (n .receiver) (b .value) (b .mark) .next
-
-      go : (a : Answer) → taken (n .receiver) (b .value) (b .mark) ≡ record { next = r; answer = a } → byteStep K n b .net .receiver ≡ r
-      go Nothing e = ap (λ (s : Step M). s .net .receiver) (step-on K n b r e)
-      go (Ended d) e = ap (λ (s : Step M). s .net .receiver) (step-end K n b r d e)
-
   -- where all modules together can say no more than c, whatever frame comes
   module _ (k c : ℕ) (short : (f : Frame) (m : M) → length (replied K f m) ≤ k) where
     -- the replies to one byte
     pub step-few : (n : Net M) (b : Byte) → k * length (n .modules) ≤ c
         → length (flat (byteStep K n b .replies)) ≤ c * endedBy (taken (n .receiver) (b .value) (b .mark) .answer)
-    step-few n b h = go (taken (n .receiver) (b .value) (b .mark) .answer) refl
-      where
-        r : Receiver
-        r = taken (n .receiver) (b .value) (b .mark) .next
-
-        go : (a : Answer) → taken (n .receiver) (b .value) (b .mark) ≡ record { next = r; answer = a } → length (flat (byteStep K n b .replies)) ≤ c * endedBy a
-        go Nothing e = rw (step-on K n b r e) (omega arith)
-        go (Ended d) e =
-            let f : Frame = frameIn (n .receiver) d in
-            rw (step-end K n b r d e, flat-join 0 (said K f true (n .modules))) (omega (arith, said-short K f k (short f) true (n .modules)))
+    step-few n b h =
+        step-either K (λ s. length (flat (s .replies)) ≤ c * endedBy (taken (n .receiver) (b .value) (b .mark) .answer)) n b
+        (λ r e. omega arith)
+        (λ r d e. let f : Frame = frameIn (n .receiver) d in rw (e, flat-join 0 (said K f true (n .modules))) (omega (arith, said-short K f k (short f) true (n .modules))))
 
     -- to several
     pub few-within : (bs : List Byte) (n : Net M) → k * length (n .modules) ≤ c → length (flat (taking K bs n .replies)) ≤ c * ends bs (n .receiver)
@@ -76,7 +56,7 @@ module _ {M S : Type 0} (K : Kind M S) where
     few-within (b ∷ bs) n h =
         let n′ : Net M = byteStep K n b .net in
         let rest : length (flat (taking K bs n′ .replies)) ≤ c * ends bs (taken (n .receiver) (b .value) (b .mark) .next) =
-        rw (← step-receiver n b) (few-within bs n′ (rw (length-stepped K n b) h)) in
+        rw (← step-receiver K n b) (few-within bs n′ (rw (length-stepped K n b) h)) in
         omega (
           arith,
           step-few n b h,

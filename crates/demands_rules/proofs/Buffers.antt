@@ -231,6 +231,7 @@ any-buffers net cs v h =
     let e = board-makes net cs r in
     record {
       valid = subst⁻¹ ValidRecord (r .sameRecord) (a .valid);
+      network = ap (netIn slots) (r .sameRecord) ∙ a .network ∙ ap (λ (o : Outcome Module). o .net) e;
       bytes = r .sameRecord ∙ a .bytes ∙ ap (λ (o : Outcome Module). stored slots (o .net) net) e;
       replies = r .sameReplies ∙ a .replies ∙ ap (λ (o : Outcome Module). flat (o .replies)) e;
     }

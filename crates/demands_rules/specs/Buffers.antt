@@ -115,6 +115,7 @@ Reaches = (net : List ℕ) (cs : List BoardCall) → ValidRecord net → AllBoar
 -- holds nothing of it is as it was lent, and the bytes written are its replies.
 pub record ThroughBuffers (net : List ℕ) (cs : List BoardCall) : Type 0 where
   pub valid : ValidRecord (boardLeft cs net)
+  pub network : netIn slots (boardLeft cs net) ≡ run kind (boardDone cs net) (netIn slots net) .net
   pub bytes : boardLeft cs net ≡ stored slots (run kind (boardDone cs net) (netIn slots net) .net) net
   pub replies : boardWritten cs net ≡ flat (run kind (boardDone cs net) (netIn slots net) .replies)
 

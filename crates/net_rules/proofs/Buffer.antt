@@ -30,7 +30,8 @@ use Rattle.net_rules.specs.Walk.{walked, speech, endedOf, speechBy, walk
 use Rattle.net_rules.specs.Calls.{byteOf, bytesOf}
 use Rattle.net_rules.specs.Promises.{OwnMarks}
 use Rattle.net_rules.proofs.Stored.{holds}
-use Rattle.net_rules.proofs.Exact.{waits}
+use Rattle.net_rules.proofs.Valid.{valid-is}
+use Rattle.net_rules.proofs.Exact.{waits, length-modules}
 use Rattle.net_rules.proofs.Types.{types, byte-types, bytes-types}
 use Rattle.net_rules.proofs.Taking.{netWith, nothing-more, frame-ended, said-is, onward}
 
@@ -69,9 +70,9 @@ pub onto : {whole : Outcome Module} {s₀ room₀ : List ℕ} (xs ms : List ℕ)
 onto {whole} {s₀} {room₀} xs ms i {r} {s} {room} {w} h e m =
     subst (λ (rest : List Byte). Midway whole s₀ room₀ rest r s room w) (next-of xs ms i h e) m
 
--- no module has said more than a reply, and there are at most 32
-most-said : (r : Receiver) (s : List ℕ) → Bytes s → valid slots s ≡ true → replySize * length (netIn slots s .modules) ≤ roomSize
-most-said r s b v = let h = holds lawful s b v .most in omega arith
+-- all modules of a valid record together say no more than a byte call's room
+pub most-said : (s : List ℕ) → valid slots s ≡ true → replySize * length (netIn slots s .modules) ≤ roomSize
+most-said s v = let m = valid-is slots s v .most in omega (arith, length-modules slots s)
 
 -- before the first byte
 pub set-out : (xs ms s room : List ℕ) {r : Receiver} → r ≡ receiverIn s → length xs ≡ length ms → Bytes s → valid slots s ≡ true → roomFor (length xs) ≤ length room
@@ -103,7 +104,7 @@ module _ {whole : Outcome Module} {s₀ room₀ : List ℕ} {rest : List Byte} {
   left-is = ap (λ (t : Received). endedBy (t .answer) + ends rest (t .next)) (sym eg)
 
   x-few : length x ≤ roomSize * endedBy (got .answer)
-  x-few = rw eg (step-few kind replySize roomSize said-short (netWith r s) y (most-said r s (m .bytes) (m .valid)))
+  x-few = rw eg (step-few kind replySize roomSize said-short (netWith r s) y (most-said s (m .valid)))
 
   -- what is said to the byte and to those after it
   all-said : flat (taking kind (y ∷ rest) (netWith r s) .replies) ≡ x ++ flat (later .replies)
@@ -113,7 +114,7 @@ module _ {whole : Outcome Module} {s₀ room₀ : List ℕ} {rest : List Byte} {
   all-few =
       omega (
         arith,
-        few-within kind replySize roomSize said-short (y ∷ rest) (netWith r s) (most-said r s (m .bytes) (m .valid)),
+        few-within kind replySize roomSize said-short (y ∷ rest) (netWith r s) (most-said s (m .valid)),
         ap length all-said,
         length-append x (flat (later .replies)),
         m .enough,

@@ -8,9 +8,6 @@ use lib.Dec.{eqb}
 use lib.ListN.{length}
 use Rattle.base_layout.specs.Bytes.{Bytes}
 use Rattle.line_receiver.specs.declared.Receiver.{Receiver}
-use Rattle.line_receiver.specs.declared.Received.{Received}
-use Rattle.line_receiver.specs.declared.Answer.{Answer}
-use Rattle.line_receiver.specs.declared.Answer.the-variants.{Ended, Nothing}
 use Rattle.line_receiver.specs.Receive.{taken, count}
 use Rattle.line_receiver.specs.Frames.{Frame, frameIn}
 use Rattle.line_receiver.specs.Promises.{Sound}
@@ -20,7 +17,7 @@ use Rattle.module_rules.specs.Kind.{Kind, executed}
 use Rattle.chain_rules.specs.Chain.{Net, handed, byteStep, taking, timed}
 use Rattle.chain_rules.proofs.Along.{length-handed}
 use Rattle.chain_rules.proofs.Timing.{length-timed}
-use Rattle.chain_rules.proofs.Bytes.{step-on, step-end}
+use Rattle.chain_rules.proofs.Bytes.{step-either}
 use Rattle.module_rules.specs.Slots.{Preserves, Slots}
 use Rattle.net_rules.specs.Calls.{byteOf, bytesOf}
 use Rattle.net_rules.specs.Promises.{Each, SoundNet, KeptByByte, KeptByTick}
@@ -55,16 +52,13 @@ same-count n r ms h s e q =
 module _ {M S : Type 0} (K : Kind M S) (L : Slots M) (Good : S → Type 0) where
   pub kept-by-byte : KeptByByte K L Good
   kept-by-byte p n b h v =
-      let t : Received = taken (n .receiver) (b .value) (b .mark) in
-      go (t .answer) (t .next) (kept (n .receiver) (b .value) (b .mark) (h .receiver) v) refl
-    where
-      go : (a : Answer) (r : Receiver) → Sound r → taken (n .receiver) (b .value) (b .mark) ≡ record { next = r; answer = a } → SoundNet L (byteStep K n b .net)
-      go Nothing r s e = rw (step-on K n b r e) (same-count n r (n .modules) h s refl (h .each))
-      go (Ended d) r s e =
-          let f : Frame = frameIn (n .receiver) d in
-          rw (step-end K n b r d e)
-          (same-count n r (handed K f true (n .modules)) h s (length-handed K f true (n .modules))
-          (handed-fit K L Good p (n .modules) f true (content-bytes (n .receiver) d (h .receiver)) (h .each)))
+      let sound : Sound (taken (n .receiver) (b .value) (b .mark) .next) = kept (n .receiver) (b .value) (b .mark) (h .receiver) v in
+      step-either K (λ s. SoundNet L (s .net)) n b
+      (λ r e. same-count n r (n .modules) h (rw e at sound) refl (h .each))
+      (λ r d e.
+      let f : Frame = frameIn (n .receiver) d in
+      same-count n r (handed K f true (n .modules)) h (rw e at sound) (length-handed K f true (n .modules))
+      (handed-fit K L Good p (n .modules) f true (content-bytes (n .receiver) d (h .receiver)) (h .each)))
 
   pub kept-by-bytes : Preserves K L Good → (xs ms : List ℕ) (n : Net M) → Bytes xs → SoundNet L n → SoundNet L (taking K (bytesOf xs ms) n .net)
   kept-by-bytes p [] ms n b h = h

@@ -15,9 +15,8 @@ use Rattle.line_receiver.specs.Frames.{Byte, frameIn}
 use Rattle.line_receiver.specs.Promises.{Sound}
 use Rattle.line_receiver.proofs.Kept.{kept}
 use Rattle.chain_rules.specs.Chain.{Net, Step, join, flat, said, byteStep}
-use Rattle.chain_rules.proofs.Bytes.{step-on, step-end, number-is}
+use Rattle.chain_rules.proofs.Bytes.{step-on, step-end, number-is, step-receiver}
 use Rattle.chain_rules.proofs.Replies.{flat-join}
-use Rattle.chain_rules.proofs.Taking.{step-receiver}
 use Rattle.types_rules.specs.Types.{Module, kind, slots, Good}
 use Rattle.types_rules.proofs.Laws.{lawful}
 use Rattle.types_rules.proofs.Kept.{preserves}

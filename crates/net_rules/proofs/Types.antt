@@ -7,15 +7,11 @@ use Prim.Native.Nat.{ℕ, _≤_}
 use native.Mathlib.Omega.{arith}
 use lib.ListN.{length, length-map}
 use Rattle.base_layout.specs.Bytes.{Bytes}
-use Rattle.line_receiver.specs.declared.Receiver.{Receiver}
-use Rattle.line_receiver.specs.declared.Answer.{Answer}
-use Rattle.line_receiver.specs.declared.Answer.the-variants.{Ended, Nothing}
-use Rattle.line_receiver.specs.Receive.{taken}
 use Rattle.line_receiver.specs.Frames.{Byte, Frame, frameIn}
 use Rattle.module_rules.specs.Touch.{named}
 use Rattle.module_rules.specs.Kind.{executed}
-use Rattle.chain_rules.specs.Chain.{Net, Step, handed, byteStep, taking, timed}
-use Rattle.chain_rules.proofs.Bytes.{step-on, step-end}
+use Rattle.chain_rules.specs.Chain.{Net, handed, byteStep, taking, timed}
+use Rattle.chain_rules.proofs.Bytes.{step-either}
 use Rattle.types_rules.specs.Table.{ModuleType, Of, rulesOf, slotsOf}
 use Rattle.types_rules.specs.Types.{Module, AnySample, kind, slots}
 use Rattle.types_rules.proofs.Owed.{owes}
@@ -46,15 +42,10 @@ timed-types [] (m ∷ ms) = refl
 timed-types (x ∷ xs) (m ∷ ms) = ap (λ (ts : List ModuleType). typeOf m ∷ ts) (timed-types xs ms)
 
 pub byte-types : (n : Net Module) (b : Byte) → types (byteStep kind n b .net .modules) ≡ types (n .modules)
-byte-types n b = go (taken (n .receiver) (b .value) (b .mark) .answer) refl
-  where
-    r : Receiver
-    r = taken (n .receiver) (b .value) (b .mark) .next
-
-    go : (a : Answer) → taken (n .receiver) (b .value) (b .mark) ≡ record { next = r; answer = a } → types (byteStep kind n b .net .modules) ≡ types (n .modules)
-    go Nothing e = ap (λ (s : Step Module). types (s .net .modules)) (step-on kind n b r e)
-    go (Ended d) e =
-        ap (λ (s : Step Module). types (s .net .modules)) (step-end kind n b r d e) ∙ handed-types (frameIn (n .receiver) d) true (n .modules)
+byte-types n b =
+    step-either kind (λ s. types (s .net .modules) ≡ types (n .modules)) n b
+    (λ r e. refl)
+    (λ r d e. handed-types (frameIn (n .receiver) d) true (n .modules))
 
 pub bytes-types : (bs : List Byte) (n : Net Module) → types (taking kind bs n .net .modules) ≡ types (n .modules)
 bytes-types [] n = refl
