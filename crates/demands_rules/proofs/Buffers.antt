@@ -45,6 +45,13 @@ use Rattle.demands_rules.proofs.OnTheLine.{fed-handed, fed-done, fed-tw
 abbrev Events : Type 0
 Events = List (Event (List AnySample))
 
+-- a room that every byte call takes
+abbrev spare : List ℕ
+spare = replicate roomSize 0
+
+spare-long : roomSize ≤ length spare
+spare-long = omega (arith, length-replicate {A = ℕ} roomSize 0)
+
 -- ---- a buffer
 
 are-bytes : (xs ms : List ℕ) → Bytes xs → AreBytes (values (bytesOf xs ms))
@@ -165,18 +172,12 @@ one-call net (buffer bytes marks room) v h = at (passes? (bufferTable net bytes 
     bs : List Byte
     bs = bytesOf bytes marks
 
-    own : List ℕ
-    own = replicate roomSize 0
-
-    long : roomSize ≤ length own
-    long = omega (arith, length-replicate {A = ℕ} roomSize 0)
-
     at : Passes (bufferTable net bytes marks room) ⊎ Refuses (bufferTable net bytes marks room) → Single net (buffer bytes marks room)
     at (inl p) =
-        let o = as-byte-calls net bytes marks room own v h long p in
-        let e = done ls [] (byteCalls own bytes marks) refl p in
+        let o = as-byte-calls net bytes marks room spare v h spare-long p in
+        let e = done ls [] (byteCalls spare bytes marks) refl p in
         record {
-          handed = subst AllHanded e (calls-handed own bytes marks h);
+          handed = subst AllHanded e (calls-handed spare bytes marks h);
           kept = kept .buffer net bytes marks room h v;
           left = o .sameRecord ∙ ap (λ (cs : List Call). leftBy cs net) e;
           wrote = o .sameReplies ∙ ap (λ (cs : List Call). writtenBy cs net) e;
@@ -188,7 +189,7 @@ one-call net (buffer bytes marks room) v h = at (passes? (bufferTable net bytes 
         }
     at (inr r) =
         let u = unchanged .buffer net bytes marks room r in
-        let e = refused ls [] (byteCalls own bytes marks) refl r in
+        let e = refused ls [] (byteCalls spare bytes marks) refl r in
         record {
           handed = subst AllHanded e tt;
           kept = kept .buffer net bytes marks room h v;
@@ -243,18 +244,16 @@ never-of-any-type t Rests Starts o net cs i m k v h e q rests moved =
 
 pub question-of-any-type : QuestionOfAnyType
 question-of-any-type t needed NoneReady NoLoad o net cs i m loadBytes startBytes load start v h b e z here unready readsLoad c missed readsStart isStart touches =
-    let own : List ℕ = replicate roomSize 0 in
-    let long : roomSize ≤ length own = omega (arith, length-replicate {A = ℕ} roomSize 0) in
     let bs : List Byte = loadBytes ++ startBytes in
     let n : Net Module = netIn slots net in
-    let same : run kind (boardDone cs net) n ≡ run kind (doneBy (fed own bs) net) n =
-    sym (run-singly kind (boardDone cs net) n) ∙ ap (λ (l : Events). run kind l n) (e ∙ sym (fed-two own loadBytes startBytes net long v b)) in
-    let left : boardLeft cs net ≡ leftBy (fed own bs) net =
+    let same : run kind (boardDone cs net) n ≡ run kind (doneBy (fed spare bs) net) n =
+    sym (run-singly kind (boardDone cs net) n) ∙ ap (λ (l : Events). run kind l n) (e ∙ sym (fed-two spare loadBytes startBytes net spare-long v b)) in
+    let left : boardLeft cs net ≡ leftBy (fed spare bs) net =
     any-buffers net cs v h .bytes
     ∙ ap (λ (o : Outcome Module). stored slots (o .net) net) same
-    ∙ sym (any-calls net (fed own bs) v (fed-handed own bs b) .bytes) in
+    ∙ sym (any-calls net (fed spare bs) v (fed-handed spare bs b) .bytes) in
     subst⁻¹ (λ (s : List ℕ). AtOf t s i (withCause (rulesOf t) 3 m)) left
-    (question-on-the-line t needed NoneReady NoLoad o net own i m loadBytes startBytes load start v long b z here unready readsLoad c missed readsStart isStart touches)
+    (question-on-the-line t needed NoneReady NoLoad o net spare i m loadBytes startBytes load start v spare-long b z here unready readsLoad c missed readsStart isStart touches)
 
 pub cut-anywhere : CutAnywhere
 cut-anywhere net cs₁ cs₂ v h₁ h₂ e =
