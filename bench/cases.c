@@ -463,6 +463,67 @@ static void read_once(const struct implementation *at)
     need(at->read_status(NMC_TYPE_SERVO, ALL_ITEMS, reply, sizeof reply, reading) == NMC_DONE);
 }
 
+/* ---- the line monitor's text */
+
+enum { TEXT_LEN = 4096, TEXT_BYTES = 1365, RECORD_LEN = 3 }; /* 85 lines of 16 and one of 5, a mark among them */
+
+static uint8_t text[TEXT_LEN], records[TEXT_BYTES * RECORD_LEN];
+static uint8_t text_room[TEXT_LEN];
+
+static void prepare_text(const struct implementation *at)
+{
+    size_t written;
+    (void)at;
+    for (unsigned i = 0; i < TEXT_BYTES; i++) {
+        uint8_t *record = records + RECORD_LEN * i;
+        record[0] = 1;
+        record[1] = i == TEXT_BYTES / 2;
+        record[2] = (uint8_t)(i * 0x9E3779B1u >> 24);
+    }
+    need(nmc_export_text(records, sizeof records, text, sizeof text, &written) == NMC_DONE && written == TEXT_LEN);
+}
+
+/* The last newline is something else. */
+static void prepare_bad_text(const struct implementation *at)
+{
+    prepare_text(at);
+    text[TEXT_LEN - 1] = '?';
+}
+
+/* The last mark is neither 0 nor 1. */
+static void prepare_bad_records(const struct implementation *at)
+{
+    prepare_text(at);
+    records[sizeof records - 2] = 2;
+}
+
+static void import_once(const struct implementation *at)
+{
+    size_t written, offset;
+    need(at->import_text(text, sizeof text, text_room, sizeof text_room, &written, &offset) == NMC_DONE &&
+         written == sizeof records);
+}
+
+static void import_in_vain(const struct implementation *at)
+{
+    size_t written, offset;
+    need(at->import_text(text, sizeof text, text_room, sizeof text_room, &written, &offset) == NMC_BAD_TEXT &&
+         offset == TEXT_LEN - 1);
+}
+
+static void export_once(const struct implementation *at)
+{
+    size_t written;
+    need(at->export_text(records, sizeof records, text_room, sizeof text_room, &written) == NMC_DONE &&
+         written == TEXT_LEN);
+}
+
+static void export_in_vain(const struct implementation *at)
+{
+    size_t written;
+    need(at->export_text(records, sizeof records, text_room, sizeof text_room, &written) == NMC_BAD_RECORDS);
+}
+
 const struct bench_case cases[] = {
     {A_BYTE, "byte", prepare_moving, take_null, NOTHING_BACK, 1000},
     {"byte, no frame ends, 32 I/O", "byte", prepare_io, take_null, NOTHING_BACK, 1000},
@@ -514,6 +575,10 @@ const struct bench_case cases[] = {
     {"outputs, one of 32 steppers moving", "outputs", prepare_steppers_at_speed, take_outputs, NOTHING_BACK, 1000},
     {"write_frame, 13 data bytes", "write_frame", prepare_one_servo, write_once, NOTHING_BACK, 1000},
     {"read_status, all items", "read_status", prepare_reply, read_once, NOTHING_BACK, 1000},
+    {"import_text, 4,096 characters", "import_text", prepare_text, import_once, NOTHING_BACK, 100},
+    {"import_text, refused at the last of 4,096", "import_text", prepare_bad_text, import_in_vain, NOTHING_BACK, 100},
+    {"export_text, 4,096 characters", "export_text", prepare_text, export_once, NOTHING_BACK, 100},
+    {"export_text, refused at the last record", "export_text", prepare_bad_records, export_in_vain, NOTHING_BACK, 100},
     {"list alone, 32 servos moving", "outputs", prepare_moving, only_list, NOTHING_BACK, 1000},
     {"list alone, 32 servos off", "outputs", prepare_servos_off, only_list, NOTHING_BACK, 1000},
     {"list alone, 32 I/O", "outputs", prepare_io, only_list, NOTHING_BACK, 1000},

@@ -1,9 +1,10 @@
 /*
- * Document 01 with P1, P2, P3, P4, P5, P8 and P11 of 02 in plain C, to measure
- * the library against: the same calls and the same answers on a network of typed
- * structs.
- * plain.c is compiled twice: as it stands (plain_...) it believes the network
- * that it is lent, with PLAIN_CHECKS (checked_...) it tests the list for
+ * Document 01 with P1, P2, P3, P4, P5, P7, P8 and P11 of 02 in plain C, to
+ * measure the library against: the same calls and the same answers on a network
+ * of typed structs. The line monitor's text is in plain_text.c, all else in
+ * plain.c.
+ * Both are compiled twice: as they stand (plain_...) they believe the network
+ * that they are lent, with PLAIN_CHECKS (checked_...) they test the list for
  * refusal 16 at each call.
  */
 #ifndef PLAIN_H
@@ -149,7 +150,11 @@ struct plain_network {
                                 size_t data_len, uint8_t *room, size_t room_len,                  \
                                 size_t *written);                                                 \
     uint32_t NAMED(read_status)(uint32_t type, uint8_t items, const uint8_t *reply,               \
-                                size_t reply_len, uint8_t *reading);
+                                size_t reply_len, uint8_t *reading);                              \
+    uint32_t NAMED(import_text)(const uint8_t *text, size_t text_len, uint8_t *room,              \
+                                size_t room_len, size_t *written, size_t *offset);                \
+    uint32_t NAMED(export_text)(const uint8_t *records, size_t records_len, uint8_t *room,        \
+                                size_t room_len, size_t *written);
 
 #define PLAIN_UNCHECKED(name) plain_##name
 #define PLAIN_CHECKED(name) checked_##name

@@ -5,7 +5,9 @@
  * outputs, latch the same samples, and servos and steppers keep the same; a
  * buffer must do what the library's single bytes do, to the record's last byte;
  * a tick or a buffer whose list is spoiled must change nothing; and over spoiled
- * records the library and the build that checks must refuse the same ones.
+ * records the library and the build that checks must refuse the same ones. Texts
+ * of the line monitor and records of line bytes, good and spoiled, must be taken
+ * and refused the same, to the last byte of the room.
  */
 #include "plain.h"
 #include "three.h"
@@ -20,7 +22,7 @@ enum { CAUSE_AT = 5, ITEMS_AT = 6, LATCHED_AT = 8, INPUTS_AT = 14, SETPOINT_AT =
 enum { SERVO_SPEED_AT = 62, SERVO_GOAL_AT = 66, INTEGRAL_AT = 82, PREVIOUS_AT = 86, MODE_AT = 90, PWM_AT = 91, ERROR_AT = 99 };
 enum { CUT_AT = 101, HOME_AT = 102, HOMING_AT = 106, SERVO_LEN = 107 };
 enum { MINIMUM_AT = 9, LOAD_AT = 18, SPEED_AT = 22, GOAL_AT = 24, TIME_AT = 25, COUNTER_AT = 26, STOPPING_AT = 27, STEPPER_LEN = 32 };
-enum { CAUSES = 6, NUMBERS = 21, LEAST_TIMES = 1000, MOST_STEPS = 250 };
+enum { CAUSES = 6, NUMBERS = 23, LEAST_TIMES = 1000, MOST_STEPS = 250 };
 enum { ADDRESS_AT = 15, COMMAND_AT = 16, FILL_AT = 17, MARKED_AT = 18, STATION_AT = 1, TOUCHED_BY_LEN = 4 };
 enum { FILLINGS = 400, FILLED = 4, MOST_FRAMES = 16, MOST_LIST = NMC_BUFFER_LEN + 6, MOST_ROOM = NMC_BUFFER_ROOM_LEN + 8 };
 
@@ -196,6 +198,62 @@ static const char *const ways_of_buffering[WAYS_OF_BUFFERING] = {
     [RECORD_ALONE] = "a good buffer refused for the record",
 };
 static unsigned long times_of_buffering[WAYS_OF_BUFFERING];
+
+/* What texts and records of line bytes must come to. */
+enum texting {
+    NO_TEXT,
+    TEXT_TAKEN,
+    LONG_LINE,
+    SMALL_LETTER,
+    BAD_LINE_BEGIN,
+    BAD_BEHIND_SPACE,
+    BAD_SECOND_DIGIT,
+    BAD_BEHIND_BYTE,
+    BAD_BEHIND_MARK,
+    OFF_BEHIND_SPACE,
+    OFF_BEHIND_DIGIT,
+    OFF_BEHIND_BYTE,
+    OFF_BEHIND_MARK,
+    SHORT_IMPORT_ROOM,
+    TEXT_BEFORE_ROOM,
+    NO_RECORDS,
+    FULL_LAST_LINE,
+    SHORTER_LAST_LINE,
+    MARKED_BYTE,
+    CUT_RECORD,
+    OTHER_KIND,
+    OTHER_MARK,
+    SHORT_EXPORT_ROOM,
+    RECORDS_BEFORE_ROOM,
+    WAYS_OF_TEXTING
+};
+static const char *const ways_of_texting[WAYS_OF_TEXTING] = {
+    [NO_TEXT] = "an empty text",
+    [TEXT_TAKEN] = "a text imported",
+    [LONG_LINE] = "a line of more than 16 bytes imported",
+    [SMALL_LETTER] = "a small letter imported",
+    [BAD_LINE_BEGIN] = "a text at fault where a line begins",
+    [BAD_BEHIND_SPACE] = "a text at fault behind a space",
+    [BAD_SECOND_DIGIT] = "a text at fault behind a byte's first digit",
+    [BAD_BEHIND_BYTE] = "a text at fault behind a byte",
+    [BAD_BEHIND_MARK] = "a text at fault behind a mark",
+    [OFF_BEHIND_SPACE] = "a text that breaks off behind a space",
+    [OFF_BEHIND_DIGIT] = "a text that breaks off behind a byte's first digit",
+    [OFF_BEHIND_BYTE] = "a text that breaks off behind a byte",
+    [OFF_BEHIND_MARK] = "a text that breaks off behind a mark",
+    [SHORT_IMPORT_ROOM] = "a text refused for its room",
+    [TEXT_BEFORE_ROOM] = "a text refused for itself, in a short room",
+    [NO_RECORDS] = "an export of no records",
+    [FULL_LAST_LINE] = "an export whose last line is full",
+    [SHORTER_LAST_LINE] = "an export whose last line is shorter",
+    [MARKED_BYTE] = "an export with a mark",
+    [CUT_RECORD] = "records refused for a cut one",
+    [OTHER_KIND] = "records refused for another kind",
+    [OTHER_MARK] = "records refused for a mark",
+    [SHORT_EXPORT_ROOM] = "records refused for their room",
+    [RECORDS_BEFORE_ROOM] = "records refused for themselves, in a short room",
+};
+static unsigned long times_of_texting[WAYS_OF_TEXTING], imports_with[NUMBERS], exports_with[NUMBERS];
 
 /* The last bytes of the line came in a buffer. */
 static bool after_buffer;
@@ -1659,6 +1717,219 @@ static void run_history(void)
         outputs_of_all(place);
 }
 
+/* ---- the line monitor's text */
+
+enum { CAPTURES = 100000, CAPTURE_BYTES = 160, MOST_TEXT = 4 * CAPTURE_BYTES + 8 };
+enum { BYTES_A_LINE = 16, LINE_BYTE_LEN = 3 };
+
+/* A capture, as text and as records; where they are spoiled they may be a little longer. */
+static uint8_t text[MOST_TEXT], line_bytes[LINE_BYTE_LEN * CAPTURE_BYTES + 2];
+static size_t text_len, line_bytes_len;
+
+static void put_on_line(uint8_t byte, uint8_t mark, uint8_t behind)
+{
+    static const char digits[2][17] = {"0123456789ABCDEF", "0123456789abcdef"};
+    uint32_t high_case = below(2), low_case = below(2);
+    text[text_len++] = (uint8_t)digits[high_case][byte >> 4];
+    text[text_len++] = (uint8_t)digits[low_case][byte & 15];
+    if (mark)
+        text[text_len++] = '!';
+    text[text_len++] = behind;
+    line_bytes[line_bytes_len++] = 1;
+    line_bytes[line_bytes_len++] = mark;
+    line_bytes[line_bytes_len++] = byte;
+}
+
+/* Any bytes on lines of any length, in letters of any case; how many they are, and how many are marked. */
+static uint32_t throw_capture(uint32_t *marks)
+{
+    static const uint8_t lengths[] = {1, 3, 16, 40, CAPTURE_BYTES}, marked[] = {0, 5, 50, 100};
+    uint32_t bytes = percent(40) ? BYTES_A_LINE * below(CAPTURE_BYTES / BYTES_A_LINE) : below(CAPTURE_BYTES);
+    uint32_t longest = lengths[below(sizeof lengths)], in_hundred = marked[below(sizeof marked)];
+    uint32_t left = 1 + below(longest);
+    text_len = line_bytes_len = *marks = 0;
+    for (uint32_t i = 1; i <= bytes; i++) {
+        bool ends = --left == 0 || i == bytes;
+        uint8_t byte = (uint8_t)throw_dice(), mark = percent(in_hundred);
+        *marks += mark;
+        put_on_line(byte, mark, ends ? '\n' : ' ');
+        if (ends)
+            left = 1 + below(longest);
+    }
+    return bytes;
+}
+
+/* As long as the output, or a little shorter or longer, or any. */
+static size_t some_room(size_t needed)
+{
+    uint32_t kind = below(8), some = below((uint32_t)needed + 1), few = 1 + below(4);
+    if (kind == 0)
+        return some;
+    if (kind == 1)
+        return needed > few ? needed - few : 0;
+    return kind == 2 ? needed + few : needed;
+}
+
+/* What stands before a fault, and whether anything comes behind. */
+static void note_fault(size_t at, bool off)
+{
+    uint8_t last = at > 0 ? text[at - 1] : '\n';
+    if (last == '\n')
+        times_of_texting[BAD_LINE_BEGIN]++;
+    else if (last == ' ')
+        times_of_texting[off ? OFF_BEHIND_SPACE : BAD_BEHIND_SPACE]++;
+    else if (last == '!')
+        times_of_texting[off ? OFF_BEHIND_MARK : BAD_BEHIND_MARK]++;
+    else if (at == 1 || text[at - 2] == ' ' || text[at - 2] == '\n')
+        times_of_texting[off ? OFF_BEHIND_DIGIT : BAD_SECOND_DIGIT]++;
+    else
+        times_of_texting[off ? OFF_BEHIND_BYTE : BAD_BEHIND_BYTE]++;
+}
+
+static void note_taken(void)
+{
+    uint32_t on_line = 0;
+    bool is_long = false, small = false;
+    for (size_t i = 0; i < text_len; i++) {
+        on_line = text[i] == '\n' ? 0 : on_line + (text[i] == ' ');
+        is_long |= on_line >= BYTES_A_LINE;
+        small |= text[i] >= 'a';
+    }
+    times_of_texting[NO_TEXT] += text_len == 0;
+    times_of_texting[TEXT_TAKEN] += text_len > 0;
+    times_of_texting[LONG_LINE] += is_long;
+    times_of_texting[SMALL_LETTER] += small;
+}
+
+static void note_import(uint32_t number, size_t offset, size_t room_len)
+{
+    imports_with[number]++;
+    times_of_texting[SHORT_IMPORT_ROOM] += number == NMC_SHORT_ROOM;
+    if (number == NMC_DONE)
+        note_taken();
+    if (number == NMC_BAD_TEXT) {
+        note_fault(offset, offset == text_len);
+        /* short for what stands before the fault, in which a byte has at most four characters */
+        times_of_texting[TEXT_BEFORE_ROOM] += room_len < offset / 4 * LINE_BYTE_LEN;
+    }
+}
+
+static void import_at_all(size_t room_len)
+{
+    static uint8_t rooms[IMPLEMENTATIONS][MOST_TEXT];
+    uint32_t numbers[IMPLEMENTATIONS];
+    size_t written[IMPLEMENTATIONS], offsets[IMPLEMENTATIONS];
+    uint8_t stale = (uint8_t)throw_dice();
+    calls++;
+    for (unsigned i = 0; i < IMPLEMENTATIONS; i++) {
+        memset(rooms[i], stale, sizeof rooms[i]);
+        written[i] = offsets[i] = 99;
+        numbers[i] = implementations[i].import_text(text, text_len, rooms[i], room_len, &written[i], &offsets[i]);
+        need(numbers[i] == numbers[LIBRARY], "import's number", i);
+        need(written[i] == written[LIBRARY] && offsets[i] == offsets[LIBRARY], "import's length or offset", i);
+        need(memcmp(rooms[i], rooms[LIBRARY], sizeof rooms[i]) == 0, "imported records", i);
+    }
+    need_alone(all_are(rooms[LIBRARY] + written[LIBRARY], MOST_TEXT - written[LIBRARY], stale),
+               "an import wrote behind what it tells", LIBRARY);
+    note_import(numbers[LIBRARY], offsets[LIBRARY], room_len);
+}
+
+static void note_bad_records(size_t room_len)
+{
+    bool other_kind = false, other_mark = false;
+    for (size_t i = 0; i < line_bytes_len; i += LINE_BYTE_LEN) {
+        other_kind |= line_bytes[i] != 1;
+        other_mark |= i + 1 < line_bytes_len && line_bytes[i + 1] > 1;
+    }
+    times_of_texting[CUT_RECORD] += !other_kind && !other_mark;
+    times_of_texting[OTHER_KIND] += other_kind && !other_mark && line_bytes_len % LINE_BYTE_LEN == 0;
+    times_of_texting[OTHER_MARK] += !other_kind && other_mark && line_bytes_len % LINE_BYTE_LEN == 0;
+    times_of_texting[RECORDS_BEFORE_ROOM] += room_len < line_bytes_len;
+}
+
+static void note_export(uint32_t number, size_t written, size_t room_len)
+{
+    exports_with[number]++;
+    times_of_texting[SHORT_EXPORT_ROOM] += number == NMC_SHORT_ROOM;
+    if (number == NMC_DONE) {
+        bool full = line_bytes_len % (BYTES_A_LINE * LINE_BYTE_LEN) == 0;
+        times_of_texting[NO_RECORDS] += line_bytes_len == 0;
+        times_of_texting[FULL_LAST_LINE] += line_bytes_len > 0 && full;
+        times_of_texting[SHORTER_LAST_LINE] += !full;
+        times_of_texting[MARKED_BYTE] += written > line_bytes_len;
+    }
+    if (number == NMC_BAD_RECORDS)
+        note_bad_records(room_len);
+}
+
+static void export_at_all(size_t room_len)
+{
+    static uint8_t rooms[IMPLEMENTATIONS][MOST_TEXT];
+    uint32_t numbers[IMPLEMENTATIONS];
+    size_t written[IMPLEMENTATIONS];
+    uint8_t stale = (uint8_t)throw_dice();
+    calls++;
+    for (unsigned i = 0; i < IMPLEMENTATIONS; i++) {
+        memset(rooms[i], stale, sizeof rooms[i]);
+        written[i] = 99;
+        numbers[i] = implementations[i].export_text(line_bytes, line_bytes_len, rooms[i], room_len, &written[i]);
+        need(numbers[i] == numbers[LIBRARY] && written[i] == written[LIBRARY], "export's number or length", i);
+        need(memcmp(rooms[i], rooms[LIBRARY], sizeof rooms[i]) == 0, "exported text", i);
+    }
+    need_alone(all_are(rooms[LIBRARY] + written[LIBRARY], MOST_TEXT - written[LIBRARY], stale),
+               "an export wrote behind what it tells", LIBRARY);
+    note_export(numbers[LIBRARY], written[LIBRARY], room_len);
+}
+
+/* Another character, one more, one less, or cut there. */
+static void spoil_text(void)
+{
+    static const char near[] = "09AFaf !\n/:@G`g\r\t\"";
+    uint32_t at = below((uint32_t)text_len + 1), kind = below(4);
+    uint8_t other = percent(80) ? (uint8_t)near[below(sizeof near)] : (uint8_t)throw_dice();
+    if (kind == 0) {
+        memmove(text + at + 1, text + at, text_len++ - at);
+        text[at] = other;
+    } else if (kind == 1 || at == text_len) {
+        text_len = at;
+    } else if (kind == 2) {
+        memmove(text + at, text + at + 1, --text_len - at);
+    } else {
+        text[at] = other;
+    }
+}
+
+/* Another kind or another mark, or a record cut, or begun behind the last. */
+static void spoil_line_bytes(void)
+{
+    uint32_t at = line_bytes_len > 0 ? LINE_BYTE_LEN * below((uint32_t)line_bytes_len / LINE_BYTE_LEN) : 0;
+    uint32_t kind = line_bytes_len > 0 ? below(4) : 3;
+    uint8_t other = percent(60) ? (uint8_t)below(7) : (uint8_t)throw_dice();
+    if (kind == 0)
+        line_bytes[at] = other;
+    else if (kind == 1)
+        line_bytes[at + 1] = other;
+    else if (kind == 2)
+        line_bytes_len = at + 1 + below(LINE_BYTE_LEN - 1);
+    else
+        for (uint32_t more = 1 + below(LINE_BYTE_LEN - 1); more > 0; more--)
+            line_bytes[line_bytes_len++] = (uint8_t)below(2);
+}
+
+/* A capture in both directions, and then with something wrong with it. */
+static void take_capture(void)
+{
+    uint32_t marks, bytes = throw_capture(&marks);
+    size_t records_need = (size_t)bytes * LINE_BYTE_LEN, text_needs = records_need + marks;
+    import_at_all(some_room(records_need));
+    export_at_all(some_room(text_needs));
+    for (uint32_t times = 1 + below(2); times > 0; times--)
+        spoil_text();
+    import_at_all(some_room(records_need));
+    spoil_line_bytes();
+    export_at_all(some_room(text_needs));
+}
+
 static void refuse_setups(void)
 {
     uint8_t types[NMC_MOST_MODULES + 1] = {0, 2, 3, 1};
@@ -1694,6 +1965,8 @@ static bool all_came_up(void)
         seldom |= too_seldom(ways_of_homing[way], times_of_homing[way]);
     for (unsigned way = 0; way < WAYS_OF_BUFFERING; way++)
         seldom |= too_seldom(ways_of_buffering[way], times_of_buffering[way]);
+    for (unsigned way = 0; way < WAYS_OF_TEXTING; way++)
+        seldom |= too_seldom(ways_of_texting[way], times_of_texting[way]);
     for (unsigned mode = 0; mode < MODES; mode++)
         for (unsigned stop = 0; stop < STOPS; stop++) {
             char what[64];
@@ -1726,6 +1999,9 @@ int main(void)
         dice = history;
         fill_rooms();
     }
+    dice = history;
+    for (step = 0; step < CAPTURES; step++)
+        take_capture();
     if (!all_came_up())
         return 1;
     printf("%lu calls, %lu frames ended, by cause %lu %lu %lu %lu %lu %lu, %lu ticks of a moving servo, %lu cut; "
@@ -1733,13 +2009,17 @@ int main(void)
            "%lu lists refused for their length, %lu for a type, %lu for a field; "
            "%lu buffers, %lu with one frame's end, %lu with more, %lu of these with sixteen, %lu frames carried over, "
            "%lu refused for their lengths, %lu for a mark, %lu for the room; "
-           "%lu spoiled records, %lu refused: all the same\n",
+           "%lu spoiled records, %lu refused; "
+           "%lu texts imported, %lu refused, %lu for the room; %lu exported, %lu refused, %lu for the room: "
+           "all the same\n",
            calls, frames, frames_with[0], frames_with[1], frames_with[2], frames_with[3], frames_with[4],
            frames_with[5], moving_ticks, times_at_limit[CUT], homes_found(),
            times_of_stepping[FASTER] + times_of_stepping[SLOWER] + times_of_stepping[SLOWER_TO_STOP],
            ticks_with[NMC_BAD_LIST], ticks_with[NMC_BAD_PLACE], ticks_with[NMC_BAD_FIELD], buffers_with[NMC_DONE],
            times_of_buffering[ONE_END], times_of_buffering[SEVERAL_ENDS], times_of_buffering[SIXTEEN_ENDS],
            times_of_buffering[CARRIED_OVER], buffers_with[NMC_BAD_LIST], buffers_with[NMC_BAD_FIELD],
-           buffers_with[NMC_SHORT_ROOM], spoiled, refused);
+           buffers_with[NMC_SHORT_ROOM], spoiled, refused, imports_with[NMC_DONE], imports_with[NMC_BAD_TEXT],
+           imports_with[NMC_SHORT_ROOM], exports_with[NMC_DONE], exports_with[NMC_BAD_RECORDS],
+           exports_with[NMC_SHORT_ROOM]);
     return 0;
 }

@@ -62,10 +62,11 @@ ON_STRUCTS(checked, checked_net)
 
 const struct implementation implementations[IMPLEMENTATIONS] = {
     {"library", "nmc_", library_setup, library_byte, library_bytes, library_tick, library_outputs,
-     nmc_write_frame, nmc_read_status, record, sizeof record, 19},
+     nmc_write_frame, nmc_read_status, nmc_import_text, nmc_export_text, record, sizeof record, 19},
     {"plain C", "plain_", plain_setup_it, plain_byte_it, plain_bytes_it, plain_tick_it, plain_outputs_it,
-     plain_write_frame, plain_read_status, &plain_net, sizeof plain_net, sizeof plain_net.receiver},
+     plain_write_frame, plain_read_status, plain_import_text, plain_export_text, &plain_net, sizeof plain_net,
+     sizeof plain_net.receiver},
     {"C with checks", "checked_", checked_setup_it, checked_byte_it, checked_bytes_it, checked_tick_it,
-     checked_outputs_it, checked_write_frame, checked_read_status, &checked_net, sizeof checked_net,
-     sizeof checked_net.receiver},
+     checked_outputs_it, checked_write_frame, checked_read_status, checked_import_text, checked_export_text,
+     &checked_net, sizeof checked_net, sizeof checked_net.receiver},
 };

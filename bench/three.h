@@ -19,6 +19,10 @@ struct implementation {
                             uint8_t *room, size_t room_len, size_t *written);
     uint32_t (*read_status)(uint32_t type, uint8_t items, const uint8_t *reply, size_t reply_len,
                             uint8_t *reading);
+    uint32_t (*import_text)(const uint8_t *text, size_t text_len, uint8_t *room, size_t room_len, size_t *written,
+                            size_t *offset);
+    uint32_t (*export_text)(const uint8_t *records, size_t records_len, uint8_t *room, size_t room_len,
+                            size_t *written);
     void *network; /* to be saved and put back; the receiver is its first part */
     size_t network_len, receiver_len;
 };

@@ -1,5 +1,6 @@
 /*
- * A network of NMC modules on one board, and the host's side of the line.
+ * A network of NMC modules on one board, the host's side of the line, and the
+ * text in which the fitters' line monitor writes what it saw.
  *
  * The network lives in a record of NMC_NET_LEN bytes that the board keeps and
  * lends to each call. Set it up once, hand over the line's bytes as they come,
@@ -7,8 +8,8 @@
  * module has measured.
  *
  * Each call gives back one of the numbers below. A refused call (11 and above)
- * leaves everything lent as it was, but for *written, which is then 0, and the
- * status reader's reading, which is then all 0.
+ * leaves everything lent as it was, but for *written, which is then 0, *offset
+ * of an import, and the status reader's reading, which is then all 0.
  *
  * No pointer may be null, also where its length is 0, and what is lent to one
  * call may not overlap. Nothing is allocated, nothing is kept between calls,
@@ -25,9 +26,9 @@ extern "C" {
 #endif
 
 /* Each landing raises it and says in CHANGELOG.md what is new. */
-#define NMC_VERSION "1.11.0"
+#define NMC_VERSION "1.12.0"
 #define NMC_VERSION_MAJOR 1
-#define NMC_VERSION_MINOR 11
+#define NMC_VERSION_MINOR 12
 #define NMC_VERSION_PATCH 0
 
 #define NMC_MOST_MODULES 32u      /* in one chain */
@@ -59,8 +60,11 @@ enum nmc_number {
     NMC_BAD_FRAME = 17,  /* writer: address, code or data too large */
     NMC_BAD_LENGTH = 18, /* status reader: not as type and items ask */
     NMC_BAD_SUM = 19,    /* status reader: wrong checksum */
-    NMC_BAD_LIST = 20    /* tick: not one sample for each module; buffer: not
+    NMC_BAD_LIST = 20,   /* tick: not one sample for each module; buffer: not
                             as many marks as bytes, or over NMC_BUFFER_LEN */
+    NMC_BAD_TEXT = 21,   /* import: not the line monitor's text */
+    NMC_BAD_RECORDS = 22 /* export: a record of another kind than a line byte,
+                            cut, or with a mark above 1 */
 };
 
 /*
@@ -245,6 +249,35 @@ uint32_t nmc_write_frame(uint32_t address, uint32_t code, const uint8_t *data, s
  */
 uint32_t nmc_read_status(uint32_t type, uint8_t items, const uint8_t *reply, size_t reply_len,
                          uint8_t *reading);
+
+/*
+ * Turns the line monitor's text into records of a replay file, three bytes for
+ * each byte of the line: 1, its mark (0 or 1), the byte. In the text a byte is
+ * two hex digits, in either letter case, with an exclamation mark straight
+ * after it if it came with a framing error; one space stands between bytes on a
+ * line, and a newline at each line's end, the last too. A line has one byte or
+ * more. The empty text is good, and gives nothing.
+ *
+ * What is no such text is refused (21), and *offset is the offset of its first
+ * character that can't stand there, or text_len where it breaks off; else
+ * *offset is 0. A room that is shorter than the records is refused then (15).
+ * They have text_len bytes less one for each exclamation mark, so that a room
+ * of text_len is always enough. *written is their length, and the rest of the
+ * room is left alone.
+ */
+uint32_t nmc_import_text(const uint8_t *text, size_t text_len, uint8_t *room, size_t room_len,
+                         size_t *written, size_t *offset);
+
+/*
+ * Shows records of line bytes as the line monitor would: upper case, 16 bytes
+ * a line, the last line shorter, nothing for no records. Refused are records of
+ * another kind than 1, cut ones, and those with a mark above 1 (22), then a room
+ * shorter than the text (15), which has records_len bytes and one more for each
+ * mark. *written is its length, and the rest of the room is left alone. What is
+ * exported so is imported as the same records.
+ */
+uint32_t nmc_export_text(const uint8_t *records, size_t records_len, uint8_t *room, size_t room_len,
+                         size_t *written);
 
 #ifdef __cplusplus
 }

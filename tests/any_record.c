@@ -1,6 +1,7 @@
 /*
- * Any bytes at all as a record: every call upon them refuses with a documented number and changes
- * nothing, or answers; nothing beyond what was lent is touched.
+ * Any bytes at all as a record, as a text of the line monitor, and as records of line bytes: every
+ * call upon them refuses with a documented number and changes nothing, or answers; nothing beyond
+ * what was lent is touched.
  *
  * Everything is lent in blocks of exactly the length that is given. "fenced" puts them against
  * pages that may not be touched, so that one byte too far ends the program, whoever compiled what
@@ -17,11 +18,11 @@
 #include <sys/mman.h>
 #include <unistd.h>
 
-enum { SLOT = 128, FIRST_SLOT = 20, COUNT = 19, HOMING = 106, NUMBERS = 21 };
+enum { SLOT = 128, FIRST_SLOT = 20, COUNT = 19, HOMING = 106, NUMBERS = 23 };
 
 static int fenced;
 static unsigned long calls, surprises, given[NUMBERS], homes_found, buffers_replied;
-static uint32_t of_buffers; /* the numbers that buffers gave, as bits */
+static uint32_t of_buffers, of_imports, of_exports; /* the numbers that they gave, as bits */
 
 /* ---------------------------------------------------------------- dice */
 
@@ -425,6 +426,112 @@ static void call_reader(void)
     give_back(&reading);
 }
 
+/* ---------------------------------------------------------------- the line monitor's text */
+
+enum { MOST_BYTES = 70, LINE_BYTE = 3, MOST_TEXT = 4 * MOST_BYTES };
+
+static const uint32_t import_numbers = BIT(NMC_DONE) | BIT(NMC_SHORT_ROOM) | BIT(NMC_BAD_TEXT);
+static const uint32_t export_numbers = BIT(NMC_DONE) | BIT(NMC_SHORT_ROOM) | BIT(NMC_BAD_RECORDS);
+
+static size_t put_text(uint8_t *text, uint32_t bytes)
+{
+    static const char digits[] = "0123456789ABCDEFabcdef";
+    size_t len = 0;
+    for (uint32_t left = bytes; left > 0; left--) {
+        uint32_t high = below(22), low = below(22);
+        text[len++] = (uint8_t)digits[high];
+        text[len++] = (uint8_t)digits[low];
+        if (below(10) == 0)
+            text[len++] = '!';
+        text[len++] = left == 1 || below(20) == 0 ? '\n' : ' ';
+    }
+    return len;
+}
+
+static size_t put_line_bytes(uint8_t *records, uint32_t bytes)
+{
+    for (uint32_t i = 0; i < bytes; i++) {
+        records[LINE_BYTE * i] = 1;
+        records[LINE_BYTE * i + 1] = below(10) == 0;
+        records[LINE_BYTE * i + 2] = (uint8_t)throw_dice();
+    }
+    return LINE_BYTE * bytes;
+}
+
+/* What was put, as it is, or with another byte somewhere, or cut; or any bytes of that length. */
+static struct lent lend_spoiled(const uint8_t *good, size_t len)
+{
+    uint32_t kind = below(8);
+    struct lent lent = lend(kind == 0 ? below((uint32_t)len + 1) : len);
+    if (kind == 1)
+        return lent;
+    memcpy(lent.bytes, good, lent.len);
+    if (kind < 4 && lent.len > 0) {
+        uint32_t at = below((uint32_t)lent.len);
+        lent.bytes[at] = (uint8_t)PICK(' ', '!', '\n', '\r', 'g', 2, below(256));
+    }
+    return lent;
+}
+
+/* A room for so much, or for a little less or more, or none. */
+static struct lent lend_room(uint32_t needed)
+{
+    return lend(below(3) ? needed : PICK(0, needed > 0 ? needed - 1 : 0, needed + 1, needed / 2));
+}
+
+static size_t count_in(const struct lent *lent, size_t from, size_t each, uint8_t byte)
+{
+    size_t count = 0;
+    for (size_t i = from; i < lent->len; i += each)
+        count += lent->bytes[i] == byte;
+    return count;
+}
+
+static void call_import(void)
+{
+    uint8_t good[MOST_TEXT];
+    uint32_t bytes = PICK(0, 1, 16, below(MOST_BYTES + 1));
+    size_t len = put_text(good, bytes), written = 77, offset = 77;
+    struct lent text = lend_spoiled(good, len), room = lend_room(LINE_BYTE * bytes);
+    remember(&text);
+    remember(&room);
+    uint32_t number =
+        nmc_import_text(text.bytes, text.len, room.bytes, room.len, &written, &offset);
+    documented("import", number, import_numbers);
+    room_after("import", &room, number, written);
+    if (number == NMC_BAD_TEXT ? offset > text.len : offset != 0)
+        surprise("import", "another offset", number);
+    if (number == NMC_DONE && written != text.len - count_in(&text, 0, 1, '!'))
+        surprise("import", "another length than that of the records", number);
+    if (!unchanged_from(&text, 0))
+        surprise("import", "the text changed", number);
+    of_imports |= number < NUMBERS ? BIT(number) : 0;
+    give_back(&text);
+    give_back(&room);
+}
+
+static void call_export(void)
+{
+    uint8_t good[LINE_BYTE * MOST_BYTES];
+    uint32_t bytes = PICK(0, 1, 16, below(MOST_BYTES + 1));
+    size_t len = put_line_bytes(good, bytes), written = 77;
+    struct lent records = lend_spoiled(good, len);
+    uint32_t marks = (uint32_t)count_in(&records, 1, LINE_BYTE, 1);
+    struct lent room = lend_room(LINE_BYTE * bytes + marks);
+    remember(&records);
+    remember(&room);
+    uint32_t number = nmc_export_text(records.bytes, records.len, room.bytes, room.len, &written);
+    documented("export", number, export_numbers);
+    room_after("export", &room, number, written);
+    if (number == NMC_DONE && written != records.len + marks)
+        surprise("export", "another length than that of the text", number);
+    if (!unchanged_from(&records, 0))
+        surprise("export", "the records changed", number);
+    of_exports |= number < NUMBERS ? BIT(number) : 0;
+    give_back(&records);
+    give_back(&room);
+}
+
 /* ---------------------------------------------------------------- records */
 
 /* Four bytes of a number that is at most so large, with or without a sign. */
@@ -616,6 +723,10 @@ static void one_round(void)
     give_back(&net);
     call_writer();
     call_reader();
+    for (int times = 0; times < 5; times++) {
+        call_import();
+        call_export();
+    }
 }
 
 int main(int argc, char **argv)
@@ -637,6 +748,7 @@ int main(int argc, char **argv)
     surprises += homes_found == 0; /* nor was homing that found nothing */
     surprises += buffers_replied == 0;
     surprises += of_buffers != buffer_numbers;
+    surprises += of_imports != import_numbers || of_exports != export_numbers;
     printf("\n");
     return surprises != 0;
 }

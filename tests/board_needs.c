@@ -25,12 +25,14 @@ enum call {
     CAUSE,
     WRITE_FRAME,
     READ_STATUS,
+    IMPORT_TEXT,
+    EXPORT_TEXT,
     CALLS
 };
 
 static const char *const names[CALLS] = {
-    "nmc_setup",   "nmc_byte",  "nmc_bytes",       "nmc_tick",
-    "nmc_outputs", "nmc_cause", "nmc_write_frame", "nmc_read_status",
+    "nmc_setup", "nmc_byte",        "nmc_bytes",       "nmc_tick",        "nmc_outputs",
+    "nmc_cause", "nmc_write_frame", "nmc_read_status", "nmc_import_text", "nmc_export_text",
 };
 
 /* The numbers that a call may give, as bits. */
@@ -47,9 +49,11 @@ static const uint32_t documented[CALLS] = {
     [CAUSE] = BIT(NMC_DONE) | BIT(NMC_BAD_PLACE) | BIT(NMC_BAD_RECORD),
     [WRITE_FRAME] = BIT(NMC_DONE) | BIT(NMC_BAD_FRAME) | BIT(NMC_SHORT_ROOM),
     [READ_STATUS] = BIT(NMC_DONE) | BIT(NMC_BAD_TYPE) | BIT(NMC_BAD_LENGTH) | BIT(NMC_BAD_SUM),
+    [IMPORT_TEXT] = BIT(NMC_DONE) | BIT(NMC_SHORT_ROOM) | BIT(NMC_BAD_TEXT),
+    [EXPORT_TEXT] = BIT(NMC_DONE) | BIT(NMC_SHORT_ROOM) | BIT(NMC_BAD_RECORDS),
 };
 
-enum { STACK = 65536, PAINT = 0xA5 };
+enum { STACK = 65536, PAINT = 0xA5, TEXT = 4096 };
 
 static _Alignas(64) uint8_t stacks[CALLS][STACK];
 static const uint8_t *callers_end[CALLS];
@@ -62,8 +66,10 @@ static uint8_t types[NMC_MOST_MODULES + 1], data[16];
 static uint8_t samples[(NMC_MOST_MODULES + 1) * NMC_SAMPLE_LEN];
 static uint8_t outputs[NMC_OUTPUTS_LEN], frame[NMC_FRAME_LEN], reply[NMC_REPLY_LEN + 1];
 static uint8_t reading[NMC_READING_LEN], cause, line_byte, items;
+static uint8_t text[TEXT], records[TEXT], text_room[TEXT];
 static size_t net_len, room_len, buffer_len, marks_len, buffer_room_len, samples_len, chain;
 static size_t data_len, frame_room, reply_len, written;
+static size_t text_len, records_len, text_room_len, offset;
 static uint32_t mark, place, address, code, type, number;
 
 static enum call wanted;
@@ -100,8 +106,14 @@ static void inside(void)
     case WRITE_FRAME:
         number = nmc_write_frame(address, code, data, data_len, frame, frame_room, &written);
         break;
-    default:
+    case READ_STATUS:
         number = nmc_read_status(type, items, reply, reply_len, reading);
+        break;
+    case IMPORT_TEXT:
+        number = nmc_import_text(text, text_len, text_room, text_room_len, &written, &offset);
+        break;
+    default:
+        number = nmc_export_text(records, records_len, text_room, text_room_len, &written);
     }
 }
 
@@ -516,6 +528,62 @@ static void reader(void)
             }
 }
 
+/* ---------------------------------------------------------------- the line monitor's text */
+
+enum { LINE_BYTE_LEN = 3 };
+
+/* So many bytes, some of them marked, there and back. */
+static void capture(size_t bytes)
+{
+    records_len = bytes * LINE_BYTE_LEN;
+    any_bytes(records, records_len);
+    for (size_t i = 0; i < records_len; i += LINE_BYTE_LEN) {
+        records[i] = LINE_BYTE;
+        records[i + 1] &= 1;
+    }
+    text_room_len = sizeof text_room;
+    run(EXPORT_TEXT);
+    text_len = written;
+    memcpy(text, text_room, text_len);
+    run(IMPORT_TEXT);
+    if (number != NMC_DONE || written != records_len ||
+        memcmp(text_room, records, records_len) != 0)
+        surprise("an exported text is imported otherwise");
+}
+
+/* Another character and another byte at one place after another, then cut there. */
+static void refused_captures(void)
+{
+    for (size_t at = 0; at < text_len; at++) {
+        uint8_t before = text[at];
+        text[at] = '?';
+        run(IMPORT_TEXT);
+        text[at] = before;
+    }
+    for (size_t at = 0; at < records_len; at++) {
+        records[at] ^= 2;
+        run(EXPORT_TEXT);
+        records[at] ^= 2;
+    }
+    for (; text_len > 0; text_len--)
+        run(IMPORT_TEXT);
+    for (; records_len > 0; records_len--)
+        run(EXPORT_TEXT);
+}
+
+static void texts(void)
+{
+    for (size_t bytes = 0; bytes < 50; bytes++) {
+        capture(bytes);
+        text_room_len = bytes;
+        run(IMPORT_TEXT);
+        run(EXPORT_TEXT);
+    }
+    text_room_len = sizeof text_room;
+    refused_captures();
+    capture(TEXT / 4);
+}
+
 /* ---------------------------------------------------------------- what was found */
 
 static int tell(enum call call)
@@ -541,6 +609,7 @@ int main(int argc, char **argv)
     refused_calls();
     writer();
     reader();
+    texts();
     for (enum call call = SETUP; call < CALLS; call++)
         good &= tell(call);
     return !good;

@@ -704,4 +704,29 @@ branches! {
         ReplayNoSampleYet: "a tick at a place that had no sample yet",
         ReplaySampleAgain: "a tick uses a sample again",
     }
+
+    /// What the calls of the line monitor's text do.
+    TEXT {
+        ImportNothing: "import: an empty text",
+        ImportDone: "import: a text",
+        ImportFaultAtLine: "import: no digit where a line begins",
+        ImportFaultAtSpace: "import: no digit behind a space",
+        ImportFaultAtDigit: "import: no digit behind the first",
+        ImportFaultAtByte: "import: no mark, space or newline behind a byte",
+        ImportFaultAtMark: "import: no space or newline behind a mark",
+        ImportOffAtSpace: "import: breaks off behind a space",
+        ImportOffAtDigit: "import: breaks off behind a byte's first digit",
+        ImportOffAtByte: "import: breaks off behind a byte",
+        ImportOffAtMark: "import: breaks off behind a mark",
+        ImportRoom: "import: room too short",
+        ImportTextBeforeRoom: "import: refused for its text, the room being short",
+        ExportNothing: "export: no records",
+        ExportShortLine: "export: the last line is shorter",
+        ExportFullLine: "export: the last line is full",
+        ExportCut: "export: a record cut short",
+        ExportKind: "export: another kind",
+        ExportMark: "export: a mark not 0 or 1",
+        ExportRoom: "export: room too short",
+        ExportRecordsBeforeRoom: "export: refused for its records, the room being short",
+    }
 }

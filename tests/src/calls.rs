@@ -30,6 +30,8 @@ pub const BAD_FRAME: u32 = 17;
 pub const BAD_LENGTH: u32 = 18;
 pub const BAD_SUM: u32 = 19;
 pub const BAD_LIST: u32 = 20;
+pub const BAD_TEXT: u32 = 21;
+pub const BAD_RECORDS: u32 = 22;
 
 /// What one module measures, as it stands in a tick's list.
 pub type Sample = [u8; SAMPLE_LEN];
@@ -66,4 +68,7 @@ pub trait Calls {
     fn cause(&self, net: &[u8], place: u32, cause: &mut u8) -> u32;
     fn write_frame(&self, address: u32, code: u32, data: &[u8], room: &mut [u8], written: &mut usize) -> u32;
     fn read_status(&self, module_type: u32, items: u8, reply: &[u8], reading: &mut [u8; 33]) -> u32;
+    /// A text of the line monitor as records of line bytes.
+    fn import_text(&self, text: &[u8], room: &mut [u8], written: &mut usize, offset: &mut usize) -> u32;
+    fn export_text(&self, records: &[u8], room: &mut [u8], written: &mut usize) -> u32;
 }

@@ -38,6 +38,21 @@ extern "C" {
         written: *mut usize,
     ) -> u32;
     fn nmc_read_status(module_type: u32, items: u8, reply: *const u8, reply_len: usize, reading: *mut u8) -> u32;
+    fn nmc_import_text(
+        text: *const u8,
+        text_len: usize,
+        room: *mut u8,
+        room_len: usize,
+        written: *mut usize,
+        offset: *mut usize,
+    ) -> u32;
+    fn nmc_export_text(
+        records: *const u8,
+        records_len: usize,
+        room: *mut u8,
+        room_len: usize,
+        written: *mut usize,
+    ) -> u32;
 }
 
 #[derive(Clone, Copy)]
@@ -78,5 +93,13 @@ impl Calls for Library {
 
     fn read_status(&self, module_type: u32, items: u8, reply: &[u8], reading: &mut [u8; 33]) -> u32 {
         unsafe { nmc_read_status(module_type, items, reply.as_ptr(), reply.len(), reading.as_mut_ptr()) }
+    }
+
+    fn import_text(&self, text: &[u8], room: &mut [u8], written: &mut usize, offset: &mut usize) -> u32 {
+        unsafe { nmc_import_text(text.as_ptr(), text.len(), room.as_mut_ptr(), room.len(), written, offset) }
+    }
+
+    fn export_text(&self, records: &[u8], room: &mut [u8], written: &mut usize) -> u32 {
+        unsafe { nmc_export_text(records.as_ptr(), records.len(), room.as_mut_ptr(), room.len(), written) }
     }
 }

@@ -1,5 +1,5 @@
 //! Tests beside the proofs. The model says a second time, in other words and another language, what a network does;
-//! the tests hold the exported calls and the replay program to it and to answers worked out by hand.
+//! the tests hold the exported calls and the programs to it and to answers worked out by hand.
 
 pub mod branches;
 pub mod calls;
@@ -9,8 +9,10 @@ pub mod dice;
 pub mod histories;
 pub mod model;
 pub mod moving;
+pub mod programs;
 pub mod record;
 pub mod seen;
 pub mod slips;
 pub mod steering;
+pub mod texts;
 pub mod windup;

@@ -15,6 +15,7 @@ mod samples;
 mod servo;
 mod station;
 mod stepper;
+mod text;
 
 pub use buffer::{number_given, put_replies, Buffer};
 pub use homing::{HomeStop, Homing, LIMITS_MOST};
@@ -28,3 +29,4 @@ pub use servo::{
 };
 pub use station::{Device, Station, Touch, CAUSES, DAMAGED, EXECUTED, NOT_NOW, OUT_OF_RANGE, UNKNOWN, WRONG_COUNT};
 pub use stepper::{Motion, StepLoad, Stepper, STEPS_MOST};
+pub use text::{export, import, monitor_export, monitor_import};

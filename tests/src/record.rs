@@ -10,6 +10,7 @@ use crate::model::{
 use crate::slips::Slip;
 
 mod stepper;
+mod text;
 
 pub use stepper::{stepper_at, MOTION, STEPPER_LEN};
 
@@ -662,5 +663,13 @@ impl Calls for Model {
                 DONE
             }
         }
+    }
+
+    fn import_text(&self, text: &[u8], room: &mut [u8], written: &mut usize, offset: &mut usize) -> u32 {
+        text::import_text(text, room, written, offset, self.slip)
+    }
+
+    fn export_text(&self, records: &[u8], room: &mut [u8], written: &mut usize) -> u32 {
+        text::export_text(records, room, written, self.slip)
     }
 }

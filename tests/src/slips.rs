@@ -1,6 +1,6 @@
 //! Wrong rules that the model can be told to follow, one at a time. Each is a slip that somebody could make when
-//! building a network, and the differential run, or the captures for a slip of the replay program, must notice it: a
-//! comparison that lets one through is worth nothing.
+//! building a network, and the differential run, the captures for a slip of the replay program, or the texts by dice for
+//! one of the line monitor's text, must notice it: a comparison that lets one through is worth nothing.
 
 macro_rules! slips {
     ($($(#[$about:meta])* $table:ident { $($slip:ident: $words:literal,)* })*) => {
@@ -447,5 +447,50 @@ slips! {
         ResetDropsGathered: "Hard Reset forgets the sample that was gathered",
         BadSampleAtTick: "a bad sample is refused at the next tick only",
         BadSamplePassedOver: "a bad sample is passed over",
+    }
+
+    /// What the calls of the line monitor's text may do wrong.
+    TEXT {
+        TextLowerOnly: "only small letters are digits",
+        TextUpperOnly: "only capitals are digits",
+        TextOneDigitTaken: "a byte may have one digit",
+        TextMarkBefore: "the mark stands before its byte",
+        TextTwoMarksTaken: "a byte may have two marks",
+        TextReturnTaken: "a line may end with a carriage return and a newline",
+        TextTrailingSpaceTaken: "a line may end with a space",
+        TextSpacesTaken: "any number of spaces may stand before, between and behind bytes",
+        TextTabTaken: "a tab is a space",
+        TextBlankLineTaken: "a line may have no byte",
+        TextLinesOf16: "an imported line has at most 16 bytes",
+        TextEmptyRefused: "a text has a line at least",
+        TextUnendedTaken: "the last line needs no newline",
+        TextRoomWhenRefused: "a refused call writes into the room",
+        TextRoomBehind: "the room behind the output is cleared",
+        TextLengthWhenRefused: "a refused call reports a length",
+        ImportMarkLost: "an import loses the marks",
+        ImportMarkTwo: "an import writes a mark as 2",
+        ImportDigitsExchanged: "a byte's first digit is its lower one",
+        ImportOffsetOneOn: "the offset is that of the character behind",
+        ImportOffsetInLine: "the offset counts from the line's beginning",
+        ImportOffsetOfLine: "the offset is that of the line",
+        ImportOffsetLast: "where a text breaks off the offset is that of its last character",
+        ImportOffsetWhenShort: "an offset is told with a short room",
+        ImportOffsetWhenDone: "an offset is told when all is done",
+        ImportRoomFirst: "the room is tested before the text",
+        ImportRoomOfText: "an import asks for as much room as the text has characters",
+        ExportLowerCase: "an export writes small letters",
+        ExportMarkLost: "an export loses the marks",
+        ExportLinesOf15: "an export writes 15 bytes a line",
+        ExportLinesOf17: "an export writes 17 bytes a line",
+        ExportLastUnended: "an export leaves out the last newline",
+        ExportFullUnended: "an export leaves out the last newline where the line is full",
+        ExportLineBehindFull: "an export ends with a blank line where the last one is full",
+        ExportLineForNone: "an export of no bytes is a newline",
+        ExportCutTaken: "an export drops a record that is cut short",
+        ExportAnyKind: "an export takes records of any kind",
+        ExportAnyMark: "an export takes any mark",
+        ExportFirstTested: "an export tests the first record only",
+        ExportRoomFirst: "the room is tested before the records",
+        ExportRoomOf4: "an export asks for four bytes of room a byte",
     }
 }

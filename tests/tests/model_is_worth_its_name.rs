@@ -298,6 +298,15 @@ impl Calls for Spoiled {
         }
         number
     }
+
+    // monitor_text.rs tries the line monitor's text
+    fn import_text(&self, text: &[u8], room: &mut [u8], written: &mut usize, offset: &mut usize) -> u32 {
+        Library.import_text(text, room, written, offset)
+    }
+
+    fn export_text(&self, records: &[u8], room: &mut [u8], written: &mut usize) -> u32 {
+        Library.export_text(records, room, written)
+    }
 }
 
 #[test]

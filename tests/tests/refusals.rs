@@ -1,5 +1,6 @@
 //! Every refusal through the C calls: its number, and that nothing lent is changed. Beside each stands the nearest
-//! input that is taken, so that a library which refuses too much fails here as well.
+//! input that is taken, so that a library which refuses too much fails here as well. Those of the line monitor's text
+//! are in monitor_text.rs.
 
 use doljurven_tests::calls::*;
 use doljurven_tests::capi::Library;

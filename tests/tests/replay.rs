@@ -6,19 +6,17 @@ use doljurven_tests::capi::Library;
 use doljurven_tests::captures::{self, Capture};
 use doljurven_tests::dice::Dice;
 use doljurven_tests::model::{self, frame_bytes};
+use doljurven_tests::programs;
 use doljurven_tests::record::Model;
 use doljurven_tests::slips::{self, Slip};
 use std::ffi::OsString;
+use std::fs;
 use std::io::Write;
 use std::path::{Path, PathBuf};
 use std::process::{Command, Stdio};
-use std::{env, fs};
 
 fn program() -> OsString {
-    let built = || Path::new(env!("CARGO_MANIFEST_DIR")).join("../target/bin/replay").into_os_string();
-    let program = env::var_os("DOLJURVEN_REPLAY").unwrap_or_else(built);
-    assert!(Path::new(&program).exists(), "{} is not there: run `rt check replay` first", program.to_string_lossy());
-    program
+    programs::built("replay")
 }
 
 fn printed(command: &mut Command) -> String {

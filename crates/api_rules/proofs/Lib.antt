@@ -10,3 +10,4 @@ pub mod Chain
 pub mod Room
 pub mod Full
 pub mod Listed
+pub mod Text

@@ -42,7 +42,7 @@ begins xs room = ap (take (length xs)) (pasted-start xs room) ∙ take-append-se
 rest : (xs room : List ℕ) → drop (length xs) (pasted 0 xs room) ≡ drop (length xs) room
 rest xs room = ap (drop (length xs)) (pasted-start xs room) ∙ drop-append-seam xs (drop (length xs) room)
 
-put-there : (ls : List Line) (out room : List ℕ) → (Passes ls → length out ≤ length room)
+pub put-there : (ls : List Line) (out room : List ℕ) → (Passes ls → length out ≤ length room)
     → Put ls out room (unless ls room (pasted 0 out room)) (unless ls 0 (length out))
 put-there ls out room fits = record {
   reported = λ p. sym (done ls 0 (length out) refl p);

@@ -10,4 +10,6 @@ tables = record {
   buffer = λ net bytes marks room. (refl, (omega arith, (omega arith, (omega arith, (omega arith, tt)))));
   tick = λ net samples. (refl, (omega arith, (omega arith, (omega arith, (omega arith, tt)))));
   place = λ net place. (refl, (omega arith, (omega arith, tt)));
+  import = λ text room. (refl, (omega arith, (omega arith, tt)));
+  export = λ rs room. (refl, (omega arith, (omega arith, tt)));
 }

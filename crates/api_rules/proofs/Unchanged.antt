@@ -5,6 +5,7 @@ use mathlib.Core.Bool.{Bool, true, false, cond, not}
 use Prim.Native.Nat.{ℕ, _≤_}
 use native.Mathlib.Omega.{arith}
 use lib.ListN.{length}
+use Rattle.base_layout.specs.Bytes.{pasted}
 use lib.Dec.{eqb, ltb}
 use Rattle.line_receiver.specs.declared.Answer.the-variants.{Ended}
 use Rattle.line_receiver.specs.Receive.{taken, numberOf}
@@ -16,8 +17,8 @@ use Rattle.types_rules.specs.Types.{Module, kind, slots}
 use Rattle.net_rules.specs.Record.{roomSize, netIn, stored, valid}
 use Rattle.net_rules.specs.Calls.{byteOf, fresh, tickStep, samplesFor, outputsIn, outputsAt, causeIn, causeAt}
 use Rattle.base_layout.specs.First.{Line, first}
-use Rattle.api_rules.specs.Table.{setupTable, byteTable, tickTable, placeTable}
-use Rattle.api_rules.specs.Calls.{unless, stepOf, setupRecord, byteNumber, tickRecord, outputsBytes, causeByte, readingBytes}
+use Rattle.api_rules.specs.Table.{setupTable, byteTable, tickTable, placeTable, importOut, exportOut, importTable, exportTable}
+use Rattle.api_rules.specs.Calls.{unless, stepOf, setupRecord, byteNumber, tickRecord, outputsBytes, causeByte, readingBytes, importRoom, importWritten, exportRoom, exportWritten}
 use Rattle.api_rules.specs.Promises.{Refuses, Passes, Unchanged, Answers, OutputsTold, CauseTold, ReadingSpelled, OneOutcome}
 use Rattle.api_rules.specs.TablePromises.{ByteNumbers}
 use Rattle.api_rules.proofs.Refused.{refused, done, byte-refused, buffer-refused}
@@ -27,7 +28,7 @@ same : {A : Type 0} (ls : List Line) (x y : A) → Refuses ls → unless ls x y 
 same ls x y h = sym (refused ls x y refl h)
 
 pub unchanged : Unchanged
-unfolding setupRecord tickRecord outputsBytes causeByte
+unfolding setupRecord tickRecord outputsBytes causeByte importRoom importWritten exportRoom exportWritten
 unchanged = record {
   setup = λ net types h. same (setupTable net types) net (fresh types) h;
   byte = λ net mark byte room h.
@@ -39,6 +40,8 @@ unchanged = record {
   tick = λ net samples h. same (tickTable net samples) net (stored slots (tickStep (samplesFor (netIn slots net) samples) (netIn slots net)) net) h;
   outputs = λ net place bytes h. same (placeTable net place) bytes (outputsAt (netIn slots net) place) h;
   cause = λ net place byte h. same (placeTable net place) byte (causeAt (netIn slots net) place) h;
+  import = λ text room h. (same (importTable text room) room (pasted 0 (importOut text) room) h, same (importTable text room) 0 (length (importOut text)) h);
+  export = λ rs room h. (same (exportTable rs room) room (pasted 0 (exportOut rs) room) h, same (exportTable rs room) 0 (length (exportOut rs)) h);
 }
 
 -- a byte's own number

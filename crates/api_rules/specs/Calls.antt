@@ -1,4 +1,4 @@
--- What each exported call of a network gives back and leaves behind, for all inputs: one thing where a line of its table applies, another
+-- What each exported call of a network and of the line monitor's text gives back and leaves behind, for all inputs: one thing where a line of its table applies, another
 -- where none does (document 01, "Numbers given back", "How tight the statements are").
 use Prim.Native.Nat.{ℕ, zero, suc, _+_}
 use mathlib.Core.List.{List, [], _∷_, _++_}
@@ -12,7 +12,8 @@ use Rattle.net_rules.specs.Record.{netIn, stored}
 use Rattle.net_rules.specs.Calls.{byteOf, bytesOf, fresh, tickStep, samplesFor, outputsAt, causeAt}
 use Rattle.host_rules.specs.declared.Reading.{Reading}
 use Rattle.base_layout.specs.First.{Line, first}
-use Rattle.api_rules.specs.Table.{setupTable, byteTable, bufferTable, tickTable, placeTable}
+use Rattle.api_rules.specs.Table.{setupTable, byteTable, bufferTable, tickTable, placeTable, importOut, exportOut, importTable, exportTable}
+use Rattle.text_rules.specs.Import.{readText, isText}
 
 -- what holds where no line of a table applies, and what where one does
 abbrev pub unless : {A : Type 0} → List Line → A → A → A
@@ -71,3 +72,21 @@ numbersBytes (suc k) i ns = le 4 (getD ns i 0) ++ numbersBytes k (i + 1) ns
 
 unfoldable pub readingBytes : Reading → List ℕ
 readingBytes r = r .status ∷ numbersBytes 8 0 (r .numbers)
+
+-- an import of the line monitor's text (02 P7): its records at the room's start, how many bytes they have, and where the text stops being one, which is told
+-- where its number is 21 and else is 0. Its number is its table's, and so is an export's
+unfoldable pub importRoom : List ℕ → List ℕ → List ℕ
+importRoom text room = unless (importTable text room) room (pasted 0 (importOut text) room)
+
+unfoldable pub importWritten : List ℕ → List ℕ → ℕ
+importWritten text room = unless (importTable text room) 0 (length (importOut text))
+
+unfoldable pub importOffset : List ℕ → ℕ
+importOffset text = cond (isText text) 0 (readText text .count)
+
+-- an export
+unfoldable pub exportRoom : List ℕ → List ℕ → List ℕ
+exportRoom rs room = unless (exportTable rs room) room (pasted 0 (exportOut rs) room)
+
+unfoldable pub exportWritten : List ℕ → List ℕ → ℕ
+exportWritten rs room = unless (exportTable rs room) 0 (length (exportOut rs))

@@ -24,16 +24,19 @@ use Rattle.net_rules.specs.Promises.{There, Back}
 use Rattle.host_rules.specs.declared.Answered.{Answered}
 use Rattle.host_rules.specs.Reading.{statusOf}
 use Rattle.host_rules.specs.Promises.{shown}
-use Rattle.api_rules.specs.Table.{setupTable, byteTable, bufferTable, tickTable, placeTable}
-use Rattle.api_rules.specs.Calls.{setupRecord, stepOf, byteNumber, byteRecord, byteRoom, byteWritten, bufferOf, bufferRecord, bufferRoom, bufferWritten, tickRecord, outputsBytes, causeByte, readingBytes}
+use Rattle.api_rules.specs.Table.{setupTable, byteTable, bufferTable, tickTable, placeTable, importTable, exportTable}
+use Rattle.api_rules.specs.Calls.{setupRecord, stepOf, byteNumber, byteRecord, byteRoom, byteWritten, bufferOf, bufferRecord, bufferRoom, bufferWritten, tickRecord, outputsBytes, causeByte, readingBytes, importRoom, importWritten, exportRoom, exportWritten}
 
--- The tables have the order of document 01, "Numbers given back": 16, 11, 12, 13, 14, 15; and of document 02, P2 and P11: 20 stands before 13 and 14.
+-- The tables have the order of document 01, "Numbers given back": 16, 11, 12, 13, 14, 15; and of document 02, P2 and P11: 20 stands before 13 and 14,
+-- and P7: 21 and 22 stand before 15.
 pub record Tables : Type 0 where
   pub setup : (net types : List ℕ) → Ordered (setupTable net types) (16 ∷ 11 ∷ 12 ∷ [])
   pub byte : (net : List ℕ) (mark : ℕ) (room : List ℕ) → Ordered (byteTable net mark room) (16 ∷ 14 ∷ 15 ∷ [])
   pub buffer : (net bytes marks room : List ℕ) → Ordered (bufferTable net bytes marks room) (16 ∷ 20 ∷ 14 ∷ 15 ∷ [])
   pub tick : (net samples : List ℕ) → Ordered (tickTable net samples) (16 ∷ 20 ∷ 13 ∷ 14 ∷ [])
   pub place : (net : List ℕ) (place : ℕ) → Ordered (placeTable net place) (16 ∷ 13 ∷ [])
+  pub import : (text room : List ℕ) → Ordered (importTable text room) (21 ∷ 15 ∷ [])
+  pub export : (rs room : List ℕ) → Ordered (exportTable rs room) (22 ∷ 15 ∷ [])
 
 -- a table refuses, or lets the call be done
 abbrev pub Refuses : List Line → Type 0
@@ -64,6 +67,8 @@ pub record Unchanged : Type 0 where
   pub tick : (net samples : List ℕ) → Refuses (tickTable net samples) → tickRecord net samples ≡ net
   pub outputs : (net : List ℕ) (place : ℕ) (bytes : List ℕ) → Refuses (placeTable net place) → outputsBytes net place bytes ≡ bytes
   pub cause : (net : List ℕ) (place byte : ℕ) → Refuses (placeTable net place) → causeByte net place byte ≡ byte
+  pub import : (text room : List ℕ) → Refuses (importTable text room) → (importRoom text room ≡ room) × (importWritten text room ≡ 0)
+  pub export : (rs room : List ℕ) → Refuses (exportTable rs room) → (exportRoom rs room ≡ room) × (exportWritten rs room ≡ 0)
 
 -- The byte call gives 0, 1 or 2 where its table does not refuse it, and 11 or more exactly where it does.
 pub record Answer (net : List ℕ) (mark byte : ℕ) (room : List ℕ) : Type 0 where

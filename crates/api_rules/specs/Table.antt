@@ -1,4 +1,5 @@
--- The refusals of each call of a network, in the order of the table (document 01, "Numbers given back"; document 02, P1, P2 and P11).
+-- The refusals of each call of a network and of the line monitor's text, in the order of the table (document 01, "Numbers given back"; document 02, P1, P2,
+-- P7 and P11).
 use Prim.Native.Nat.{ℕ}
 use mathlib.Core.List.{List, [], _∷_}
 use mathlib.Core.Bool.{not, _||_}
@@ -8,6 +9,9 @@ use Rattle.base_layout.specs.First.{Line}
 use Rattle.types_rules.specs.Types.{slots}
 use Rattle.net_rules.specs.Record.{chainMost, recordSize, roomSize, bufferMost, bufferRoomSize, netIn, valid}
 use Rattle.net_rules.specs.Calls.{allKnown, allMarks, listSize, allTyped, allInRange}
+use Rattle.text_rules.specs.Records.{records, allLine, bytesIn}
+use Rattle.text_rules.specs.Export.{exported}
+use Rattle.text_rules.specs.Import.{readText, isText}
 
 -- 16: the record breaks the list of what a record satisfies, its length among it
 abbrev pub broken : List ℕ → Line
@@ -56,3 +60,24 @@ tickTable net samples =
 -- a call that reads the module at a place: 16, 13
 abbrev pub placeTable : List ℕ → ℕ → List Line
 placeTable net place = broken net ∷ beyond net place ∷ []
+
+-- 02 P7: what an import writes, a record for each byte of the text; and what an export writes, the text of the records' bytes
+abbrev pub importOut : List ℕ → List ℕ
+importOut text = records (readText text .bytes)
+
+abbrev pub exportOut : List ℕ → List ℕ
+exportOut rs = exported (bytesIn rs)
+
+-- 02 P7, a text to import: 21 it is no text, 15 the room is shorter than its records
+abbrev pub importTable : List ℕ → List ℕ → List Line
+importTable text room =
+    record { number = 21; applies = not (isText text) }
+    ∷ record { number = 15; applies = ltb (length room) (length (importOut text)) }
+    ∷ []
+
+-- 02 P7, records to export: 22 they are not all whole records of kind 1 with a mark of 0 or 1, 15 the room is shorter than their text
+abbrev pub exportTable : List ℕ → List ℕ → List Line
+exportTable rs room =
+    record { number = 22; applies = not (allLine rs) }
+    ∷ record { number = 15; applies = ltb (length room) (length (exportOut rs)) }
+    ∷ []

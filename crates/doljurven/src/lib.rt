@@ -5,9 +5,10 @@ ghost use Rattle.base_layout.specs.Bytes.{pasted};
 ghost use Rattle.host_rules.specs.Writing.{writtenOf, roomAfter};
 ghost use Rattle.host_rules.specs.Reading.{statusOf};
 ghost use Rattle.base_layout.specs.First.{first};
-ghost use Rattle.api_rules.specs.Table.{setupTable, bufferTable, tickTable, placeTable};
-ghost use Rattle.api_rules.specs.Calls.{setupRecord, byteNumber, byteRecord, byteRoom, byteWritten, bufferRecord, bufferRoom, bufferWritten, tickRecord, outputsBytes, causeByte, numbersBytes, readingBytes};
+ghost use Rattle.api_rules.specs.Table.{setupTable, bufferTable, tickTable, placeTable, importTable, exportTable};
+ghost use Rattle.api_rules.specs.Calls.{setupRecord, byteNumber, byteRecord, byteRoom, byteWritten, bufferRecord, bufferRoom, bufferWritten, tickRecord, outputsBytes, causeByte, numbersBytes, readingBytes, importRoom, importWritten, importOffset, exportRoom, exportWritten};
 use host_rules::Reading;
+use text_rules::Measured;
 
 // A network of the given types at power-up: 0, or 16, 11, 12.
 #[no_mangle]
@@ -163,4 +164,54 @@ pub extern "C" fn nmc_read_status(kind: u32, items: u8, reply: &[u8], reading: &
     let r = answered.reading;
     *reading = reading_bytes(r);
     answered.number
+}
+
+// Turns the line monitor's text into records of a replay file: 0, or 21, 15. With 21 the offset is that of the first character that no text has there, or
+// the text's length where it breaks off; else it is 0. The text is read twice, first with a room for none, since a refused call writes nothing.
+#[no_mangle]
+pub extern "C" fn nmc_import_text(
+    text: &[u8],
+    room: &mut [u8],
+    written: &mut usize,
+    offset: &mut usize,
+) -> u32
+    ensures { λ r. ⌜ r ≡ first (importTable (now (text .entry)) (now (room .entry))) ⌝ }
+    ensures { λ _. ⌜ now (room .exit) ≡ importRoom (now (text .entry)) (now (room .entry)) ⌝ }
+    ensures { λ _. ⌜ now (written .exit) ≡ importWritten (now (text .entry)) (now (room .entry)) ⌝ }
+    ensures { λ _. ⌜ now (offset .exit) ≡ importOffset (now (text .entry)) ⌝ }
+{
+    *written = 0;
+    *offset = 0;
+    let mut none = [0u8; 1];
+    let read = text_import::put_records(text_import::begin(), text, &mut none);
+    if !text_import::is_whole(read, text.len()) {
+        *offset = read.count;
+        return 21;
+    }
+    let size = 3 * read.bytes;
+    if room.len() < size {
+        return 15;
+    }
+    text_import::put_records(text_import::begin(), text, room);
+    *written = size;
+    0
+}
+
+// Shows records of line bytes as the line monitor would: 0, or 22, 15.
+#[no_mangle]
+pub extern "C" fn nmc_export_text(records: &[u8], room: &mut [u8], written: &mut usize) -> u32
+    ensures { λ r. ⌜ r ≡ first (exportTable (now (records .entry)) (now (room .entry))) ⌝ }
+    ensures { λ _. ⌜ now (room .exit) ≡ exportRoom (now (records .entry)) (now (room .entry)) ⌝ }
+    ensures { λ _. ⌜ now (written .exit) ≡ exportWritten (now (records .entry)) (now (room .entry)) ⌝ }
+{
+    *written = 0;
+    let Measured::Line(marks) = text_export::measure(records) else {
+        return 22;
+    };
+    if text_export::is_short(room.len(), records.len(), marks) {
+        return 15;
+    }
+    text_export::put_text(records, room);
+    *written = records.len() + marks;
+    0
 }

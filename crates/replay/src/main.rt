@@ -8,7 +8,6 @@ ghost use Rattle.replay_file.specs.Turns.{Held};
 ghost use Rattle.net_rules.specs.Record.{chainMost, recordSize};
 ghost use Rattle.net_rules.specs.Calls.{listSize};
 ghost use Rattle.replay_print.specs.Text.{textSize};
-use libc::STDOUT_FILENO;
 use replay_file::Place;
 
 // Where the program is: the replay's place, the bytes of the buffer that are not taken yet, whether the file has no more, and whether to stop.
@@ -54,15 +53,6 @@ fn refill(fd: i32, at: Place, start: usize, end: usize, buf: &mut [u8]) -> State
     }
 }
 
-// Writes out what was printed. Where that fails, as on a full disk, it says so and answers false.
-fn put(printed: &[u8]) -> bool {
-    let is_written = io::write_all(STDOUT_FILENO, printed);
-    if !is_written {
-        os::fail(b"write");
-    }
-    is_written
-}
-
 // A turn of the replay, with what it prints written out.
 fn step(
     fd: i32,
@@ -83,7 +73,7 @@ fn step(
     let end = s.end;
     let t = replay_play::turn(at, types, samples, net, &buf[start..end], s.last, out);
     let wrote = t.wrote;
-    let is_written = put(&out[..wrote]);
+    let is_written = base_files::put(&out[..wrote]);
     let next = t.next;
     if t.wants {
         return refill(fd, next, start, end, buf);
@@ -136,15 +126,8 @@ fn replay(fd: i32) {
 
 // Replays the file that the argument names.
 fn replay_named() {
-    let mut path = io::buffer();
-    let length = os::arg(1, &mut path);
-    if os::errno() != 0 {
-        os::fail(b"path");
-        return;
-    }
-    let fd = os::open_read(&path[..length]);
+    let fd = base_files::open_named(1);
     if fd < 0 {
-        os::fail(&path[..length]);
         return;
     }
     replay(fd);

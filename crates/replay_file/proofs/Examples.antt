@@ -18,7 +18,8 @@ use Rattle.stepper_rules.specs.Ramp as Ramp
 use Rattle.stepper_rules.specs.Ramp.{onward, moved}
 use Rattle.stepper_rules.specs.Perform.{loadOf, storing, loaded, startable, begun, start, parametersSet}
 use Rattle.net_rules.specs.Calls.{samplesIn}
-use Rattle.replay_print.specs.Text.{decimal, line, badLine}
+use Rattle.base_text.specs.Digits.{decimal}
+use Rattle.replay_print.specs.Text.{line, badLine}
 use Rattle.replay_file.specs.Records.{bodyLength, lineByte, measured, sampleRecord, netRecord, recordStep, replayed}
 use Rattle.replay_file.specs.Promises.{Examples, Bodies, Sampled, Stepped, Homed, Latest, Bad}
 

@@ -5,3 +5,4 @@ pub mod Fine
 pub mod Turning
 pub mod Whole
 pub mod Examples
+pub mod Known

@@ -1,6 +1,6 @@
 -- What is promised of a replay. Each is proved under its name, with small letters, in proofs/.
 use mathlib.Core.Path.{_≡_}
-use Prim.Native.Nat.{ℕ, _+_, _≤_}
+use Prim.Native.Nat.{ℕ, _+_, _<_, _≤_}
 use mathlib.Core.List.{List, [], _∷_, _++_}
 use mathlib.Core.Bool.{Bool, true, false}
 use lib.ListN.{length, drop, replicate}
@@ -8,7 +8,7 @@ use Rattle.base_layout.specs.Bytes.{Bytes}
 use Rattle.net_rules.specs.Record.{recordSize, chainMost}
 use Rattle.net_rules.specs.Calls.{listSize}
 use Rattle.replay_file.specs.declared.Place.{Place}
-use Rattle.replay_file.specs.Records.{Stage, bodyLength, measured, replayed}
+use Rattle.replay_file.specs.Records.{Stage, bad, bodyLength, kinds, measured, recordStep, replayed}
 use Rattle.replay_file.specs.Turns.{start, stageIn, headSize, turnStep, turnedBy, typesBy, samplesBy, netBy, textBy}
 
 -- 01 Replay file: a run of turns over the bytes that are left of a file, and all that it prints. Each turn is handed some of the bytes left, from the first on, as
@@ -77,6 +77,18 @@ pub record Bodies : Type 0 where
       → measured 2 (place ∷ i0 ∷ i1 ∷ ad1 ∷ ad2 ∷ ad3 ∷ c0 ∷ c1 ∷ c2 ∷ c3 ∷ [])
       ≡ 2 ∷ i0 ∷ i1 ∷ ad1 ∷ ad2 ∷ ad3 ∷ c0 ∷ c1 ∷ c2 ∷ c3 ∷ []
   pub stepper : (place stop : ℕ) → measured 3 (place ∷ stop ∷ []) ≡ 3 ∷ stop ∷ replicate 8 0
+
+-- a record of kind k that is taken: a file of a module of some type and this record prints nothing, so no "bad" either
+pub record Taken (k : ℕ) : Type 0 where
+  pub type : ℕ
+  pub body : List ℕ
+  pub silent : replayed (0 ∷ type ∷ k ∷ body) ≡ []
+
+-- 01 Replay file, 02 P3: the kinds are those below `kinds`. Each of them has a record that is taken; any other is bad wherever it comes and whatever
+-- follows it.
+pub record KnownKinds : Type 0 where
+  pub taken : (k : ℕ) → k < kinds → Taken k
+  pub unknown : (s : Stage) (k : ℕ) (body : List ℕ) → kinds ≤ k → recordStep s k body ≡ bad
 
 -- records of line bytes, none of them marked
 abbrev pub onLine : List ℕ → List ℕ

@@ -27,6 +27,10 @@ bodyLength k =
     (cond (eqb k 5) 2
     0))))
 
+-- 01 Replay file, 02 P3: how many kinds there are, numbered from 0; a kind byte that is not below it is unknown.
+abbrev pub kinds : ℕ
+kinds = 6
+
 -- 01 Replay file: kind 0 only first. So a replay first gathers the types of its modules, and then it has a network and, as 02 P11 asks, the list of
 -- samples for its next tick.
 pub data Stage : Type 0 where

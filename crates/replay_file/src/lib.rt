@@ -1,12 +1,29 @@
-// Where a replay stands, and how it stops: at a bad record, at a cut one, or for more bytes.
+// The kinds of records, and where a replay stands and how it stops: at a bad record, at a cut one, or for more bytes.
 ghost use mathlib.Core.Path.{_≡_};
 ghost use mathlib.Core.Bool.{true, false, cond};
 ghost use Prim.Native.Nat.{_+_, _^_, _≤_, _<_};
 ghost use lib.ListN.{length};
 ghost use Rattle.base_layout.specs.Bytes.{pasted};
 ghost use Rattle.replay_print.specs.Text.{badLine};
-ghost use Rattle.replay_file.specs.Records.{bad, running};
+ghost use Rattle.replay_file.specs.Records.{bodyLength, bad, running};
 ghost use Rattle.replay_file.specs.Turns.{start, over, wants, judged, turned, turnedBy, textBy};
+
+// How many kinds there are, numbered from 0.
+pub const KINDS: u8 = 6;
+
+// How many bytes follow a kind byte.
+pub fn body_len(kind: u8) -> usize
+    ensures { λ r. ⌜ r ≡ bodyLength kind ⌝ }
+{
+    match kind {
+        0 => 1,
+        1 => 2,
+        2 => 8,
+        3 => 10,
+        5 => 2,
+        _ => 0,
+    }
+}
 
 // Where a replay is: the offset of the next record, how many modules there are, and whether another kind has come.
 pub struct Place {
@@ -44,7 +61,7 @@ impl Place {
         ensures { λ _. ⌜ now (out .exit) ≡ pasted 0 (badLine (self .offset)) (now (out .entry)) ⌝ }
     {
         base_layout::put_all(out, 0, b"bad ");
-        let n = replay_print::put_decimal(out, 4, self.offset);
+        let n = base_text::put_decimal(out, 4, self.offset);
         out[4 + n] = b'\n';
         Turned {
             next: self,

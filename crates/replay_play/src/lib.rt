@@ -13,20 +13,6 @@ ghost use Rattle.replay_print.specs.Text.{textSize};
 use replay_file::Place;
 use replay_file::Turned;
 
-// How many bytes follow a kind byte.
-fn body_len(kind: u8) -> usize
-    ensures { λ r. ⌜ r ≡ bodyLength kind ⌝ }
-{
-    match kind {
-        0 => 1,
-        1 => 2,
-        2 => 8,
-        3 => 10,
-        5 => 2,
-        _ => 0,
-    }
-}
-
 // The ten bytes of a module before any sample: its type, and zeros.
 fn put_unmeasured(samples: &mut [u8], place: usize, t: u8)
     requires { ⌜ (length (now samples) ≡ listSize chainMost) × (place < chainMost) ⌝ }
@@ -126,7 +112,7 @@ pub fn turn(
         return at.waits(last);
     }
     let kind = input[0];
-    let size = 1 + body_len(kind);
+    let size = 1 + replay_file::body_len(kind);
     if input.len() < size {
         return at.cut(last, out);
     }

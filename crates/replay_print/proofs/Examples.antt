@@ -1,12 +1,8 @@
--- Hex digits in upper case, and some lines as they are printed, computed. Assumes nothing.
+-- Some lines as they are printed, computed. Assumes nothing.
 use mathlib.Core.Path.{refl}
-use native.Mathlib.Omega.{arith}
-use borrow.Author.Tests.{lt-ltb, le-ltb}
-use Rattle.replay_print.specs.Text.{decimal, line, badLine}
-use Rattle.replay_print.specs.Promises.{UpperCase, Examples}
-
-pub upper-case : UpperCase
-upper-case d = (λ h. rw (lt-ltb d 10 h), λ h. rw (le-ltb d 10 h) (omega arith))
+use Rattle.base_text.specs.Digits.{decimal}
+use Rattle.replay_print.specs.Text.{line, badLine}
+use Rattle.replay_print.specs.Promises.{Examples}
 
 pub examples : Examples
 unfolding decimal line badLine

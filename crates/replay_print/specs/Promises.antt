@@ -1,13 +1,8 @@
 -- What is promised of the text that a replay prints, as ASCII codes: 48 is the digit 0, 65 the letter A, 32 a space, 10 a newline (document 01,
 -- "Replay file"). Each is proved under its name, with small letters, in proofs/.
 use mathlib.Core.Path.{_≡_}
-use Prim.Native.Nat.{ℕ, _+_, _-_, _<_, _≤_}
 use mathlib.Core.List.{[], _∷_}
-use Rattle.replay_print.specs.Text.{hexDigit, line, badLine}
-
--- 01 Replay file: hex digits are 0 to 9, and from ten on the letters from A.
-abbrev pub UpperCase : Type 0
-UpperCase = (d : ℕ) → (d < 10 → hexDigit d ≡ 48 + d) × (10 ≤ d → hexDigit d ≡ 65 + (d - 10))
+use Rattle.replay_print.specs.Text.{line, badLine}
 
 -- 01 Replay file: lines as they are printed: "7 AB 0F", "31 CD E9", "bad 0", "bad 120".
 abbrev pub Examples : Type 0

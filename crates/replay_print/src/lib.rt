@@ -1,10 +1,11 @@
-// The text that a replay prints: numbers in decimal, bytes in hex, and the lines of the replies.
+// The text that a replay prints: the lines of the replies.
 ghost use mathlib.Core.Path.{_≡_};
 ghost use mathlib.Core.List.{_∷_};
 ghost use Prim.Native.Nat.{ℕ, _+_, _*_, _≤_, _<_};
 ghost use lib.ListN.{length, getD};
 ghost use Rattle.base_layout.specs.Bytes.{pasted};
-ghost use Rattle.replay_print.specs.Text.{space, hexDigit, hexPair, hexes, decimal, line, replyText, printed, textSize, lineSize};
+ghost use Rattle.base_text.specs.Digits.{space, hexPair};
+ghost use Rattle.replay_print.specs.Text.{hexes, line, replyText, printed, textSize, lineSize};
 ghost use Rattle.net_rules.specs.Record.{chainMost, roomSize};
 ghost use Rattle.module_rules.specs.Owes.{replySize};
 
@@ -13,19 +14,16 @@ const LINE_LEN: usize = 3 + 3 * module_rules::REPLY_LEN;
 
 pub const TEXT_LEN: usize = net_rules::CHAIN_MOST * LINE_LEN;
 
-fn hex_digit(d: u8) -> u8
-    requires { ⌜ d < 16 ⌝ }
-    ensures { λ r. ⌜ r ≡ hexDigit d ⌝ }
-{
-    if d < 10 { 48 + d } else { 55 + d }
-}
-
 // A space and a byte's two digits.
 fn put_pair(out: &mut [u8], at: usize, b: u8)
     requires { ⌜ at + 3 ≤ length (now out) ⌝ }
     ensures { λ _. ⌜ now (out .exit) ≡ pasted at (space ∷ hexPair b) (now (out .entry)) ⌝ }
 {
-    let text = [b' ', hex_digit(b / 16), hex_digit(b % 16)];
+    let text = [
+        b' ',
+        base_text::hex_digit(b / 16),
+        base_text::hex_digit(b % 16),
+    ];
     base_layout::put_all(out, at, &text);
 }
 
@@ -43,32 +41,13 @@ fn put_pairs(out: &mut [u8], at: usize, bytes: &[u8])
     }
 }
 
-// A number in decimal; how many digits it has.
-pub fn put_decimal(out: &mut [u8], at: usize, n: u64) -> usize
-    requires { ⌜ at + length (decimal n) ≤ length (now out) ⌝ }
-    ensures { λ r. ⌜ r ≡ length (decimal n) ⌝ }
-    ensures { λ _. ⌜ now (out .exit) ≡ pasted at (decimal n) (now (out .entry)) ⌝ }
-{
-    let mut digits = [0u8; 20];
-    digits[19] = 48 + (n % 10) as u8;
-    let mut rest = n / 10;
-    let mut i: usize = 19;
-    while 0 < rest {
-        i -= 1;
-        digits[i] = 48 + (rest % 10) as u8;
-        rest = rest / 10;
-    }
-    base_layout::put_all(out, at, &digits[i..]);
-    20 - i
-}
-
 // The line of a reply.
 fn put_line(out: &mut [u8], at: usize, place: usize, bytes: &[u8]) -> usize
     requires { ⌜ (place < chainMost) × (length (now bytes) ≤ replySize) × (at + lineSize ≤ length (now out)) ⌝ }
     ensures { λ r. ⌜ r ≡ length (line place (now (bytes .entry))) ⌝ }
     ensures { λ _. ⌜ now (out .exit) ≡ pasted at (line place (now (bytes .entry))) (now (out .entry)) ⌝ }
 {
-    let n = put_decimal(out, at, place as u64);
+    let n = base_text::put_decimal(out, at, place as u64);
     put_pairs(out, at + n, bytes);
     let end = n + 3 * bytes.len();
     out[at + end] = b'\n';

@@ -3,7 +3,8 @@ use Prim.Native.Nat.{_+_, _*_, _≤_}
 use native.Mathlib.Omega.{arith}
 use borrow.Author.Needs.{needs}
 use lib.ListN.{length, length-set}
-use Rattle.replay_print.specs.Text.{decimal, hexes, line}
+use Rattle.base_text.specs.Digits.{decimal}
+use Rattle.replay_print.specs.Text.{hexes, line}
 use Rattle.replay_print.proofs.Text.{place-short, line-length, length-hexes, all-put}
 use Rattle.replay_print.proofs.put_line.Statement.{statement}
 use Rattle.replay_print.proofs.put_line.Tie as tie

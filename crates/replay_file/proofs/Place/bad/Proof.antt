@@ -6,7 +6,8 @@ use Prim.Native.Nat.{ℕ, _≤_}
 use native.Mathlib.Omega.{arith}
 use borrow.Author.Needs.{needs}
 use lib.ListN.{length, length-set}
-use Rattle.replay_print.specs.Text.{decimal, badLine}
+use Rattle.base_text.specs.Digits.{decimal}
+use Rattle.replay_print.specs.Text.{badLine}
 use Rattle.replay_file.specs.Turns.{turned}
 use Rattle.replay_print.proofs.Text.{offset-short, bad-length, all-put}
 use Rattle.replay_file.proofs.Place.bad.Statement.{statement}

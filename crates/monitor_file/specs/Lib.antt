@@ -1,0 +1,3 @@
+pub mod Looking
+pub mod Promises
+pub mod Spots

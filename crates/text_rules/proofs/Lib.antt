@@ -1,0 +1,12 @@
+pub mod Hexed
+pub mod Folding
+pub mod Accepted
+pub mod Offset
+pub mod Export
+pub mod Columns
+pub mod Normal
+pub mod Reading
+pub mod Putting
+pub mod Records
+pub mod Showing
+pub mod Lines

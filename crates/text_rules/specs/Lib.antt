@@ -1,0 +1,6 @@
+pub mod Text
+pub mod Records
+pub mod Export
+pub mod Fold
+pub mod Import
+pub mod Promises
