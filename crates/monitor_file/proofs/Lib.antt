@@ -1,3 +1,4 @@
 pub mod Files
 pub mod Looking
 pub mod Spotted
+pub mod Replayed

@@ -3,12 +3,15 @@
 use mathlib.Core.Path.{_≡_}
 use mathlib.Core.List.{List, [], _∷_, _++_}
 use Prim.Native.Nat.{ℕ, _+_, _<_, _≤_}
-use lib.ListN.{length}
+use lib.ListN.{length, drop}
 use Rattle.base_text.specs.Digits.{newline}
 use Rattle.line_receiver.specs.Frames.{Byte}
-use Rattle.text_rules.specs.Records.{markOf, records}
+use Rattle.chain_rules.specs.Chain.{Net, byteStep}
+use Rattle.types_rules.specs.Types.{Module, kind}
+use Rattle.text_rules.specs.Records.{lineKind, markOf, recordOf, records}
 use Rattle.text_rules.specs.Promises.{occurs}
-use Rattle.replay_file.specs.Records.{bodyLength, kinds}
+use Rattle.replay_print.specs.Text.{lines}
+use Rattle.replay_file.specs.Records.{bodyLength, kinds, running, goes, recordStep}
 use Rattle.monitor_file.specs.declared.Part.the-variants.{Kind}
 use Rattle.monitor_file.specs.Looking.{lookFrom, lookedAt, faultAt}
 use Rattle.monitor_file.specs.Spots.{firstSpot, spotAfter}
@@ -57,3 +60,9 @@ pub record Spots : Type 0 where
   pub line : (t : List ℕ) → spotAfter firstSpot t .line ≡ 1 + occurs newline t
   pub first : (q : List ℕ) → occurs newline q ≡ 0 → spotAfter firstSpot q .column ≡ 1 + length q
   pub column : (p q : List ℕ) → occurs newline q ≡ 0 → spotAfter firstSpot (p ++ newline ∷ q) .column ≡ 1 + length q
+
+-- 02 P7: a record as import writes it is to a replay the byte of the line with its mark: the network takes it, and the replies are printed.
+abbrev pub Replays : Type 0
+Replays =
+    (n : Net Module) (list : List ℕ) (b : Byte)
+    → recordStep (running n list) lineKind (drop 1 (recordOf b)) ≡ goes (running (byteStep kind n b .net) list) (lines (byteStep kind n b .replies))

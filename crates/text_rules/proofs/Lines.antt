@@ -34,10 +34,13 @@ examples = record {
   mark = refl;
   marks = refl;
   return = refl;
+  tab = refl;
+  long = refl;
   byte = (refl, refl);
   digit = (refl, refl);
   space = (refl, refl);
   shown = refl;
+  recorded = refl;
 }
 
 -- any number of lines that is enough gives the same

@@ -3,8 +3,8 @@ use mathlib.Core.Path.{_≡_}
 use mathlib.Core.List.{List, [], _∷_, _++_}
 use mathlib.Core.Bool.{Bool, true, false, cond}
 use mathlib.Core.Logic.{_↔_, _⊎_}
-use Prim.Native.Nat.{ℕ, _+_, _*_, _<_, _≤_}
-use lib.ListN.{length, getD, take}
+use Prim.Native.Nat.{ℕ, zero, suc, _+_, _*_, _<_, _≤_}
+use lib.ListN.{length, getD, take, replicate}
 use lib.Dec.{eqb}
 use Rattle.base_layout.specs.Bytes.{Bytes}
 use Rattle.line_receiver.specs.Frames.{Byte, values}
@@ -98,8 +98,14 @@ clear v = record { value = v; mark = false }
 abbrev pub hurt : ℕ → Byte
 hurt v = record { value = v; mark = true }
 
--- 02 P7: texts as they are read, "aB 0f!", a line more with "7D!", and the empty one; and where what is none stops: a blank line at its newline, also the second, a space before a
--- newline at the newline, two spaces at the second, a mark with no byte, two marks, a line that ends in CR, "AA" at 2, "A" at 1, "AA " at 3.
+-- "AA" so many times, a space behind each, and once more at the line's end
+abbrev pub manyOf : ℕ → List ℕ
+manyOf zero = 65 ∷ 65 ∷ 10 ∷ []
+manyOf (suc n) = 65 ∷ 65 ∷ 32 ∷ manyOf n
+
+-- 02 P7: texts as they are read, "aB 0f!", a line more with "7D!", the empty one, and a line of 21 bytes; where what is none stops: a blank line at its newline, also the
+-- second, a space before a newline at the newline, two spaces at the second, a mark with no byte, two marks, a CR, a tab, "AA" at 2, "A" at 1, "AA " at 3; and two
+-- bytes as they are shown and as records.
 pub record Examples : Type 0 where
   pub line : readText (97 ∷ 66 ∷ 32 ∷ 48 ∷ 102 ∷ 33 ∷ 10 ∷ []) .bytes ≡ clear 0xAB ∷ hurt 0x0F ∷ []
   pub lines : readText (97 ∷ 66 ∷ 32 ∷ 48 ∷ 102 ∷ 33 ∷ 10 ∷ 55 ∷ 68 ∷ 33 ∷ 10 ∷ []) .bytes ≡ clear 0xAB ∷ hurt 0x0F ∷ hurt 0x7D ∷ []
@@ -111,7 +117,10 @@ pub record Examples : Type 0 where
   pub mark : readText (33 ∷ 65 ∷ 65 ∷ 10 ∷ []) .count ≡ 0
   pub marks : readText (65 ∷ 65 ∷ 33 ∷ 33 ∷ 10 ∷ []) .count ≡ 3
   pub return : readText (65 ∷ 65 ∷ 13 ∷ 10 ∷ []) .count ≡ 2
+  pub tab : readText (65 ∷ 65 ∷ 9 ∷ 65 ∷ 65 ∷ 10 ∷ []) .count ≡ 2
+  pub long : readText (manyOf 20) .bytes ≡ replicate 21 (clear 0xAA)
   pub byte : (isText (65 ∷ 65 ∷ []) ≡ false) × (readText (65 ∷ 65 ∷ []) .count ≡ 2)
   pub digit : (isText (65 ∷ []) ≡ false) × (readText (65 ∷ []) .count ≡ 1)
   pub space : (isText (65 ∷ 65 ∷ 32 ∷ []) ≡ false) × (readText (65 ∷ 65 ∷ 32 ∷ []) .count ≡ 3)
   pub shown : exported (clear 0xAB ∷ hurt 0x0F ∷ []) ≡ 65 ∷ 66 ∷ 32 ∷ 48 ∷ 70 ∷ 33 ∷ 10 ∷ []
+  pub recorded : records (clear 0xAB ∷ hurt 0x0F ∷ []) ≡ 1 ∷ 0 ∷ 0xAB ∷ 1 ∷ 1 ∷ 0x0F ∷ []
