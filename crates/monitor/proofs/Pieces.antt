@@ -7,7 +7,7 @@ use lib.ListN.{length}
 use Rattle.text_rules.specs.declared.Read.{Read}
 use Rattle.text_rules.specs.Export.{textFrom}
 use Rattle.text_rules.specs.Fold.{Reading}
-use Rattle.text_rules.specs.Import.{Stage, Fit, stageOf, readFrom, brought as taken, CameTo}
+use Rattle.text_rules.specs.Import.{Stage, Fit, stageOf, step, readFrom, CameTo}
 use Rattle.text_rules.proofs.Folding.{fold-within, fold-few}
 use Rattle.text_rules.proofs.Reading.{read-fit}
 use Rattle.monitor_file.specs.declared.Part.{Part}
@@ -23,8 +23,8 @@ pub record Imported (t : List ℕ) (r : Read) : Type 0 where
 pub imported : (s : Stage) (t : List ℕ) (r : Read) → Fit s → CameTo r (readFrom s t) → Imported t r
 imported s t r f c = record {
   fit = subst⁻¹ Fit (c .stage) (read-fit s t f);
-  count = omega (arith, c .count, fold-within taken s t);
-  bytes = omega (arith, c .bytes, fold-few taken s t, fold-within taken s t);
+  count = omega (arith, c .count, fold-within step s t);
+  bytes = omega (arith, c .bytes, fold-few step s t, fold-within step s t);
 }
 
 pub record Exported (p : Part) (t : List ℕ) (r : Looked) : Type 0 where

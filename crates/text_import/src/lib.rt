@@ -7,7 +7,8 @@ ghost use lib.Dec.{ltb};
 ghost use lib.ListN.{length, take};
 ghost use Rattle.base_layout.specs.Bytes.{pasted};
 ghost use Rattle.text_rules.specs.Records.{markOf, recordOf, records};
-ghost use Rattle.text_rules.specs.Import.{Line, Digit, Whole, More, Cannot, valueOf, behindByte, behindMark, step, mayEnd, wholeBy, Fit, readFrom, stageOf, tookOf, CameTo};
+ghost use Rattle.text_rules.specs.Fold.{more, cannot};
+ghost use Rattle.text_rules.specs.Import.{Line, Digit, Whole, valueOf, behindByte, behindMark, step, mayEnd, wholeBy, Fit, readFrom, stageOf, broughtOf, CameTo};
 use text_rules::At;
 use text_rules::Brings;
 use text_rules::LINE_KIND;
@@ -288,7 +289,7 @@ pub fn begin() -> Reader
 
 // A byte's first digit, of this value if it is one.
 fn first_digit(reader: Reader, digit: u8) -> Taken
-    ensures { λ r. ⌜ tookOf r ≡ cond (ltb digit 16) (More (Digit digit)) Cannot ⌝ }
+    ensures { λ r. ⌜ broughtOf r ≡ cond (ltb digit 16) (more (Digit digit)) cannot ⌝ }
 {
     if digit < 16 {
         return Taken {
@@ -308,7 +309,7 @@ fn first_digit(reader: Reader, digit: u8) -> Taken
 // Its second.
 fn second_digit(reader: Reader, digit: u8) -> Taken
     requires { ⌜ reader .value < 16 ⌝ }
-    ensures { λ r. ⌜ tookOf r ≡ cond (ltb digit 16) (More (Whole (16 * (reader .value) + digit))) Cannot ⌝ }
+    ensures { λ r. ⌜ broughtOf r ≡ cond (ltb digit 16) (more (Whole (16 * (reader .value) + digit))) cannot ⌝ }
 {
     if digit < 16 {
         return Taken {
@@ -327,7 +328,7 @@ fn second_digit(reader: Reader, digit: u8) -> Taken
 
 // What ends a byte; its value goes along.
 fn behind_byte(reader: Reader, c: u8) -> Taken
-    ensures { λ r. ⌜ tookOf r ≡ behindByte (reader .value) c ⌝ }
+    ensures { λ r. ⌜ broughtOf r ≡ behindByte (reader .value) c ⌝ }
 {
     let value = reader.value;
     match c {
@@ -360,7 +361,7 @@ fn behind_byte(reader: Reader, c: u8) -> Taken
 }
 
 fn behind_mark(reader: Reader, c: u8) -> Taken
-    ensures { λ r. ⌜ tookOf r ≡ behindMark c ⌝ }
+    ensures { λ r. ⌜ broughtOf r ≡ behindMark c ⌝ }
 {
     let value = reader.value;
     match c {
@@ -388,7 +389,7 @@ fn behind_mark(reader: Reader, c: u8) -> Taken
 // A character, with its value as a digit, where the text stands.
 pub fn step(reader: Reader, c: u8, digit: u8) -> Taken
     requires { ⌜ Fit (stageOf reader) × (digit ≡ valueOf c) ⌝ }
-    ensures { λ r. ⌜ tookOf r ≡ step (stageOf reader) c ⌝ }
+    ensures { λ r. ⌜ broughtOf r ≡ step (stageOf reader) c ⌝ }
 {
     let at = reader.at;
     match at {

@@ -13,7 +13,7 @@ use Rattle.base_text.specs.Digits.{space, newline}
 use Rattle.line_receiver.specs.Frames.{Byte}
 use Rattle.text_rules.specs.Text.{bang, Hex, OneByte, plain, marked, OneLine, last, next, Text, empty, lines}
 use Rattle.text_rules.specs.Fold.{Brought, more, gives, cannot, Reading, onward, onwardWith, still, goesOn, folded}
-use Rattle.text_rules.specs.Import.{Stage, Line, Space, Digit, Whole, Mark, Took, More, Ended, Cannot, valueOf, step, told, brought, readFrom, readText, mayEnd, isText}
+use Rattle.text_rules.specs.Import.{Stage, Line, Space, Digit, Whole, Mark, valueOf, step, readFrom, readText, mayEnd, isText}
 use Rattle.text_rules.specs.Promises.{Accepts}
 use Rattle.text_rules.proofs.Hexed.{value-hex, hex-small, hex-value}
 use Rattle.text_rules.proofs.Folding.{fold-by}
@@ -28,21 +28,21 @@ pub at-end : Goes Line [] []
 unfolding folded
 at-end = record { all = refl; ends = refl; same = refl }
 
-pub goes-more : (s n : Stage) (c : ℕ) {t : List ℕ} {bs : List Byte} → step s c ≡ More n → Goes n t bs → Goes s (c ∷ t) bs
+pub goes-more : (s n : Stage) (c : ℕ) {t : List ℕ} {bs : List Byte} → step s c ≡ more n → Goes n t bs → Goes s (c ∷ t) bs
 goes-more s n c {t} e g =
-    let f = fold-by brought s c t (ap told e) in
+    let f = fold-by step s c t e in
     record { all = ap (λ (r : Reading Stage). r .count) f ∙ ap suc (g .all); ends = ap (λ (r : Reading Stage). r .stage) f ∙ g .ends; same = ap (λ (r : Reading Stage). r .bytes) f ∙ g .same }
 
-pub goes-gives : (s n : Stage) (c v : ℕ) (m : Bool) {t : List ℕ} {bs : List Byte} → step s c ≡ Ended v m n → Goes n t bs
+pub goes-gives : (s n : Stage) (c v : ℕ) (m : Bool) {t : List ℕ} {bs : List Byte} → step s c ≡ gives (record { value = v; mark = m }) n → Goes n t bs
     → Goes s (c ∷ t) (record { value = v; mark = m } ∷ bs)
 goes-gives s n c v m {t} e g =
-    let f = fold-by brought s c t (ap told e) in
+    let f = fold-by step s c t e in
     let b : Byte = record { value = v; mark = m } in
     record { all = ap (λ (r : Reading Stage). r .count) f ∙ ap suc (g .all); ends = ap (λ (r : Reading Stage). r .stage) f ∙ g .ends; same = ap (λ (r : Reading Stage). r .bytes) f ∙ ap (λ (l : List Byte). b ∷ l) (g .same) }
 
 -- a byte's digits and its mark, where a byte begins
 abbrev Opens : Stage → Type 0
-Opens s = (c d : ℕ) → Hex c d → step s c ≡ More (Digit d)
+Opens s = (c d : ℕ) → Hex c d → step s c ≡ more (Digit d)
 
 line-opens : Opens Line
 unfolding step
@@ -52,12 +52,12 @@ space-opens : Opens Space
 unfolding step
 space-opens c d h = rw (value-hex h, lt-ltb d 16 (hex-small h))
 
-digit-on : (x c d : ℕ) → Hex c d → step (Digit x) c ≡ More (Whole (16 * x + d))
+digit-on : (x c d : ℕ) → Hex c d → step (Digit x) c ≡ more (Whole (16 * x + d))
 unfolding step
 digit-on x c d h = rw (value-hex h, lt-ltb d 16 (hex-small h))
 
 -- a text's byte, and then the stage that what follows it begins at
-byte-goes : (s : Stage) → Opens s → (c : ℕ) (n : Stage) → ((v : ℕ) → step (Whole v) c ≡ Ended v false n) → step Mark c ≡ More n
+byte-goes : (s : Stage) → Opens s → (c : ℕ) (n : Stage) → ((v : ℕ) → step (Whole v) c ≡ gives (record { value = v; mark = false }) n) → step Mark c ≡ more n
     → {t u : List ℕ} {b : Byte} {bs : List Byte} → OneByte t b → Goes n u bs → Goes s (t ++ c ∷ u) (b ∷ bs)
 unfolding step
 byte-goes s o c n e k (plain {h} {l} {x} {y} p q) g =
@@ -112,25 +112,25 @@ Left (Whole v) t bs = (h l x y : ℕ) → Hex h x → Hex l y → v ≡ 16 * x +
 Left Mark t bs = Parted t bs
 
 -- what an answer says of the characters that follow it
-abbrev Behind : Took → List ℕ → List Byte → Type 0
-Behind (More n) t bs = Left n t bs
-Behind (Ended v m n) t [] = ⊥
-Behind (Ended v m n) t (b ∷ bs) = (b ≡ record { value = v; mark = m }) × Left n t bs
-Behind Cannot t bs = ⊥
+abbrev Behind : Brought Stage → List ℕ → List Byte → Type 0
+Behind (more n) t bs = Left n t bs
+Behind (gives b n) t [] = ⊥
+Behind (gives b n) t (x ∷ bs) = (x ≡ b) × Left n t bs
+Behind cannot t bs = ⊥
 
 -- a character that the step takes stands before it
-first-left : (c : ℕ) (t : List ℕ) (bs : List Byte) → Behind (cond (ltb (valueOf c) 16) (More (Digit (valueOf c))) Cannot) t bs → Lined (c ∷ t) bs
+first-left : (c : ℕ) (t : List ℕ) (bs : List Byte) → Behind (cond (ltb (valueOf c) 16) (more (Digit (valueOf c))) cannot) t bs → Lined (c ∷ t) bs
 first-left c t bs = go (ltb (valueOf c) 16) refl
   where
-    go : (q : Bool) → ltb (valueOf c) 16 ≡ q → Behind (cond q (More (Digit (valueOf c))) Cannot) t bs → Lined (c ∷ t) bs
+    go : (q : Bool) → ltb (valueOf c) 16 ≡ q → Behind (cond q (more (Digit (valueOf c))) cannot) t bs → Lined (c ∷ t) bs
     go true e h = h c (hex-value c (ltb-true _ _ e))
     go false e h = absurd h
 
 second-left : (d c : ℕ) (t : List ℕ) (bs : List Byte)
-    → Behind (cond (ltb (valueOf c) 16) (More (Whole (16 * d + valueOf c))) Cannot) t bs → (h : ℕ) → Hex h d → Lined (h ∷ c ∷ t) bs
+    → Behind (cond (ltb (valueOf c) 16) (more (Whole (16 * d + valueOf c))) cannot) t bs → (h : ℕ) → Hex h d → Lined (h ∷ c ∷ t) bs
 second-left d c t bs = go (ltb (valueOf c) 16) refl
   where
-    go : (q : Bool) → ltb (valueOf c) 16 ≡ q → Behind (cond q (More (Whole (16 * d + valueOf c))) Cannot) t bs → (h : ℕ) → Hex h d → Lined (h ∷ c ∷ t) bs
+    go : (q : Bool) → ltb (valueOf c) 16 ≡ q → Behind (cond q (more (Whole (16 * d + valueOf c))) cannot) t bs → (h : ℕ) → Hex h d → Lined (h ∷ c ∷ t) bs
     go true e k h x = k h c d (valueOf c) x (hex-value c (ltb-true _ _ e)) refl
     go false e k h x = absurd k
 
@@ -143,12 +143,12 @@ module _ (v : ℕ) {t : List ℕ} {bs : List Byte} (h l x y : ℕ) (hx : Hex h x
   marked-left p = rw e (byte-lined (marked hx hl) p)
 
 behind-left : (v c : ℕ) (t : List ℕ) (bs : List Byte)
-    → Behind (cond (eqb c bang) (Ended v true Mark) (cond (eqb c space) (Ended v false Space) (cond (eqb c newline) (Ended v false Line) Cannot))) t bs
+    → Behind (cond (eqb c bang) (gives (record { value = v; mark = true }) Mark) (cond (eqb c space) (gives (record { value = v; mark = false }) Space) (cond (eqb c newline) (gives (record { value = v; mark = false }) Line) cannot))) t bs
     → (h l x y : ℕ) → Hex h x → Hex l y → v ≡ 16 * x + y → Lined (h ∷ l ∷ c ∷ t) bs
 behind-left v c t bs = go (eqb c bang) refl (eqb c space) refl (eqb c newline) refl bs
   where
     go : (p : Bool) → eqb c bang ≡ p → (q : Bool) → eqb c space ≡ q → (r : Bool) → eqb c newline ≡ r → (bs : List Byte)
-        → Behind (cond p (Ended v true Mark) (cond q (Ended v false Space) (cond r (Ended v false Line) Cannot))) t bs
+        → Behind (cond p (gives (record { value = v; mark = true }) Mark) (cond q (gives (record { value = v; mark = false }) Space) (cond r (gives (record { value = v; mark = false }) Line) cannot))) t bs
         → (h l x y : ℕ) → Hex h x → Hex l y → v ≡ 16 * x + y → Lined (h ∷ l ∷ c ∷ t) bs
     go true e q f r g [] k h l x y hx hl z = absurd k
     go true e q f r g (b ∷ bs) k h l x y hx hl z = rw (eqb-true c bang e, k .0) (marked-left v h l x y hx hl z (k .1))
@@ -158,10 +158,10 @@ behind-left v c t bs = go (eqb c bang) refl (eqb c space) refl (eqb c newline) r
     go false e false f true g (b ∷ bs) k h l x y hx hl z = rw (eqb-true c newline g, k .0) (plain-left v h l x y hx hl z (ended (k .1)))
     go false e false f false g bs k h l x y hx hl z = absurd k
 
-mark-left : (c : ℕ) (t : List ℕ) (bs : List Byte) → Behind (cond (eqb c space) (More Space) (cond (eqb c newline) (More Line) Cannot)) t bs → Parted (c ∷ t) bs
+mark-left : (c : ℕ) (t : List ℕ) (bs : List Byte) → Behind (cond (eqb c space) (more Space) (cond (eqb c newline) (more Line) cannot)) t bs → Parted (c ∷ t) bs
 mark-left c t bs = go (eqb c space) refl (eqb c newline) refl
   where
-    go : (q : Bool) → eqb c space ≡ q → (r : Bool) → eqb c newline ≡ r → Behind (cond q (More Space) (cond r (More Line) Cannot)) t bs → Parted (c ∷ t) bs
+    go : (q : Bool) → eqb c space ≡ q → (r : Bool) → eqb c newline ≡ r → Behind (cond q (more Space) (cond r (more Line) cannot)) t bs → Parted (c ∷ t) bs
     go true f r g k = rw (eqb-true c space f) (spaced k)
     go false f true g k = rw (eqb-true c newline g) (ended k)
     go false f false g k = absurd k
@@ -181,13 +181,13 @@ goes-left s [] a e = rw e empty
 goes-left s (c ∷ t) a e = step-left s c t (readFrom s (c ∷ t) .bytes) (go (λ n. goes-left n t) (step s c) a e)
   where
     go : ((n : Stage) → readFrom n t .count ≡ length t → readFrom n t .stage ≡ Line → Left n t (readFrom n t .bytes))
-        → (k : Took)
-        → goesOn s (λ (n : Stage). readFrom n t) (told k) .count ≡ suc (length t)
-        → goesOn s (λ (n : Stage). readFrom n t) (told k) .stage ≡ Line
-        → Behind k t (goesOn s (λ (n : Stage). readFrom n t) (told k) .bytes)
-    go ih (More n) a e = ih n (omega arith) e
-    go ih (Ended v m n) a e = (refl, ih n (omega arith) e)
-    go ih Cannot a e = absurd (omega arith)
+        → (k : Brought Stage)
+        → goesOn s (λ (n : Stage). readFrom n t) k .count ≡ suc (length t)
+        → goesOn s (λ (n : Stage). readFrom n t) k .stage ≡ Line
+        → Behind k t (goesOn s (λ (n : Stage). readFrom n t) k .bytes)
+    go ih (more n) a e = ih n (omega arith) e
+    go ih (gives b n) a e = (refl, ih n (omega arith) e)
+    go ih cannot a e = absurd (omega arith)
 
 may-end : (s : Stage) → mayEnd s ≡ true → s ≡ Line
 may-end Line e = refl

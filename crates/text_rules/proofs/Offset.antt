@@ -15,7 +15,7 @@ use Rattle.base_text.specs.Digits.{newline}
 use Rattle.line_receiver.specs.Frames.{Byte}
 use Rattle.text_rules.specs.Text.{Text, Begins}
 use Rattle.text_rules.specs.Fold.{Reading, folded, joined}
-use Rattle.text_rules.specs.Import.{Stage, Line, Space, Digit, Whole, Mark, valueOf, step, brought, readFrom, readText, isText}
+use Rattle.text_rules.specs.Import.{Stage, Line, Space, Digit, Whole, Mark, valueOf, step, readFrom, readText, isText}
 use Rattle.text_rules.specs.Promises.{FaultAt, BreaksOff, Offset}
 use Rattle.text_rules.proofs.Folding.{fold-within, fold-append, fold-stops, fold-take}
 use Rattle.text_rules.proofs.Accepted.{Goes, at-end, goes-more, goes-gives, text-goes, goes-text}
@@ -50,7 +50,7 @@ ending Mark = record { rest = newline ∷ []; bytes = []; goes = goes-more Mark 
 taken-begins : (p : List ℕ) → readText p .count ≡ length p → Begins p
 taken-begins p h =
     let e = ending (readText p .stage) in
-    let f = fold-append brought Line p (e .rest) h in
+    let f = fold-append step Line p (e .rest) h in
     let g : Goes Line (p ++ e .rest) (readText p .bytes ++ e .bytes) = record {
       all = ap (λ (r : Reading Stage). r .count) f ∙ omega (arith, h, e .goes .all, length-append p (e .rest));
       ends = ap (λ (r : Reading Stage). r .stage) f ∙ e .goes .ends;
@@ -60,16 +60,16 @@ taken-begins p h =
 
 some-begin : (t : List ℕ) (j : ℕ) → j < readText t .count → Begins (take (j + 1) t)
 some-begin t j h =
-    let w = fold-within brought Line t in
+    let w = fold-within step Line t in
     let k : j + 1 ≤ readText t .count = omega arith in
-    taken-begins (take (j + 1) t) (fold-take brought (j + 1) Line t k ∙ sym (length-take-le (j + 1) t (omega arith)))
+    taken-begins (take (j + 1) t) (fold-take step (j + 1) Line t k ∙ sym (length-take-le (j + 1) t (omega arith)))
 
 none-begins : (t : List ℕ) → readText t .count < length t → Begins (take (readText t .count + 1) t) → ⊥
 none-begins t h b =
     let k : ℕ = readText t .count in
     let g = text-goes (b .text) in
     let e : readFrom Line (take (k + 1) t ++ b .rest) ≡ readText t =
-    ap (λ (n : ℕ). readFrom Line (take n t ++ b .rest)) (add-one k) ∙ fold-stops brought Line t (b .rest) h in
+    ap (λ (n : ℕ). readFrom Line (take n t ++ b .rest)) (add-one k) ∙ fold-stops step Line t (b .rest) h in
     let c : k ≡ length (take (k + 1) t ++ b .rest) = sym (ap (λ (r : Reading Stage). r .count) e) ∙ g .all in
     omega (arith, c, length-append (take (k + 1) t) (b .rest), length-take-le (k + 1) t (omega arith))
 
@@ -80,7 +80,7 @@ reached t = go (ltb (readText t .count) (length t)) refl
     go : (q : Bool) → ltb (readText t .count) (length t) ≡ q → FaultAt t (readText t .count) ⊎ BreaksOff t (readText t .count)
     go true e = inl (record { within = ltb-true _ _ e; none = none-begins t (ltb-true _ _ e); least = some-begin t })
     go false e =
-        let w : readText t .count ≡ length t = omega (arith, fold-within brought Line t, ltb-false (readText t .count) (length t) e) in
+        let w : readText t .count ≡ length t = omega (arith, fold-within step Line t, ltb-false (readText t .count) (length t) e) in
         inr (record { whole = w; each = λ j h. some-begin t j (omega arith) })
 
 equal : (a b : ℕ) → (a < b → ⊥) → (b < a → ⊥) → a ≡ b

@@ -27,12 +27,6 @@ pub data Stage : Type 0 where
   Whole : ℕ → Stage
   Mark : Stage
 
--- 02 P7: what a character brings: the text goes on; a byte has ended, marked or not, and the text goes on; or no text has it there.
-pub data Took : Type 0 where
-  More : Stage → Took
-  Ended : ℕ → Bool → Stage → Took
-  Cannot : Took
-
 -- 02 P7: the value of a hex digit in either letter case, 16 for any other character.
 unfoldable pub valueOf : ℕ → ℕ
 valueOf c =
@@ -45,45 +39,36 @@ valueOf c =
     16)))))
 
 -- 02 P7: a byte begins with a digit.
-abbrev pub firstDigit : ℕ → Took
-firstDigit c = cond (ltb (valueOf c) 16) (More (Digit (valueOf c))) Cannot
+abbrev pub firstDigit : ℕ → Brought Stage
+firstDigit c = cond (ltb (valueOf c) 16) (more (Digit (valueOf c))) cannot
 
 -- 02 P7: and has a second one.
-abbrev pub secondDigit : ℕ → ℕ → Took
-secondDigit d c = cond (ltb (valueOf c) 16) (More (Whole (16 * d + valueOf c))) Cannot
+abbrev pub secondDigit : ℕ → ℕ → Brought Stage
+secondDigit d c = cond (ltb (valueOf c) 16) (more (Whole (16 * d + valueOf c))) cannot
 
 -- 02 P7: behind a byte comes its mark, a space or the line's end; each of them says that the byte has ended.
-abbrev pub behindByte : ℕ → ℕ → Took
+abbrev pub behindByte : ℕ → ℕ → Brought Stage
 behindByte b c =
-    cond (eqb c bang) (Ended b true Mark)
-    (cond (eqb c space) (Ended b false Space)
-    (cond (eqb c newline) (Ended b false Line)
-    Cannot))
+    cond (eqb c bang) (gives (record { value = b; mark = true }) Mark)
+    (cond (eqb c space) (gives (record { value = b; mark = false }) Space)
+    (cond (eqb c newline) (gives (record { value = b; mark = false }) Line)
+    cannot))
 
 -- 02 P7: behind a mark comes a space or the line's end.
-abbrev pub behindMark : ℕ → Took
-behindMark c = cond (eqb c space) (More Space) (cond (eqb c newline) (More Line) Cannot)
+abbrev pub behindMark : ℕ → Brought Stage
+behindMark c = cond (eqb c space) (more Space) (cond (eqb c newline) (more Line) cannot)
 
 -- 02 P7: a character where the text stands; no line is empty, and none ends in a space.
-unfoldable pub step : Stage → ℕ → Took
+unfoldable pub step : Stage → ℕ → Brought Stage
 step Line c = firstDigit c
 step Space c = firstDigit c
 step (Digit d) c = secondDigit d c
 step (Whole b) c = behindByte b c
 step Mark c = behindMark c
 
--- 02 P7: what each answer of the step says.
-abbrev pub told : Took → Brought Stage
-told (More s) = more s
-told (Ended b m s) = gives (record { value = b; mark = m }) s
-told Cannot = cannot
-
-abbrev pub brought : Stage → ℕ → Brought Stage
-brought s c = told (step s c)
-
 -- 02 P7: a text from its first character on.
 abbrev pub readFrom : Stage → List ℕ → Reading Stage
-readFrom s t = folded brought s t
+readFrom s t = folded step s t
 
 abbrev pub readText : List ℕ → Reading Stage
 readText t = readFrom Line t
@@ -114,13 +99,13 @@ stageAt AfterMark v = Mark
 abbrev pub stageOf : Reader → Stage
 stageOf r = stageAt (r .at) (r .value)
 
-abbrev pub tookBy : Brings → Reader → Took
-tookBy Nothing n = More (stageOf n)
-tookBy (Ends m) n = Ended (n .value) m (stageOf n)
-tookBy Fault n = Cannot
+abbrev pub broughtBy : Brings → Reader → Brought Stage
+broughtBy Nothing n = more (stageOf n)
+broughtBy (Ends m) n = gives (record { value = n .value; mark = m }) (stageOf n)
+broughtBy Fault n = cannot
 
-abbrev pub tookOf : Taken → Took
-tookOf t = tookBy (t .brings) (t .next)
+abbrev pub broughtOf : Taken → Brought Stage
+broughtOf t = broughtBy (t .brings) (t .next)
 
 -- characters came to what is told of them: the stage, how many were taken, and how many bytes have ended
 pub record CameTo (r : Read) (q : Reading Stage) : Type 0 where

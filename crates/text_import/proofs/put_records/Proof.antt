@@ -9,7 +9,7 @@ use Rattle.base_layout.specs.Bytes.{pasted}
 use Rattle.line_receiver.specs.Frames.{Byte}
 use Rattle.text_rules.specs.declared.Brings.{Brings}
 use Rattle.text_rules.specs.Records.{records}
-use Rattle.text_rules.specs.Import.{told, brought, readFrom, Fit, stageOf, tookBy}
+use Rattle.text_rules.specs.Import.{step, readFrom, Fit, stageOf, broughtBy}
 use Rattle.text_rules.proofs.Folding.{Midway, midway-start, turn-more, turn-gives, still-cannot, still-end, stop-still}
 use Rattle.text_rules.proofs.Reading.{FitAfter, step-fit, came-to}
 use Rattle.text_rules.proofs.Putting.{put-more, put-gives, put-stop}
@@ -23,7 +23,7 @@ Inv-loop text room₀ values most from bytes₀ i₀ room reader bytes i =
     × (i ≤ length text)
     × (bytes ≤ i)
     × (length room ≡ length room₀)
-    × Midway brought (readFrom (stageOf from) text) (stageOf reader) text i bytes
+    × Midway step (readFrom (stageOf from) text) (stageOf reader) text i bytes
     × (pasted (3 * bytes) (records (take (most - bytes) (readFrom (stageOf reader) (drop i text) .bytes))) room
     ≡ pasted 0 (records (take most (readFrom (stageOf from) text .bytes))) room₀)
 
@@ -36,7 +36,7 @@ loop-holds c =
     let a = s .args in
     let t = a .text .now in
     let z : length (a .room .now) / 3 - 0 ≡ length (a .room .now) / 3 = omega arith in
-    (s .pre, omega arith, omega arith, refl, midway-start brought (stageOf (a .from)) t, ap (λ (n : ℕ). pasted 0 (records (take n (readFrom (stageOf (a .from)) t .bytes))) (a .room .now)) z)
+    (s .pre, omega arith, omega arith, refl, midway-start step (stageOf (a .from)) t, ap (λ (n : ℕ). pasted 0 (records (take n (readFrom (stageOf (a .from)) t .bytes))) (a .room .now)) z)
 
 -- a character is a byte, and its value is the table's
 array-read-step : tie.Need-array-read-step Inv-loop μ-loop
@@ -53,13 +53,13 @@ loop-again c =
     let a = c .before .before .before .before .before .before .before .before .before .args in
     let t = a .text .now in
     let n = c .before .before .before .step .result .next in
-    let e = sym (c .before .before .before .step .ensures) ∙ ap (λ (b : Brings). tookBy b n) (c .enum-told .given .1) in (
+    let e = sym (c .before .before .before .step .ensures) ∙ ap (λ (b : Brings). broughtBy b n) (c .enum-told .given .1) in (
       subst FitAfter e (step-fit (stageOf (l .reader)) (getD t (l .i) 0)),
       omega arith,
       omega arith,
       l .inv .3,
-      turn-more brought (readFrom (stageOf (a .from)) t) (stageOf (l .reader)) (stageOf n) t (l .i) (l .bytes) (omega arith) (ap told e) (l .inv .4),
-      put-more brought (length (a .room .now) / 3) (stageOf (l .reader)) t (l .i) (l .bytes) (l .room) (l .inv .5) (stageOf n) (omega arith) (ap told e),
+      turn-more step (readFrom (stageOf (a .from)) t) (stageOf (l .reader)) (stageOf n) t (l .i) (l .bytes) (omega arith) e (l .inv .4),
+      put-more step (length (a .room .now) / 3) (stageOf (l .reader)) t (l .i) (l .bytes) (l .room) (l .inv .5) (stageOf n) (omega arith) e,
     )
 
 put-within-requires : tie.Need-put-within-requires Inv-loop μ-loop
@@ -72,15 +72,15 @@ loop-again-2 c =
     let t = a .text .now in
     let n = c .before .before .before .before .before .before .before .before .step .result .next in
     let g = c .before .before .before .before .before .brings .given in
-    let e = sym (c .before .before .before .before .before .before .before .before .step .ensures) ∙ ap (λ (b : Brings). tookBy b n) (g .1) in
+    let e = sym (c .before .before .before .before .before .before .before .before .step .ensures) ∙ ap (λ (b : Brings). broughtBy b n) (g .1) in
     let b : Byte = record { value = n .value; mark = g .0 .0 } in
     let p = c .before .before .put-within in (
       subst FitAfter e (step-fit (stageOf (l .reader)) (getD t (l .i) 0)),
       omega arith,
       omega arith,
       omega (arith, p .kept, l .inv .3),
-      turn-gives brought (readFrom (stageOf (a .from)) t) (stageOf (l .reader)) (stageOf n) b t (l .i) (l .bytes) (omega arith) (ap told e) (l .inv .4),
-      put-gives brought (length (a .room .now) / 3) (stageOf (l .reader)) t (l .i) (l .bytes) (l .room) (l .inv .5) (stageOf n) b (omega arith) (ap told e)
+      turn-gives step (readFrom (stageOf (a .from)) t) (stageOf (l .reader)) (stageOf n) b t (l .i) (l .bytes) (omega arith) e (l .inv .4),
+      put-gives step (length (a .room .now) / 3) (stageOf (l .reader)) t (l .i) (l .bytes) (l .room) (l .inv .5) (stageOf n) b (omega arith) e
           (omega (arith, l .inv .3)) (p .last .0) (p .ensures),
     )
 
@@ -91,10 +91,10 @@ returns c =
     let t = a .text .now in
     let s = stageOf (l .reader) in
     let n = c .before .before .before .step .result .next in
-    let e = sym (c .before .before .before .step .ensures) ∙ ap (λ (b : Brings). tookBy b n) (c .enum-told2 .given .1) in
-    let z = still-cannot brought s t (l .i) (omega arith) (ap told e) in (
-      came-to (l .reader) (stageOf (a .from)) t (l .i) (l .bytes) (stop-still brought (readFrom (stageOf (a .from)) t) s t (l .i) (l .bytes) z (l .inv .4)),
-      put-stop brought (length (a .room .now) / 3) s t (l .i) (l .bytes) (l .room) (l .inv .5) z,
+    let e = sym (c .before .before .before .step .ensures) ∙ ap (λ (b : Brings). broughtBy b n) (c .enum-told2 .given .1) in
+    let z = still-cannot step s t (l .i) (omega arith) e in (
+      came-to (l .reader) (stageOf (a .from)) t (l .i) (l .bytes) (stop-still step (readFrom (stageOf (a .from)) t) s t (l .i) (l .bytes) z (l .inv .4)),
+      put-stop step (length (a .room .now) / 3) s t (l .i) (l .bytes) (l .room) (l .inv .5) z,
     )
 
 returns-2 : tie.Need-returns-2 Inv-loop μ-loop
@@ -103,9 +103,9 @@ returns-2 c =
     let a = c .before .before .before .before .args in
     let t = a .text .now in
     let s = stageOf (l .reader) in
-    let z = still-end brought s t (l .i) (omega arith) in (
-      came-to (l .reader) (stageOf (a .from)) t (l .i) (l .bytes) (stop-still brought (readFrom (stageOf (a .from)) t) s t (l .i) (l .bytes) z (l .inv .4)),
-      put-stop brought (length (a .room .now) / 3) s t (l .i) (l .bytes) (l .room) (l .inv .5) z,
+    let z = still-end step s t (l .i) (omega arith) in (
+      came-to (l .reader) (stageOf (a .from)) t (l .i) (l .bytes) (stop-still step (readFrom (stageOf (a .from)) t) s t (l .i) (l .bytes) z (l .inv .4)),
+      put-stop step (length (a .room .now) / 3) s t (l .i) (l .bytes) (l .room) (l .inv .5) z,
     )
 
 pub put-records-spec : {M : Type 1} → statement M

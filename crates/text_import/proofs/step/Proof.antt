@@ -5,7 +5,8 @@ use Prim.Native.Nat.{ℕ, _+_, _*_}
 use borrow.Author.Needs.{needs}
 use lib.Dec.{ltb}
 use Rattle.text_rules.specs.declared.At.{At}
-use Rattle.text_rules.specs.Import.{Took, More, Cannot, Digit, Whole, step, stageAt, Fit}
+use Rattle.text_rules.specs.Fold.{more, cannot}
+use Rattle.text_rules.specs.Import.{Digit, Whole, step, stageAt, Fit}
 use Rattle.text_import.proofs.step.Statement.{statement}
 use Rattle.text_import.proofs.step.Tie as tie
 
@@ -16,21 +17,21 @@ returns : tie.Need-returns
 unfolding step
 returns c =
     let s = c .before .before .before in
-    c .first-digit .ensures ∙ ap (λ (n : ℕ). cond (ltb n 16) (More (Digit n)) Cannot) (s .pre .1)
+    c .first-digit .ensures ∙ ap (λ (n : ℕ). cond (ltb n 16) (more (Digit n)) cannot) (s .pre .1)
     ∙ sym (ap (λ (p : At). step (stageAt p (s .args .reader .value)) (s .args .c)) (c .before .enum-told .given .1))
 
 returns-2 : tie.Need-returns-2
 unfolding step
 returns-2 c =
     let s = c .before .before .before in
-    c .first-digit2 .ensures ∙ ap (λ (n : ℕ). cond (ltb n 16) (More (Digit n)) Cannot) (s .pre .1)
+    c .first-digit2 .ensures ∙ ap (λ (n : ℕ). cond (ltb n 16) (more (Digit n)) cannot) (s .pre .1)
     ∙ sym (ap (λ (p : At). step (stageAt p (s .args .reader .value)) (s .args .c)) (c .before .enum-told2 .given .1))
 
 returns-3 : tie.Need-returns-3
 unfolding step
 returns-3 c =
     let s = c .before .before .before in
-    c .second-digit .ensures ∙ ap (λ (n : ℕ). cond (ltb n 16) (More (Whole (16 * (s .args .reader .value) + n))) Cannot) (s .pre .1)
+    c .second-digit .ensures ∙ ap (λ (n : ℕ). cond (ltb n 16) (more (Whole (16 * (s .args .reader .value) + n))) cannot) (s .pre .1)
     ∙ sym (ap (λ (p : At). step (stageAt p (s .args .reader .value)) (s .args .c)) (c .before .enum-told3 .given .1))
 
 returns-4 : tie.Need-returns-4
