@@ -1,4 +1,7 @@
 // Which refusal a call meets, by its table.
+
+#![tactic(auto)]
+
 ghost use Rattle.std.specs.Prelude.{◌≡◌};
 ghost use Rattle.base_layout.specs.First.{first};
 ghost use Rattle.api_rules.specs.Table.{setup_table, byte_table, buffer_table, tick_table, place_table};

@@ -1,5 +1,7 @@
 // What each program does with files: it opens the one that an argument names, and writes to standard output.
 
+#![tactic(auto)]
+
 // Opens the file that an argument names, for reading. Where that fails, it says so and answers a number below 0.
 pub fn open_named(place: usize) -> i32 {
     let mut path = io::buffer();

@@ -1,4 +1,7 @@
 // Whole numbers with a sign, each in an `i64`, and 32-bit numbers that stand for them; the bits of a byte.
+
+#![tactic(auto)]
+
 ghost use Rattle.std.specs.Prelude.{◌≡◌, ◌^◌, ◌<◌, nat_le, unsigned_abs};
 ghost use Rattle.base_integers.specs.Bits.{is_set};
 ghost use Rattle.base_integers.specs.Whole.{same, less, signed, word, difference};

@@ -1,4 +1,7 @@
 // Numbers of two, four and six bytes, least significant first, read from a slice; numbers and bytes put into one.
+
+#![tactic(auto)]
+
 ghost use Rattle.std.specs.Prelude.{◌≡◌, ◌+◌, ◌≤◌, ◌<◌, ◌∷◌, [], length, get_or, take, drop};
 ghost use Rattle.base_integers.specs.Whole.{signed};
 ghost use Rattle.base_layout.specs.Bytes.{le, of_le, read_at, pasted};

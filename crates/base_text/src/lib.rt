@@ -1,4 +1,7 @@
 // Characters: numbers in decimal and bytes in hex.
+
+#![tactic(auto)]
+
 ghost use Rattle.std.specs.Prelude.{◌≡◌, ◌+◌, ◌≤◌, ◌<◌, length};
 ghost use Rattle.base_layout.specs.Bytes.{pasted};
 ghost use Rattle.base_text.specs.Digits.{hex_digit, decimal};

@@ -1,1 +1,3 @@
 // What the regulator demands of a step-motor module on the network: statements in specs/, theorems in proofs/. No code.
+
+#![tactic(auto)]

@@ -1,4 +1,7 @@
 // The calls for the board's C code. Each refuses what its table says, in the table's order, and changes nothing then.
+
+#![tactic(auto)]
+
 ghost use Rattle.std.specs.Prelude.{◌≡◌, length};
 ghost use Rattle.base_layout.specs.Bytes.{pasted};
 ghost use Rattle.host_rules.specs.Writing.{written_of, room_after};

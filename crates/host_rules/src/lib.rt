@@ -1,5 +1,7 @@
 // What the host writes and reads: frames and replies. Types, definitions and promises; no function.
 
+#![tactic(auto)]
+
 // What a reply says: its status byte and the number of each item, 0 where the item was not chosen.
 #[derive(Drop)]
 pub struct Reading {

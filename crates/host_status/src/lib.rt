@@ -1,4 +1,7 @@
 // The host's status reader.
+
+#![tactic(auto)]
+
 ghost use Rattle.std.specs.Prelude.{◌≡◌, ℕ, ◌+◌, ◌≤◌, ◌<◌, length, get_or};
 ghost use Rattle.host_rules.specs.Reading.{one_size, needed_for, summed, reading_of, refusal, status_of};
 

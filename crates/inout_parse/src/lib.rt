@@ -1,4 +1,7 @@
 // What a frame asks of an I/O module.
+
+#![tactic(auto)]
+
 ghost use Rattle.std.specs.Prelude.{◌≡◌, get_or};
 ghost use Rattle.module_rules.specs.Touch.{frame_of};
 ghost use Rattle.module_rules.specs.Rules.{counted, asking};

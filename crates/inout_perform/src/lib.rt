@@ -1,4 +1,7 @@
 // The I/O module by value: its power-up, what its own commands make of it, its replies, and what the board drives for it.
+
+#![tactic(auto)]
+
 ghost use Rattle.std.specs.Prelude.{◌≡◌, ◌+◌, ◌≤◌, length};
 ghost use Rattle.base_layout.specs.Bytes.{pasted};
 ghost use Rattle.module_rules.specs.Touch.{frame_of};

@@ -1,4 +1,7 @@
 // The I/O module's bytes in a slot: told from them, put into them, and whether they are valid.
+
+#![tactic(auto)]
+
 ghost use Rattle.std.specs.Prelude.{◌≡◌, ◌+◌, ◌≤◌, ◌∷◌, ◌++◌, length};
 ghost use Rattle.base_layout.specs.Bytes.{pasted};
 ghost use Rattle.base_layout.specs.Every.{every};

@@ -1,5 +1,7 @@
 // How an I/O module stands in a slot of the record: where its parts and their fields are. Definitions and promises; no function.
 
+#![tactic(auto)]
+
 // The latched sample, in the order of a tick's list: input bits, three A/D bytes, counter.
 pub const SAMPLE_LEN: usize = 9;
 

@@ -1,4 +1,7 @@
 // The line's checksum, and its receiver, which takes one byte at a time with its mark and hands back its next state and an answer.
+
+#![tactic(auto)]
+
 ghost use Rattle.std.specs.Prelude.{◌≡◌, ◌+◌, ◌-◌, ◌%◌, ◌<◌, ◌≤◌, take};
 ghost use Rattle.line_receiver.specs.Receive.{total, sum8, idle, opened, addressed, commanded, stored, finished, inside, taken};
 

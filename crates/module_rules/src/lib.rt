@@ -1,6 +1,8 @@
 // What every module type has: its addresses, its last cause, the items that it reports and its baud byte, and the slot that it stands in.
 // Types, definitions and promises; no function.
 
+#![tactic(auto)]
+
 // The bytes of a slot of the record: the type byte, the station, and what the type has besides.
 pub const SLOT_LEN: usize = 128;
 

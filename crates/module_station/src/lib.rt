@@ -1,4 +1,7 @@
 // A module's station, by value and in its slot: who a frame is for, and the commands of every type.
+
+#![tactic(auto)]
+
 ghost use Rattle.std.specs.Prelude.{◌≡◌, ◌∷◌, ◌≤◌, length};
 ghost use Rattle.base_layout.specs.Bytes.{pasted};
 ghost use Rattle.module_rules.specs.Touch.{power_up, individually, named, speaks};

@@ -1,6 +1,9 @@
 // The line monitor's text on files and pipes of any length. `monitor import` reads a text and writes the records of its bytes; `monitor export` reads a
 // replay file and writes its line bytes as text, and passes over its other records. Both read the file that their argument names, or standard input where there
 // is none. Where the input is at fault, what stood before is written, and the fault is told on standard error.
+
+#![tactic(auto)]
+
 ghost use Rattle.std.specs.Prelude.{◌≡◌, ◌+◌, ◌*◌, ◌^◌, ◌<◌, ◌≤◌, length};
 ghost use Rattle.text_rules.specs.Import.{Fit, stage_of};
 ghost use Rattle.monitor_file.specs.Looking.{Fit as PartFit, gone};

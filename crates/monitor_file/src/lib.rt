@@ -1,5 +1,8 @@
 // A replay file's line bytes: its records taken a byte at a time, those of other kinds passed over by their length. And where in a text its characters
 // stand, by line and column.
+
+#![tactic(auto)]
+
 ghost use Rattle.std.specs.Prelude.{◌≡◌, ◌+◌, ◌*◌, ◌^◌, ◌<◌, ◌≤◌, length};
 ghost use Rattle.base_layout.specs.Bytes.{pasted};
 ghost use Rattle.base_text.specs.Digits.{newline};

@@ -1,4 +1,7 @@
 // The receiver in the lent record: its bytes read, put together and tested; and the number of modules behind them.
+
+#![tactic(auto)]
+
 ghost use Rattle.std.specs.Prelude.{◌≡◌, true, ◌+◌, ◌≤◌, ◌<◌, length};
 ghost use Rattle.base_layout.specs.Bytes.{pasted, read_at};
 ghost use Rattle.types_rules.specs.Types.{slots};

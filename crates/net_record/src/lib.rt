@@ -1,4 +1,7 @@
 // The lent record: whether it is valid and a list of samples is one for it, setup, outputs and causes; and whether a buffer's marks are good.
+
+#![tactic(auto)]
+
 ghost use Rattle.std.specs.Prelude.{◌≡◌, true, map, ◌+◌, ◌*◌, ◌≤◌, ◌<◌, length, replicate, drop};
 ghost use Rattle.module_rules.specs.Slots.{slot_size};
 ghost use Rattle.types_rules.specs.Types.{slots, powered, outputs};

@@ -1,5 +1,7 @@
 // The network: the lent record and what the calls make of it. Types, definitions and promises; no function.
 
+#![tactic(auto)]
+
 // Where the receiver's parts stand in the record, behind its fifteen data places.
 pub const ADDRESS_AT: usize = 15;
 

@@ -1,4 +1,7 @@
 // What bytes and ticks do to a valid record: a frame that has ended is handed along the chain.
+
+#![tactic(auto)]
+
 ghost use Rattle.std.specs.Prelude.{◌≡◌, true, ◌+◌, ◌*◌, ◌≤◌, ◌<◌, length, get_or, take, drop};
 ghost use Rattle.base_layout.specs.Bytes.{pasted};
 ghost use Rattle.line_receiver.specs.Receive.{number_of};

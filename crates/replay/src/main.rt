@@ -1,5 +1,8 @@
 // Replays a capture: the file that the argument names, or standard input where there is none. What the replay prints goes to standard output
 // as it comes; what fails is told on standard error.
+
+#![tactic(auto)]
+
 ghost use Rattle.std.specs.Prelude.{◌≡◌, ◌+◌, ◌-◌, ◌^◌, ◌<◌, ◌≤◌, length, drop};
 ghost use Rattle.std.proofs.Math.Seq.{paste};
 ghost use Rattle.replay_file.specs.Turns.{Held};

@@ -1,4 +1,7 @@
 // What the records of a running replay do to the network and to its list of samples: bytes, samples and ticks.
+
+#![tactic(auto)]
+
 ghost use Rattle.std.specs.Prelude.{◌≡◌, true, [], ◌+◌, ◌^◌, ◌≤◌, ◌<◌, length, get_or, take};
 ghost use Rattle.base_layout.specs.Bytes.{pasted};
 ghost use Rattle.types_rules.specs.Types.{slots};

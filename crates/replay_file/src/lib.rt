@@ -1,4 +1,7 @@
 // The kinds of records, and where a replay stands and how it stops: at a bad record, at a cut one, or for more bytes.
+
+#![tactic(auto)]
+
 ghost use Rattle.std.specs.Prelude.{◌≡◌, true, false, cond, ◌+◌, ◌^◌, ◌≤◌, ◌<◌, length};
 ghost use Rattle.base_layout.specs.Bytes.{pasted};
 ghost use Rattle.replay_print.specs.Text.{bad_line};

@@ -1,4 +1,7 @@
 // A replay file's records, taken one after another as the bytes come; types, samples and network stand in lent slices.
+
+#![tactic(auto)]
+
 ghost use Rattle.std.specs.Prelude.{◌≡◌, false, ◌+◌, ◌^◌, ◌≤◌, ◌<◌, ◌∷◌, length, replicate};
 ghost use Rattle.base_layout.specs.Bytes.{pasted};
 ghost use Rattle.net_rules.specs.Record.{chain_most};

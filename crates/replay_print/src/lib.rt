@@ -1,4 +1,7 @@
 // The text that a replay prints: the lines of the replies.
+
+#![tactic(auto)]
+
 ghost use Rattle.std.specs.Prelude.{◌≡◌, ◌∷◌, ℕ, ◌+◌, ◌*◌, ◌≤◌, ◌<◌, length, get_or};
 ghost use Rattle.base_layout.specs.Bytes.{pasted};
 ghost use Rattle.base_text.specs.Digits.{space, hex_pair};

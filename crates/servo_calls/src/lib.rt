@@ -1,4 +1,7 @@
 // The calls that work on a servo in its slot of the record. Each reads and puts only the parts that it is about.
+
+#![tactic(auto)]
+
 ghost use Rattle.std.specs.Prelude.{◌≡◌, true, ◌+◌, ◌≤◌, length};
 ghost use Rattle.base_layout.specs.Bytes.{pasted};
 ghost use Rattle.module_rules.specs.Touch.{frame_of};

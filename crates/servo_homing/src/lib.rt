@@ -1,4 +1,7 @@
 // Homing on the carriage switch, by value: its byte, what it stores, its stop, and its step in a tick.
+
+#![tactic(auto)]
+
 ghost use Rattle.std.specs.Prelude.{◌≡◌};
 ghost use Rattle.servo_rules.specs.State.{no_homing};
 ghost use Rattle.servo_rules.specs.Homing.{good_byte, homing_by, home_from, home_at, homing_bits, changed, homing_halt, halted_or, homed};

@@ -1,5 +1,8 @@
 // The profile of a servo: where its setpoint is, how fast it moves, and what a tick makes of both.
 // Distances are in 65,536ths of a count, speeds and accelerations in 65,536ths of a count per tick.
+
+#![tactic(auto)]
+
 ghost use Rattle.std.specs.Prelude.{◌≡◌, ◌+◌, ◌-◌, ◌≤◌, ◌<◌, ◌^◌, min, leb, nat_abs};
 ghost use Rattle.servo_motion.specs.Trapezoid.{stop, greatest, next_speed};
 ghost use Rattle.servo_motion.specs.Quick.{braking_ticks};

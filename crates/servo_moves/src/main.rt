@@ -1,4 +1,7 @@
 // Walks moves and filter ticks, and writes the speeds and the outputs.
+
+#![tactic(auto)]
+
 ghost use Rattle.std.specs.Prelude.{◌≡◌, ◌≤◌, ◌<◌, ◌^◌, nat_abs};
 ghost use Rattle.servo_motion.specs.Profile.{fastest, Ranged};
 ghost use Rattle.servo_filter.specs.Filter.{Kept, blank, told};

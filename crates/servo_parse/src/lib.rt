@@ -1,4 +1,7 @@
 // What a frame asks of a servo: its code, the number of its data bytes and their values, read into an order or found at fault.
+
+#![tactic(auto)]
+
 ghost use Rattle.std.specs.Prelude.{◌≡◌, ◌<◌};
 ghost use Rattle.base_layout.specs.Bytes.{of_le, read_at};
 ghost use Rattle.module_rules.specs.Touch.{frame_of};

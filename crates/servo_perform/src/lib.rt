@@ -1,4 +1,7 @@
 // The servo's own orders, by value: whether one can be carried out now, and what it does then; and power-up.
+
+#![tactic(auto)]
+
 ghost use Rattle.std.specs.Prelude.{◌≡◌};
 ghost use Rattle.servo_motion.specs.Profile.{Ranged};
 ghost use Rattle.servo_rules.specs.State.{no_settings, no_run, fresh, started};

@@ -1,4 +1,7 @@
 // What a servo tells the host and the board.
+
+#![tactic(auto)]
+
 ghost use Rattle.std.specs.Prelude.{◌≡◌, ◌+◌, ◌<◌, ◌≤◌, nat_abs, length};
 ghost use Rattle.base_layout.specs.Bytes.{pasted};
 ghost use Rattle.module_rules.specs.Touch.{frame_of};

@@ -1,4 +1,7 @@
 // The servo, type 0 version 10: what it consists of, and what a frame asks of it. Types, definitions and promises; no function.
+
+#![tactic(auto)]
+
 use module_rules::{Fault, Setting, Station};
 use servo_filter::{Gains, Memory};
 use servo_motion::Profile;

@@ -1,4 +1,7 @@
 // What runs in a servo, by value: what ticks, starts and stops all ask of it and make of it.
+
+#![tactic(auto)]
+
 ghost use Rattle.std.specs.Prelude.{◌≡◌, not, ◌&&◌};
 ghost use Rattle.servo_filter.specs.Filter.{blank};
 ghost use Rattle.servo_motion.specs.Profile.{Ranged};

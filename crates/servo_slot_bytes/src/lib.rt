@@ -1,4 +1,7 @@
 // The parts of a servo as bytes.
+
+#![tactic(auto)]
+
 ghost use Rattle.std.specs.Prelude.{◌≡◌, [], ◌∷◌, ◌++◌};
 ghost use Rattle.base_integers.specs.Whole.{word};
 ghost use Rattle.base_layout.specs.Bytes.{le};

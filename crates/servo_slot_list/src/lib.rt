@@ -1,4 +1,7 @@
 // Whether a slot holds a valid servo: the tests of the list.
+
+#![tactic(auto)]
+
 ghost use Rattle.std.specs.Prelude.{◌≡◌, ◌≤◌, length};
 ghost use Rattle.base_layout.specs.Every.{every, every_from};
 ghost use Rattle.servo_motion.specs.Profile.{Ranged};

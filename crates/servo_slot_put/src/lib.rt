@@ -1,4 +1,7 @@
 // A servo, or a part of it, put into its slot of the record.
+
+#![tactic(auto)]
+
 ghost use Rattle.std.specs.Prelude.{◌≡◌, ◌≤◌, length};
 ghost use Rattle.base_integers.specs.Whole.{word};
 ghost use Rattle.base_layout.specs.Bytes.{le, pasted};

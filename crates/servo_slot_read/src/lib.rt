@@ -1,4 +1,7 @@
 // A servo and its parts, read from its slot of the record.
+
+#![tactic(auto)]
+
 ghost use Rattle.std.specs.Prelude.{◌≡◌, ◌+◌, ◌≤◌, length};
 ghost use Rattle.servo_slot_rules.specs.Slot.{way_in, mode_in, sample, counts, gains, tuning, rates, load, settings, profile, memory, drive, run, homing, latched_at, counts_at, tuning_at, rates_at, load_at, profile_at, memory_at, drive_at, homing_at, servo_size, decode_of};
 

@@ -1,5 +1,7 @@
 // How a servo stands in a slot of the record: where its parts and their fields are. Definitions and promises; no function.
 
+#![tactic(auto)]
+
 // The latched sample, in the order of a tick's list: power, A/D byte, raw count, limit inputs.
 pub const SAMPLE_LEN: usize = 7;
 

@@ -1,4 +1,7 @@
 // Loads and starts of a servo, by value: what waits, whether it can start, and what a start makes of it.
+
+#![tactic(auto)]
+
 ghost use Rattle.std.specs.Prelude.{◌≡◌, cond};
 ghost use Rattle.servo_motion.specs.Profile.{Ranged};
 ghost use Rattle.servo_rules.specs.Loads.{way_of, load_of, rates_of, loaded, beginning_at, movable, complete, startable, signed_by, sent, to_place, started_by, start};

@@ -1,4 +1,7 @@
 // Stops of a servo, by value: the command's and homing's.
+
+#![tactic(auto)]
+
 ghost use Rattle.std.specs.Prelude.{◌≡◌, cond};
 ghost use Rattle.servo_rules.specs.State.{dropped};
 ghost use Rattle.servo_rules.specs.Stops.{holding, smooth, halted_by, drops, halted, can_halt};

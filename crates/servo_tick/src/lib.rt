@@ -1,4 +1,7 @@
 // A servo's tick, by value: latch, power, homing, profile, filter.
+
+#![tactic(auto)]
+
 ghost use Rattle.std.specs.Prelude.{◌≡◌};
 ghost use Rattle.servo_rules.specs.State.{running, putting};
 ghost use Rattle.servo_rules.specs.Tick.{advanced, put_out, tripped, servoed, pulsed, driven_by, by_power, met, ticked, Steady};

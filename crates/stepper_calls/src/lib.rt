@@ -1,4 +1,7 @@
 // The calls on a step-motor module in a slot: a frame, a tick, and what the board drives.
+
+#![tactic(auto)]
+
 ghost use Rattle.std.specs.Prelude.{◌≡◌, ◌+◌, ◌≤◌, ◌<◌, true, cond, length};
 ghost use Rattle.base_layout.specs.Bytes.{pasted};
 ghost use Rattle.module_rules.specs.Touch.{frame_of};

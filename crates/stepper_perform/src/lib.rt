@@ -1,5 +1,8 @@
 // The step-motor module by value: its power-up, what its own commands make of it and whether they can now, a tick's new speed and position, its
 // replies, and what the board drives for it.
+
+#![tactic(auto)]
+
 ghost use Rattle.std.specs.Prelude.{◌≡◌, ◌+◌, ◌<◌, ◌≤◌, length, if◌then◌else◌};
 ghost use Rattle.base_layout.specs.Bytes.{pasted};
 ghost use Rattle.module_rules.specs.Touch.{frame_of};

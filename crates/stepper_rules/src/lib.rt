@@ -1,4 +1,7 @@
 // The step-motor module, type 3 version 1: what it consists of, and what a frame asks of it. Types, definitions and promises; no function.
+
+#![tactic(auto)]
+
 use module_rules::{Fault, Setting, Station};
 
 pub const TYPE: u8 = 3;

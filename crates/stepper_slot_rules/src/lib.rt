@@ -1,5 +1,7 @@
 // How a step-motor module stands in a slot of the record: where its parts and their fields are. Definitions and promises; no function.
 
+#![tactic(auto)]
+
 // What frames store for later.
 pub const SETTINGS_AT: usize = module_rules::OWN_AT;
 

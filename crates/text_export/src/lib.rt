@@ -1,4 +1,7 @@
 // Bytes of the line as text: byte by byte, in the column of its line that each has.
+
+#![tactic(auto)]
+
 ghost use Rattle.std.specs.Prelude.{◌≡◌, true, ◌+◌, ◌<◌, ◌≤◌, ltb, length};
 ghost use Rattle.base_layout.specs.Bytes.{pasted};
 ghost use Rattle.base_text.specs.Digits.{hex_pair};

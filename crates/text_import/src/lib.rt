@@ -1,4 +1,7 @@
 // The reader of the line monitor's text: one step for one character, by value, and the loop over it.
+
+#![tactic(auto)]
+
 ghost use Rattle.std.specs.Prelude.{◌≡◌, [], ◌∷◌, cond, ◌+◌, ◌*◌, ◌-◌, ◌/◌, ◌≤◌, ◌<◌, ltb, length, take};
 ghost use Rattle.base_layout.specs.Bytes.{pasted};
 ghost use Rattle.text_rules.specs.Records.{mark_of, record_of, records};

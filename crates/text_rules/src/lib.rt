@@ -1,5 +1,7 @@
 // The line monitor's text: where it stands after some of its characters, and what one more brings.
 
+#![tactic(auto)]
+
 // The kind of a line byte's record in a replay file, and how many bytes fill a line of an exported text.
 pub const LINE_KIND: u8 = 1;
 

@@ -1,4 +1,7 @@
 // The calls on a slot of any type: each goes to the crate of its type, by the first byte. A further type is an arm in each.
+
+#![tactic(auto)]
+
 ghost use Rattle.std.specs.Prelude.{◌≡◌, true, ◌+◌, ◌≤◌, length};
 ghost use Rattle.base_layout.specs.Bytes.{pasted};
 ghost use Rattle.module_rules.specs.Touch.{frame_of};

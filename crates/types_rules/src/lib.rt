@@ -1,5 +1,7 @@
 // The table of module types. Types, definitions and promises; no function.
 
+#![tactic(auto)]
+
 // A sample, as it was measured for a module of any type.
 #[derive(Drop)]
 pub enum Measured {

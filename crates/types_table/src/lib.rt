@@ -1,4 +1,7 @@
 // The table of module types as functions: which numbers there are, how many bytes each item of a type has, and which item bytes there are.
+
+#![tactic(auto)]
+
 ghost use Rattle.std.specs.Prelude.{◌≡◌};
 ghost use Rattle.types_rules.specs.Types.{known, sizes_of, shows_of};
 
