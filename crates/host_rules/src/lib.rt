@@ -3,21 +3,21 @@
 #![tactic(auto)]
 
 // What a reply says: its status byte and the number of each item, 0 where the item was not chosen.
-#[derive(Drop)]
+#[derive(Clone, Copy)]
 pub struct Reading {
     pub status: u8,
     pub numbers: [u32; 8],
 }
 
 // The status reader's number, and what it read.
-#[derive(Drop)]
+#[derive(Clone, Copy)]
 pub struct Answered {
     pub number: u32,
     pub reading: Reading,
 }
 
 // The writer's number, and how many bytes it wrote.
-#[derive(Drop)]
+#[derive(Clone, Copy)]
 pub struct Written {
     pub number: u32,
     pub len: usize,

@@ -13,7 +13,7 @@ pub const SIZES: [u8; 8] = [2, 1, 1, 1, 4, 2, 2, 4];
 pub const TYPE_AND_VERSION: u32 = 258;
 
 // What the board measures: twelve input bits, three A/D bytes, a counter.
-#[derive(Drop)]
+#[derive(Clone, Copy)]
 pub struct Sample {
     pub inputs: u16,
     pub ad1: u8,
@@ -23,7 +23,7 @@ pub struct Sample {
 }
 
 // A direction bit of 1 is an input.
-#[derive(Drop)]
+#[derive(Clone, Copy)]
 pub struct Pins {
     pub direction: u16,
     pub register: u16,
@@ -32,21 +32,21 @@ pub struct Pins {
 }
 
 // What Synch Output will put out.
-#[derive(Drop)]
+#[derive(Clone, Copy)]
 pub struct Synch {
     pub bits: u16,
     pub pwm1: u8,
     pub pwm2: u8,
 }
 
-#[derive(Drop)]
+#[derive(Clone, Copy)]
 pub struct Capture {
     pub inputs: u16,
     pub counter: u32,
 }
 
 // The latched sample is the one that the last tick was handed.
-#[derive(Drop)]
+#[derive(Clone, Copy)]
 pub struct Io {
     pub station: Station,
     pub latched: Sample,
@@ -57,7 +57,7 @@ pub struct Io {
 }
 
 // The I/O module's own commands.
-#[derive(Drop)]
+#[derive(Clone, Copy)]
 pub enum Command {
     Direction(u16),
     Pwm(u8, u8),
@@ -69,7 +69,7 @@ pub enum Command {
 }
 
 // What a frame asks.
-#[derive(Drop)]
+#[derive(Clone, Copy)]
 pub enum Request {
     Malformed(Fault),
     Set(Setting),

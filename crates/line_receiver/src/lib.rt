@@ -6,7 +6,7 @@ ghost use Rattle.std.specs.Prelude.{◌≡◌, ◌+◌, ◌-◌, ◌%◌, ◌<�
 ghost use Rattle.line_receiver.specs.Receive.{total, sum8, idle, opened, addressed, commanded, stored, finished, inside, taken};
 
 // The unfinished frame: its data bytes, address and command, how many of its bytes are in (0 is idle), and whether one was marked.
-#[derive(Drop)]
+#[derive(Clone, Copy)]
 pub struct Receiver {
     pub bytes: [u8; 15],
     pub address: u8,
@@ -17,14 +17,14 @@ pub struct Receiver {
 
 // What a byte brings: a frame has ended, damaged or not, or nothing more.
 // The frame itself stands in the receiver that took the byte, so the answer holds no data.
-#[derive(Drop)]
+#[derive(Clone, Copy)]
 pub enum Answer {
     Ended(bool),
     Nothing,
 }
 
 // The receiver after a byte, and what the byte brought.
-#[derive(Drop)]
+#[derive(Clone, Copy)]
 pub struct Received {
     pub next: Receiver,
     pub answer: Answer,

@@ -39,7 +39,7 @@ pub const CAUSE_MOST: u8 = 5;
 pub const REPLY_LEN: usize = 19;
 
 // Who a module is on the line; low is its ADDR_OUT.
-#[derive(Drop)]
+#[derive(Clone, Copy)]
 pub struct Address {
     pub individual: u8,
     pub group: u8,
@@ -47,7 +47,7 @@ pub struct Address {
     pub low: bool,
 }
 
-#[derive(Drop)]
+#[derive(Clone, Copy)]
 pub struct Station {
     pub address: Address,
     pub cause: u8,
@@ -56,7 +56,7 @@ pub struct Station {
 }
 
 // What a frame says besides its data bytes.
-#[derive(Drop)]
+#[derive(Clone, Copy)]
 pub struct Head {
     pub address: u8,
     pub code: u8,
@@ -64,7 +64,7 @@ pub struct Head {
 }
 
 // What a command of every type sets: the two addresses, the items, the baud byte, or nothing.
-#[derive(Drop)]
+#[derive(Clone, Copy)]
 pub enum Setting {
     Assign(u8, u8),
     Define(u8),
@@ -74,7 +74,7 @@ pub enum Setting {
 
 // What a code asks, as far as every type knows it: what is another's, what is unknown here, or a command with the number of its data bytes. One that
 // chooses items has one data byte, the item byte, which the type must know.
-#[derive(Drop)]
+#[derive(Clone, Copy)]
 pub enum Asked {
     Other,
     Unknown,
@@ -84,7 +84,7 @@ pub enum Asked {
 }
 
 // Why a frame can't be read: its code is unknown, the number of its data bytes is wrong, or a value is out of range.
-#[derive(Drop)]
+#[derive(Clone, Copy)]
 pub enum Fault {
     Unknown,
     Count,

@@ -17,7 +17,7 @@ use text_rules::Reader;
 const BLOCK: usize = 65536;
 
 // Where an import is: its reader, where the next character stands, and whether to stop.
-#[derive(Drop)]
+#[derive(Clone, Copy)]
 struct Importing {
     reader: Reader,
     spot: Spot,
@@ -25,7 +25,7 @@ struct Importing {
 }
 
 // Where an export is: what comes next in the file, the column where the next byte goes, the offset of the file's next byte, and whether to stop.
-#[derive(Drop)]
+#[derive(Clone, Copy)]
 struct Exporting {
     part: Part,
     column: u8,

@@ -14,7 +14,7 @@ ghost use Rattle.monitor_file.specs.Spots.{spot_after, Near};
 use text_rules::{LINE_KIND, PER_LINE};
 
 // What comes next in the file: a record's kind; a line byte's mark; its value, with the mark that it had; or so many bytes more of a body of another kind.
-#[derive(Drop)]
+#[derive(Clone, Copy)]
 pub enum Part {
     Kind,
     Mark,
@@ -23,7 +23,7 @@ pub enum Part {
 }
 
 // What a byte of the file brings: more of a record; a byte of the line, marked or not, with which its record ends; or no file has it there.
-#[derive(Drop)]
+#[derive(Clone, Copy)]
 pub enum Took {
     More(Part),
     Ended(u8, bool),
@@ -31,7 +31,7 @@ pub enum Took {
 }
 
 // What bytes of a file came to: what comes next, how many of them were taken, the column where the next byte of the line goes, and how long the text is.
-#[derive(Drop)]
+#[derive(Clone, Copy)]
 pub struct Looked {
     pub part: Part,
     pub count: usize,
@@ -40,7 +40,7 @@ pub struct Looked {
 }
 
 // Where a character stands: its offset from 0, its line and its column from 1.
-#[derive(Drop)]
+#[derive(Clone, Copy)]
 pub struct Spot {
     pub offset: u64,
     pub line: u64,

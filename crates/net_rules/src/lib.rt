@@ -33,7 +33,7 @@ pub const BUFFER_ENDS: usize = 16;
 pub const BUFFER_ROOM_LEN: usize = BUFFER_ENDS * ROOM_LEN;
 
 // What a byte call hands back: its number, the length of all replies, and of the reply of each place.
-#[derive(Drop)]
+#[derive(Clone, Copy)]
 pub struct Called {
     pub number: u32,
     pub written: usize,
@@ -41,13 +41,13 @@ pub struct Called {
 }
 
 // A module's turn in the walk: whether its ADDR_OUT was low before the frame, and how many bytes it said.
-#[derive(Drop)]
+#[derive(Clone, Copy)]
 pub struct Turn {
     pub low: bool,
     pub said: usize,
 }
 
-#[derive(Drop)]
+#[derive(Clone, Copy)]
 pub struct Walked {
     pub written: usize,
     pub lengths: [u8; CHAIN_MOST],

@@ -13,7 +13,7 @@ ghost use Rattle.replay_print.specs.Text.{text_size};
 use replay_file::Place;
 
 // Where the program is: the replay's place, the bytes of the buffer that are not taken yet, whether the file has no more, and whether to stop.
-#[derive(Drop)]
+#[derive(Clone, Copy)]
 struct State {
     at: Place,
     start: usize,

@@ -26,7 +26,7 @@ pub fn body_len(kind: u8) -> usize
 }
 
 // Where a replay is: the offset of the next record, how many modules there are, and whether another kind has come.
-#[derive(Drop)]
+#[derive(Clone, Copy)]
 pub struct Place {
     pub offset: u64,
     pub count: usize,
@@ -35,7 +35,7 @@ pub struct Place {
 
 // What a turn hands back: where the replay is then, how many bytes it took and how many it wrote, whether the replay is over, and whether the
 // record at the head is not whole.
-#[derive(Drop)]
+#[derive(Clone, Copy)]
 pub struct Turned {
     pub next: Place,
     pub took: usize,

@@ -10,7 +10,7 @@ ghost use Rattle.base_integers.specs.Whole.{difference};
 ghost use Rattle.servo_filter.specs.Filter.{Kept, held, limited, drive, answered, filtered};
 
 // Gains and limits, as Set Gain brings them: IL holds the integral, OL the output, and past EL the servo goes off.
-#[derive(Drop)]
+#[derive(Clone, Copy)]
 pub struct Gains {
     pub kp: u16,
     pub kd: u16,
@@ -21,14 +21,14 @@ pub struct Gains {
 }
 
 // What the filter keeps from tick to tick: the integral and the previous error.
-#[derive(Drop)]
+#[derive(Clone, Copy)]
 pub struct Memory {
     pub integral: i64,
     pub previous: i64,
 }
 
 // What holding an output to its limits leaves of it: all of it, or the limit that it lay above or below.
-#[derive(Drop)]
+#[derive(Clone, Copy)]
 pub enum Limited {
     Plain(i64),
     Above(i64),
@@ -36,7 +36,7 @@ pub enum Limited {
 }
 
 // What a tick of the filter comes to: its new memory and the output, plain or cut to its limit; or off.
-#[derive(Drop)]
+#[derive(Clone, Copy)]
 pub enum Filtered {
     Plain(Memory, i64),
     Cut(Memory, i64),

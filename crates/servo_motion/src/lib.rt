@@ -14,7 +14,7 @@ ghost use Rattle.servo_motion.specs.Profile.{fastest, Ranged, in_range, heads, r
 pub const FASTEST: u32 = 83_886_080;
 
 // The goal is a position in counts, the aim velocity mode's goal speed, top the trapezoid's greatest speed.
-#[derive(Drop)]
+#[derive(Clone, Copy)]
 pub struct Profile {
     pub setpoint: u64,
     pub speed: i64,

@@ -15,7 +15,7 @@ pub const SIZES: [u8; 8] = [4, 1, 2, 1, 4, 2, 2, 1];
 pub const TYPE_AND_VERSION: u32 = 2560;
 
 // What the board measures: the raw count, power 0 low, 1 good, 2 high, an A/D byte, and the limit inputs: bit 0 limit 1, bit 1 limit 2.
-#[derive(Drop)]
+#[derive(Clone, Copy)]
 pub struct Sample {
     pub raw: u32,
     pub power: u8,
@@ -24,14 +24,14 @@ pub struct Sample {
 }
 
 // The position is the raw count less the offset; last is the position before the last tick.
-#[derive(Drop)]
+#[derive(Clone, Copy)]
 pub struct Counts {
     pub offset: u32,
     pub last: u32,
 }
 
 // What Set Gain brings.
-#[derive(Drop)]
+#[derive(Clone, Copy)]
 pub struct Tuning {
     pub gains: Gains,
     pub cl: u8,
@@ -39,7 +39,7 @@ pub struct Tuning {
 }
 
 // Velocity and acceleration of executed loads since power-up, and whether one carried them.
-#[derive(Drop)]
+#[derive(Clone, Copy)]
 pub struct Rates {
     pub velocity: u32,
     pub acceleration: u32,
@@ -48,7 +48,7 @@ pub struct Rates {
 }
 
 // What a load asks for: a PWM value, a speed, a move to a position.
-#[derive(Drop)]
+#[derive(Clone, Copy)]
 pub enum Way {
     Pulse,
     Speed,
@@ -56,7 +56,7 @@ pub enum Way {
 }
 
 // The waiting load, if one waits.
-#[derive(Drop)]
+#[derive(Clone, Copy)]
 pub struct Load {
     pub waits: bool,
     pub way: Way,
@@ -68,7 +68,7 @@ pub struct Load {
 }
 
 // What frames store for later.
-#[derive(Drop)]
+#[derive(Clone, Copy)]
 pub struct Settings {
     pub tuning: Tuning,
     pub rates: Rates,
@@ -76,7 +76,7 @@ pub struct Settings {
 }
 
 // What drives the motor.
-#[derive(Drop)]
+#[derive(Clone, Copy)]
 pub enum Mode {
     Off,
     Pwm,
@@ -86,7 +86,7 @@ pub enum Mode {
 }
 
 // The mode, the PWM value, the motor output, the error bit, the amplifier bit, and whether the last filter tick was cut.
-#[derive(Drop)]
+#[derive(Clone, Copy)]
 pub struct Drive {
     pub mode: Mode,
     pub pulse: i64,
@@ -97,7 +97,7 @@ pub struct Drive {
 }
 
 // What runs: where the setpoint goes, what the filter remembers, and what drives the motor.
-#[derive(Drop)]
+#[derive(Clone, Copy)]
 pub struct Run {
     pub profile: Profile,
     pub memory: Memory,
@@ -105,14 +105,14 @@ pub struct Run {
 }
 
 // The position where homing last found its switch, and the byte of Set Homing while homing is in progress, else 0.
-#[derive(Drop)]
+#[derive(Clone, Copy)]
 pub struct Homing {
     pub home: u32,
     pub byte: u8,
 }
 
 // The latched sample is the one that the last tick was handed.
-#[derive(Drop)]
+#[derive(Clone, Copy)]
 pub struct Servo {
     pub station: Station,
     pub latched: Sample,
@@ -123,7 +123,7 @@ pub struct Servo {
 }
 
 // What a Load Trajectory carries; 0 for what it does not.
-#[derive(Drop)]
+#[derive(Clone, Copy)]
 pub struct Carried {
     pub control: u8,
     pub place: u32,
@@ -133,7 +133,7 @@ pub struct Carried {
 }
 
 // The kinds of Stop: none of bits 1 to 4, off, abrupt, smooth, Stop Here.
-#[derive(Drop)]
+#[derive(Clone, Copy)]
 pub enum Halt {
     Keep,
     Release,
@@ -143,7 +143,7 @@ pub enum Halt {
 }
 
 // The servo's own commands.
-#[derive(Drop)]
+#[derive(Clone, Copy)]
 pub enum Order {
     ResetPosition,
     LoadTrajectory(Carried),
@@ -155,7 +155,7 @@ pub enum Order {
 }
 
 // What a frame asks.
-#[derive(Drop)]
+#[derive(Clone, Copy)]
 pub enum Request {
     Malformed(Fault),
     Set(Setting),

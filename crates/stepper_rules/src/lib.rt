@@ -16,13 +16,13 @@ pub const TYPE_AND_VERSION: u32 = 259;
 pub const FASTEST: u8 = 250;
 
 // What the board measures: the stop input.
-#[derive(Drop)]
+#[derive(Clone, Copy)]
 pub struct Sample {
     pub stop: bool,
 }
 
 // What frames store for later: the amplifier bit; the minimum speed, 0 before Set Parameters; a load's position and timer count, which nothing uses.
-#[derive(Drop)]
+#[derive(Clone, Copy)]
 pub struct Settings {
     pub amplifier: bool,
     pub minimum: u8,
@@ -31,7 +31,7 @@ pub struct Settings {
 }
 
 // The waiting load, if one waits; a speed or a time of 0 is one that it does not carry.
-#[derive(Drop)]
+#[derive(Clone, Copy)]
 pub struct Load {
     pub waits: bool,
     pub backward: bool,
@@ -41,7 +41,7 @@ pub struct Load {
 
 // What runs: the speed's size and direction, the speed that it goes to, the acceleration time of the started load, the ticks since that began to
 // count, and whether a smooth stop was asked for. At rest all of it is 0.
-#[derive(Drop)]
+#[derive(Clone, Copy)]
 pub struct Motion {
     pub speed: u8,
     pub backward: bool,
@@ -51,7 +51,7 @@ pub struct Motion {
     pub stopping: bool,
 }
 
-#[derive(Drop)]
+#[derive(Clone, Copy)]
 pub struct Stepper {
     pub station: Station,
     pub settings: Settings,
@@ -61,7 +61,7 @@ pub struct Stepper {
 }
 
 // What a Load Trajectory carries; 0 for what it does not.
-#[derive(Drop)]
+#[derive(Clone, Copy)]
 pub struct Carried {
     pub control: u8,
     pub place: u32,
@@ -71,7 +71,7 @@ pub struct Carried {
 }
 
 // The kinds of Stop: neither of bits 2 and 3, abrupt, smooth.
-#[derive(Drop)]
+#[derive(Clone, Copy)]
 pub enum Halt {
     Keep,
     Abrupt,
@@ -79,7 +79,7 @@ pub enum Halt {
 }
 
 // The step-motor module's own commands; Set Parameters has its minimum speed.
-#[derive(Drop)]
+#[derive(Clone, Copy)]
 pub enum Order {
     LoadTrajectory(Carried),
     Start,
@@ -88,7 +88,7 @@ pub enum Order {
 }
 
 // What a frame asks.
-#[derive(Drop)]
+#[derive(Clone, Copy)]
 pub enum Request {
     Malformed(Fault),
     Set(Setting),

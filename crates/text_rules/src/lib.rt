@@ -9,7 +9,7 @@ pub const PER_LINE: u8 = 16;
 
 // Where a reader of a text stands: at the start of a line, where a text may also end; behind a space; behind a byte's first digit; behind its second; and
 // behind its mark.
-#[derive(Drop)]
+#[derive(Clone, Copy)]
 pub enum At {
     LineStart,
     AfterSpace,
@@ -20,14 +20,14 @@ pub enum At {
 
 // A reader of a text. Behind a byte's first digit its value is the digit's, and from the second on the byte's. Plain numbers side by side stay in
 // registers; an enum with the value in it would go through memory at each character.
-#[derive(Drop)]
+#[derive(Clone, Copy)]
 pub struct Reader {
     pub at: At,
     pub value: u8,
 }
 
 // What a character brings: nothing yet; a byte has ended, marked or not; or no text has it there.
-#[derive(Drop)]
+#[derive(Clone, Copy)]
 pub enum Brings {
     Nothing,
     Ends(bool),
@@ -35,14 +35,14 @@ pub enum Brings {
 }
 
 // The reader after a character, with the value of the byte that has ended, and what the character brought.
-#[derive(Drop)]
+#[derive(Clone, Copy)]
 pub struct Taken {
     pub next: Reader,
     pub brings: Brings,
 }
 
 // What characters came to: the reader then, how many of them were taken, and how many bytes have ended.
-#[derive(Drop)]
+#[derive(Clone, Copy)]
 pub struct Read {
     pub reader: Reader,
     pub count: usize,
@@ -50,7 +50,7 @@ pub struct Read {
 }
 
 // What some bytes are: records of line bytes alone, so many of them marked, or something else.
-#[derive(Drop)]
+#[derive(Clone, Copy)]
 pub enum Measured {
     Line(usize),
     Other,

@@ -3,7 +3,7 @@
 #![tactic(auto)]
 
 // A sample, as it was measured for a module of any type.
-#[derive(Drop)]
+#[derive(Clone, Copy)]
 pub enum Measured {
     Servo(servo_rules::Sample),
     Io(inout_rules::Sample),
