@@ -9,7 +9,6 @@ import glob
 import re
 import sys
 
-IDENT = r"[^\s(){}\[\],;:.λ⌜⌝=→×|«»`'\"/]"
 # a name as antt splits it: anything up to a blank or a bracket, without the dots that lead into modules and fields
 TOKEN = re.compile(r"[^\s(){}\[\],;:.`\"]+")
 
@@ -58,7 +57,7 @@ def fields(paths):
                 inside = lead
             elif line.strip() and inside is not None and lead <= inside:
                 inside = None
-            field = inside is not None and re.match(r" +pub ([^\s:]+) :", line)
+            field = inside is not None and re.match(r" +(?:pub )?([^\s:]+) :", line)
             if field and lead == inside + 2:
                 names.add(field.group(1))
     return names
@@ -124,7 +123,9 @@ def main():
             old = m.group(0)
             if old not in new or keep(old):
                 return old
-            if text[m.start() - 1 : m.start()] == "." and old not in behind_dot:
+            # behind a dot stands a field, or a name of the module before it; the rest is what Rattle makes of the code
+            before = re.search(r"([^\s(){}\[\],;:.]*)\.$", text[: m.start()])
+            if before and old not in behind_dot and not before.group(1)[:1].isupper():
                 return old
             return new[old]
 

@@ -10,22 +10,22 @@ use Rattle.chain_rules.proofs.Bytes as Bytes
 use Rattle.types_rules.specs.Types.{kind}
 
 pub touched_before : TouchedBefore kind
-touched_before = Touching.touched-before kind
+touched_before = Touching.touched_before kind
 
 pub enabled : Enabled
 enabled = Touching.enabled
 
 pub handed_on : HandedOn
-handed_on = Touching.handed-on
+handed_on = Touching.handed_on
 
 pub own_record : OwnRecord kind
-own_record = Touching.own-record kind
+own_record = Touching.own_record kind
 
 pub untouched : Untouched kind
 untouched = Touching.untouched kind
 
 pub speaks_before : SpeaksBefore kind
-speaks_before = Speaking.speaks-before kind
+speaks_before = Speaking.speaks_before kind
 
 pub replying : Replying kind
 replying = Frames.replying kind
@@ -34,10 +34,10 @@ pub says : Says kind
 says = Touching.says kind
 
 pub replies_are : RepliesAre kind
-replies_are = Replies.replies-are kind
+replies_are = Replies.replies_are kind
 
 pub each_heard : EachHeard kind
-each_heard = Replies.each-heard kind
+each_heard = Replies.each_heard kind
 
 pub in_order : InOrder kind
 in_order = Replies.in_order kind
@@ -46,7 +46,7 @@ pub lengths : Lengths
 lengths = Replies.lengths
 
 pub byte_taken : ByteTaken kind
-byte_taken = Bytes.byte-taken kind
+byte_taken = Bytes.byte_taken kind
 
 pub number_told : NumberTold kind
-number_told = Bytes.number-told kind
+number_told = Bytes.number_told kind

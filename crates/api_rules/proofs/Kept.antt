@@ -41,18 +41,18 @@ held s v = Stored.holds lawful s v.1 v.0
 -- what is stored by each call
 byte-after : (net : List ℕ) (mark byte : ℕ) → byte < 256 → ValidRecord net → After (stored slots (step_of net mark byte).net net) (step_of net mark byte).net
 byte-after net mark byte h v =
-    stored-after (step_of net mark byte).net net (Net.kept-by-byte kind slots Good preserves (net_in slots net) (byte_of byte (eqb mark 1)) (held net v) h) v
+    stored-after (step_of net mark byte).net net (Net.kept_by_byte kind slots Good preserves (net_in slots net) (byte_of byte (eqb mark 1)) (held net v) h) v
 
 buffer_after : (net bytes marks : List ℕ) → Bytes bytes → ValidRecord net
     → After (stored slots (buffer_of net bytes marks).net net) (buffer_of net bytes marks).net
 buffer_after net bytes marks b v =
-    stored-after (buffer_of net bytes marks).net net (Net.kept-by-bytes kind slots Good preserves bytes marks (net_in slots net) b (held net v)) v
+    stored-after (buffer_of net bytes marks).net net (Net.kept_by_bytes kind slots Good preserves bytes marks (net_in slots net) b (held net v)) v
 
 tick_after : (net samples : List ℕ) → Bytes samples → all_in_range (length (net_in slots net).modules) samples ≡ true → ValidRecord net
     → After (stored slots (tick_step (samples_for (net_in slots net) samples) (net_in slots net)) net) (tick_step (samples_for (net_in slots net) samples) (net_in slots net))
 tick_after net samples b r v =
     stored-after (tick_step (samples_for (net_in slots net) samples) (net_in slots net)) net
-    (Net.kept-by-tick kind slots Good preserves (net_in slots net) (samples_for (net_in slots net) samples) (held net v) (samples_good _ samples b r)) v
+    (Net.kept_by_tick kind slots Good preserves (net_in slots net) (samples_for (net_in slots net) samples) (held net v) (samples_good _ samples b r)) v
 
 setup_after : (net types : List ℕ) → Passes (setup_table net types) → After (fresh types) (set_up types)
 unfolding After fresh

@@ -57,10 +57,10 @@ use Rattle.demands_rules.proofs.OnTheLine.{small, fed-handed, fed_two, fed_both}
 
 -- a servo and an I/O module, and a step-motor module behind them
 abbrev types : List ℕ
-types = Servos.typeNumber ∷ Inout.typeNumber ∷ []
+types = Servos.type_number ∷ Inout.type_number ∷ []
 
 abbrev chain : List ℕ
-chain = types ++ Steppers.typeNumber ∷ []
+chain = types ++ Steppers.type_number ∷ []
 
 abbrev History : Type 0
 History = List (Event (List AnySample))
@@ -218,7 +218,7 @@ in_turns_lem =
     (p, (q, (x, (a, (y, (b, (c, (z, (r, (d, tt))))))))))
 
 lives : Lives (run kind one_by_one ready) × Lives (run kind in_turns ready)
-unfolding ready taken byte_step asked request execute reply reply_of report StepperAsks.own StepperAsks.loadMeant parameters_meant Stepped.carriedIn Stepped.in_range Steps.loaded Steps.storing Steps.load_of Steps.startable Steps.begun Steps.start parameters_set Ramp.ticked onward changed moved InoutAsks.own blend own gain_meant gains_fit gains_in stop_meant halt_of load_meant ones in_range carried_in loaded load_of way_of complete startable signed_by start idled stopped held put_out pulsed Homing.changed Homing.homed by_power Tick.met Tick.ticked done status_of numbers_of outputs_from
+unfolding ready taken byte_step asked request execute reply reply_of report StepperAsks.own StepperAsks.load_meant parameters_meant Stepped.carried_in Stepped.in_range Steps.loaded Steps.storing Steps.load_of Steps.startable Steps.begun Steps.start parameters_set Ramp.ticked onward changed moved InoutAsks.own blend own gain_meant gains_fit gains_in stop_meant halt_of load_meant ones in_range carried_in loaded load_of way_of complete startable signed_by start idled stopped held put_out pulsed Homing.changed Homing.homed by_power Tick.met Tick.ticked done status_of numbers_of outputs_from
 lives = (
   record { servo_drives = refl; inout_drives = refl; stepper_drives = refl; servo_replied = refl; inout_replied = refl; stepper_replied = refl },
   record { servo_drives = refl; inout_drives = refl; stepper_drives = refl; servo_replied = refl; inout_replied = refl; stepper_replied = refl },

@@ -15,5 +15,5 @@ use Rattle.servo_rules.specs.Loads.{way_of, load_of, rates_of, loaded, movable, 
 use Rattle.demands_rules.specs.Causes.{CauseRows}
 
 pub cause_rows : CauseRows
-unfolding same asked request execute Inout.own ones carried_in in_range load_meant gains_in gains_fit gain_meant halt_of stop_meant good_byte own way_of load_of rates_of loaded movable complete startable Stepped.carriedIn Stepped.in_range Stepper.loadMeant Stepper.parametersMeant Stepper.stopMeant Stepper.own Steps.load_of Steps.storing Steps.loaded Steps.startable
+unfolding same asked request execute Inout.own ones carried_in in_range load_meant gains_in gains_fit gain_meant halt_of stop_meant good_byte own way_of load_of rates_of loaded movable complete startable Stepped.carried_in Stepped.in_range Stepper.load_meant Stepper.parameters_meant Stepper.stop_meant Stepper.own Steps.load_of Steps.storing Steps.loaded Steps.startable
 cause_rows = record { whole = refl; damaged = refl }

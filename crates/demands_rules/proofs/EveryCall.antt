@@ -107,4 +107,4 @@ pub never : Never
 never = Any.never servo AtRest LoadStarts sets_out
 
 pub never_from_setup : NeverFromSetup
-never_from_setup = Any.never-from-setup servo AtRest LoadStarts sets_out
+never_from_setup = Any.never_from_setup servo AtRest LoadStarts sets_out

@@ -230,7 +230,7 @@ module _ (orders : List Byte) (power x : ℕ) where
     small-orders = small (values orders) f.bytes
 
     is_byte : x < 256
-    is_byte = ltb-true x 256 f.small-byte
+    is_byte = ltb-true x 256 f.small_byte
 
     abbrev net : List ℕ
     net = left_by (calls orders) lent

@@ -15,7 +15,7 @@ At = Any.AtOf servo
 
 -- the sample that a tick's list has for a servo at place i
 abbrev pub servo_sample_at : List ℕ → ℕ → Sample
-servo_sample_at = Any.sampleAt servo
+servo_sample_at = Any.sample_at servo
 
 module _ (net : List ℕ) (cs : List Call) (i : ℕ) where
   -- the servo after the first n calls, the frames that it executed, the samples that ticks handed it
@@ -45,7 +45,7 @@ module _ (net : List ℕ) (cs : List Call) (i : ℕ) where
 
 -- what the ticks among calls make of it
 abbrev pub in_time : List ℕ → ℕ → Call → Servo → Servo
-in_time = Any.inTime servo
+in_time = Any.in_time servo
 
 abbrev pub through_time : List ℕ → ℕ → List Call → Servo → Servo
-through_time = Any.throughTime servo
+through_time = Any.through_time servo

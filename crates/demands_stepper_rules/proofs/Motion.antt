@@ -54,7 +54,7 @@ pub never : Never
 never = Any.never stepper Rests Starts sets_out
 
 pub never_from_setup : NeverFromSetup
-never_from_setup = Any.never-from-setup stepper Rests Starts sets_out
+never_from_setup = Any.never_from_setup stepper Rests Starts sets_out
 
 pub never_in_buffers : NeverInBuffers
 never_in_buffers = never_of_any_type stepper Rests Starts sets_out

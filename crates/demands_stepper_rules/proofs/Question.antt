@@ -64,23 +64,23 @@ loads = record {
 }
 
 pub missed_tells : MissedTells
-missed_tells = Any.missed-tells stepper needed NoneReady NoLoad loads
+missed_tells = Any.missed_tells stepper needed NoneReady NoLoad loads
 
 pub question : Question
 question = Any.question stepper needed NoneReady NoLoad loads
 
 pub question_on_the_line : QuestionOnTheLine
-question_on_the_line = Line.question-on-the-line stepper needed NoneReady NoLoad loads
+question_on_the_line = Line.question_on_the_line stepper needed NoneReady NoLoad loads
 
 pub question_in_buffers : QuestionInBuffers
 question_in_buffers = question_of_any_type stepper needed NoneReady NoLoad loads
 
 pub question_in_time : QuestionInTime
-question_in_time = Time.question-in-time stepper needed NoneReady NoLoad loads
+question_in_time = Time.question_in_time stepper needed NoneReady NoLoad loads
 
 pub twice : Twice
 unfolding start
 twice m f g alone apart s t =
     let k : Stepper = execute f alone m in
     let (l, e) = begins f alone m s in
-    Any.start-refused stepper needed NoneReady NoLoad loads k k g apart (λ c. refl) (inl (ap (λ (k : Stepper). k.load.waits) e)) t
+    Any.start_refused stepper needed NoneReady NoLoad loads k k g apart (λ c. refl) (inl (ap (λ (k : Stepper). k.load.waits) e)) t

@@ -80,4 +80,4 @@ cause_bit_lem c = go (eqb c 0) refl
     go false e = record { set = λ n. refl; clear = λ z. absurd (eqb-false c 0 e z); others = one_bit }
 
 pub status_first : StatusFirst
-status_first f m e = rw (Every.status-first inout f m e) (cause_bit_lem m.station.cause)
+status_first f m e = rw (Every.status_first inout f m e) (cause_bit_lem m.station.cause)

@@ -153,7 +153,7 @@ none = record { inputs = refl; ad1 = refl; ad2 = refl; ad3 = refl; counter = ref
 
 pub powers_up : PowersUp
 powers_up = record {
-  station = Every.powers-up;
+  station = Every.powers_up;
   latched = none;
   inputs = λ k l. all_ones 12 k l;
   direction = refl;

@@ -74,7 +74,7 @@ abbrev pub request : Frame → Bool → Any.Request Command
 request = Any.request inout
 
 abbrev pub with_cause : ℕ → Io → Io
-with_cause = Any.withCause inout
+with_cause = Any.with_cause inout
 
 abbrev pub execute : Frame → Bool → Io → Io
 execute = Any.execute inout

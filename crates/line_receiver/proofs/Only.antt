@@ -58,9 +58,9 @@ sent_more b bs ds a c m f s =
     record {
       xs = x ∷ s.xs;
       unmarked = (both_false m b.mark s.unmarked).0;
-      bytes_are = rw (s.bytes-are, j, clean-byte b x refl (both_false m b.mark s.unmarked).1);
+      bytes_are = rw (s.bytes_are, j, clean-byte b x refl (both_false m b.mark s.unmarked).1);
       frame_is = rw j at s.frame_is;
-      count_is = rw j at s.count-is;
+      count_is = rw j at s.count_is;
     }
 
 sent : (bs : List Byte) (ds : List ℕ) (a c : ℕ) (m : Bool) (f : Frame) (r : Receiver) → length ds ≤ c / 16 → c / 16 ≤ 15
@@ -100,10 +100,10 @@ opened-only (a ∷ c ∷ bs) f r h e u =
     let y : ℕ = c.value in
     let s : Sent bs [] x y (a.mark || c.mark) f =
     sent bs [] x y (a.mark || c.mark) f r (omega arith) (omega (arith, h.1.0)) (sym (begins a c bs) ∙ e) u in
-    let w : y % 16 + 16 * length s.xs ≡ y = omega (arith, s.count-is) in
+    let w : y % 16 + 16 * length s.xs ≡ y = omega (arith, s.count_is) in
     let ca : a ≡ record { value = x; mark = false } = clean-byte a x refl (both_false a.mark c.mark s.unmarked).0 in
     let cb : c ≡ record { value = y; mark = false } = clean-byte c y refl (both_false a.mark c.mark s.unmarked).1 in
-    rw (s.frame_is, w, ← s.bytes-are) (ap₂ (λ (a c : Byte). header ∷ a ∷ c ∷ bs) ca cb)
+    rw (s.frame_is, w, ← s.bytes_are) (ap₂ (λ (a c : Byte). header ∷ a ∷ c ∷ bs) ca cb)
 
 pub only : Only
 unfolding reads

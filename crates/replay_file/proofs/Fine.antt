@@ -193,12 +193,12 @@ module _ (at : Place) (types samples net : List ℕ) (h : Held at types samples 
     fine-other k l =
         by_cond (Fine at types samples net size) (eqb k 1) _ _ (λ q. fine-byte (get_or body 0 0) (get_or body 1 0) (b 1))
         (λ q. by_cond (Fine at types samples net size) (eqb k 2) _ _
-        (λ q. let two = rw (eqb-true k 2 q) at l in fine-sample Servos.typeNumber (omega arith) (omega arith) (omega arith))
+        (λ q. let two = rw (eqb-true k 2 q) at l in fine-sample Servos.type_number (omega arith) (omega arith) (omega arith))
         (λ q. by_cond (Fine at types samples net size) (eqb k 3) _ _
-        (λ q. let three = rw (eqb-true k 3 q) at l in fine-sample Inouts.typeNumber (omega arith) (omega arith) (omega arith))
+        (λ q. let three = rw (eqb-true k 3 q) at l in fine-sample Inouts.type_number (omega arith) (omega arith) (omega arith))
         (λ q. by_cond (Fine at types samples net size) (eqb k 4) _ _ (λ q. fine-tick)
         (λ q. by_cond (Fine at types samples net size) (eqb k 5) _ bad
-        (λ q. let five = rw (eqb-true k 5 q) at l in fine-sample Steppers.typeNumber (omega arith) (omega arith) (omega arith)) (λ q. fine_bad)))))
+        (λ q. let five = rw (eqb-true k 5 q) at l in fine-sample Steppers.type_number (omega arith) (omega arith) (omega arith)) (λ q. fine_bad)))))
 
 -- before the first byte nothing is gathered
 pub begun : (types samples net : List ℕ) → Lent types samples net → Held start types samples net

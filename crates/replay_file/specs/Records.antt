@@ -70,10 +70,10 @@ sample_record t n list body =
 unfoldable pub net_record : ℕ → Net Module → List ℕ → List ℕ → Effect
 net_record k n list body =
     cond (eqb k 1) (line_byte n list (get_or body 0 0) (get_or body 1 0))
-    (cond (eqb k 2) (sample_record Servos.typeNumber n list body)
-    (cond (eqb k 3) (sample_record Inouts.typeNumber n list body)
+    (cond (eqb k 2) (sample_record Servos.type_number n list body)
+    (cond (eqb k 3) (sample_record Inouts.type_number n list body)
     (cond (eqb k 4) (goes (running (tick_step (samples_for n list) n) list) [])
-    (cond (eqb k 5) (sample_record Steppers.typeNumber n list body)
+    (cond (eqb k 5) (sample_record Steppers.type_number n list body)
     bad))))
 
 -- 01 Replay file: the network and the list that a record works on: none before any module, and newly set up when the last module is in.

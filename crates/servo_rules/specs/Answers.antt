@@ -124,7 +124,7 @@ abbrev pub request : Frame → Bool → Any.Request Order
 request = Any.request servo
 
 abbrev pub with_cause : ℕ → Servo → Servo
-with_cause = Any.withCause servo
+with_cause = Any.with_cause servo
 
 abbrev pub execute : Frame → Bool → Servo → Servo
 execute = Any.execute servo

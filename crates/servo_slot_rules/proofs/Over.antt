@@ -71,7 +71,7 @@ module _ (s : List ℕ) (h : servo_size ≤ length s) (bytes : Bytes s) (ok : ok
   put_over : (n : Servo) (put : List ℕ → List ℕ) → ((t : List ℕ) → put (encode_of (decode_of s) ++ t) ≡ encode_of n ++ t)
       → pasted 0 (encode_of n) s ≡ put s
   unfolding encode_of decode_of ok_of
-  put_over = Slotting.put-over slot s h bytes ok
+  put_over = Slotting.put_over slot s h bytes ok
 
   pub station_over : (x : Station) → pasted 0 (encode_of (with_station x (decode_of s))) s ≡ pasted station_at (station.codec.enc x) s
   unfolding encode_of

@@ -197,8 +197,8 @@ item_bits b = (shown_items b, items_shown b)
 
 pub told : Told
 told m = record {
-  moving = λ h. ap (λ (t : Bool). Bits.bit 0 (bit (not t) + Report.causeBit m.station.cause)) (ne_eqb m.motion.speed 0 (λ e. omega arith)) ∙ low true (eqb m.station.cause 0);
-  still = λ e. ap (λ (t : Bool). Bits.bit 0 (bit (not t) + Report.causeBit m.station.cause)) (eq-eqb m.motion.speed 0 e) ∙ low false (eqb m.station.cause 0);
+  moving = λ h. ap (λ (t : Bool). Bits.bit 0 (bit (not t) + Report.cause_bit m.station.cause)) (ne_eqb m.motion.speed 0 (λ e. omega arith)) ∙ low true (eqb m.station.cause 0);
+  still = λ e. ap (λ (t : Bool). Bits.bit 0 (bit (not t) + Report.cause_bit m.station.cause)) (eq-eqb m.motion.speed 0 e) ∙ low false (eqb m.station.cause 0);
   fine = λ e. ap (λ (t : Bool). Bits.bit 1 (bit (is_moving m.motion) + cond t 0 2)) (eq-eqb m.station.cause 0 e) ∙ high (is_moving m.motion) true;
   faulty = λ n. ap (λ (t : Bool). Bits.bit 1 (bit (is_moving m.motion) + cond t 0 2)) (ne_eqb m.station.cause 0 n) ∙ high (is_moving m.motion) false;
   others = small (is_moving m.motion) (eqb m.station.cause 0);
@@ -228,7 +228,7 @@ told m = record {
 
 pub powers_up : PowersUp
 powers_up = record {
-  station = Every.powers-up;
+  station = Every.powers_up;
   amplifier = refl;
   minimum = refl;
   place = refl;

@@ -62,7 +62,7 @@ abbrev pub request : Frame → Bool → Any.Request Order
 request = Any.request stepper
 
 abbrev pub with_cause : ℕ → Stepper → Stepper
-with_cause = Any.withCause stepper
+with_cause = Any.with_cause stepper
 
 abbrev pub execute : Frame → Bool → Stepper → Stepper
 execute = Any.execute stepper

@@ -12,7 +12,7 @@ same : (t : ModuleType) → Any.Renumbered (rules_of t)
 same t = Every.renumbered (rules_of t) (owes t).apart (owes t).unseen
 
 -- a tick with a sample of the module's own type, or with none
-given-same : (t : ModuleType) (o : Option (SampleOf t)) (m : Of t) → given t o (Any.asOlder (rules_of t) m) ≡ Any.asOlder (rules_of t) (given t o m)
+given-same : (t : ModuleType) (o : Option (SampleOf t)) (m : Of t) → given t o (Any.as_older (rules_of t) m) ≡ Any.as_older (rules_of t) (given t o m)
 given-same t none m = refl
 given-same t (some x) m = (same t).along.tick x m
 

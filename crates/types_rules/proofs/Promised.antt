@@ -41,12 +41,12 @@ every_type t =
     record {
       cause = Settled.cause (rules_of t) a;
       tested = Settled.cause-tested (rules_of t) a;
-      cause_is = Settled.cause-is (rules_of t) a;
+      cause_is = Settled.cause_is (rules_of t) a;
       address = Settled.address_kept (rules_of t) a;
       resets = Replies.resets (rules_of t) a;
-      status_first = Replies.status-first (rules_of t);
+      status_first = Replies.status_first (rules_of t);
       replied = Replies.replied (rules_of t);
-      read_shown = Replies.read-shown (rules_of t) a;
+      read_shown = Replies.read_shown (rules_of t) a;
       short = Replies.short (rules_of t);
       most = reply_most (rules_of t) (slots_of t) (GoodOf t) (owes t);
       eight = λ m h. ((owes t).outputs m h).0;
@@ -60,6 +60,6 @@ pub every_frame : EveryFrame
 every_frame t = record { stored = Frames.stored (rules_of t) (owes t).apart; counts = Frames.counts (rules_of t) (owes t).apart; powers_up = starts t }
   where
     starts : (t : ModuleType) → AtPowerUp ((rules_of t).station (rules_of t).started)
-    starts servo = Frames.powers-up
-    starts inout = Frames.powers-up
-    starts stepper = Frames.powers-up
+    starts servo = Frames.powers_up
+    starts inout = Frames.powers_up
+    starts stepper = Frames.powers_up

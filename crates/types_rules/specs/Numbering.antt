@@ -6,12 +6,12 @@ use Rattle.types_rules.specs.Table.{rules_of}
 use Rattle.types_rules.specs.Types.{Module, AnySample, kind, outputs}
 
 abbrev pub as_older : Module → Module
-as_older m = (m.0, Any.asOlder (rules_of m.0) m.1)
+as_older m = (m.0, Any.as_older (rules_of m.0) m.1)
 
 abbrev pub older_kind : Kind Module AnySample
 older_kind = record {
   address = kind.address;
-  execute = λ f alone m. (m.0, Any.olderExecute (rules_of m.0) f alone m.1);
+  execute = λ f alone m. (m.0, Any.older_execute (rules_of m.0) f alone m.1);
   reply = kind.reply;
   tick = kind.tick;
 }

@@ -71,7 +71,7 @@ sample_of stepper = StepperSlot.sample
 
 -- the written list that a valid slot of the type satisfies, line by line
 abbrev pub LinesOf : ModuleType → List ℕ → Type 0
-LinesOf servo s = ServoPromises.Lines s (ServoSlot.decodeOf s)
+LinesOf servo s = ServoPromises.Lines s (ServoSlot.decode_of s)
 LinesOf inout s = InoutPromises.Lines s
 LinesOf stepper s = StepperPromises.Lines s
 
