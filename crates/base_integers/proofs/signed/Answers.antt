@@ -3,8 +3,8 @@ use Rattle.std.proofs.Common.{◌≡◌, ℕ, suc, ◌-◌, ◌^◌, ◌<◌, Bo
 use mir.ValLaws.{to_z-of_z, to_z_pos}
 use Rattle.base_integers.specs.Whole.{less, signed}
 use Rattle.base_integers.proofs.Sizes.{abs_signed, fits}
-use Rattle.base_integers.proofs.signed.Statement.{statement}
-use Rattle.base_integers.proofs.signed.Tie as tie
+use Rattle.base_integers.proofs.signed.Goals as goal
+use Rattle.base_integers.proofs.signed.Goals.{After-less}
 
 shifted : (n : ℕ) → n < 2 ^ 32 → pos (less n (2 ^ 31)) -ℤ pos (2 ^ 31) ≡ signed n
 unfolding signed
@@ -20,15 +20,12 @@ shifted n h = at (ltb n (2 ^ 31)) refl
         let m : 2 ^ 32 - n ≡ suc (2 ^ 31 - suc (less n (2 ^ 31))) = omega arith in
         simp (lt-ltb (less n (2 ^ 31)) (2 ^ 31) (omega arith), m)
 
-module _ (c : tie.After-less) where
-  value : to_z w64 c.less.result -ℤ pos (2 ^ 31) ≡ signed c.before.args.n
-  value = rw (to_z_pos w64 c.less.result (omega arith), c.less.ensures) (shifted c.before.args.n (omega arith))
+module _ (c : After-less) where
+  value : to_z w64 c.less.result -ℤ pos (2 ^ 31) ≡ signed c.args.n
+  value = rw (to_z_pos w64 c.less.result (omega arith), c.less.ensures) (shifted c.args.n (omega arith))
 
-sub-result : tie.Need-overflow-sub-result
-sub-result c = rw (value c) (fits _ (omega (arith, abs_signed c.before.args.n (omega arith))))
+pub overflow_sub-result : goal.overflow_sub-result
+overflow_sub-result c = rw (value c) (fits _ (omega (arith, abs_signed c.args.n (omega arith))))
 
-returns : tie.Need-returns
-returns c = to_z-of_z w64 _ (sub-result c) ∙ value c
-
-pub signed-spec : {M : Type 1} → statement M
-signed-spec = tie.close (tie.spec (λ c κs. search rules) (λ c. search rules) sub-result returns)
+pub returns : goal.returns
+returns c = to_z-of_z w64 _ (overflow_sub-result c) ∙ value c
