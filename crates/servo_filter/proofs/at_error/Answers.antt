@@ -12,10 +12,10 @@ use mir.ValLaws.{to_z-of_z}
 use Rattle.base_integers.proofs.Sizes.{abs_add, fits, fits_quot, back}
 use Rattle.servo_filter.specs.Filter.{drive, summed, driven, scaled, limited, filtered}
 use Rattle.servo_filter.proofs.Held.{held_most}
-use Rattle.servo_filter.proofs.at_error.Statement.{statement}
-use Rattle.servo_filter.proofs.at_error.Tie as tie
+use Rattle.servo_filter.proofs.at_error.Goals as goal
+use Rattle.servo_filter.proofs.at_error.Goals.{After-drive-u, After-hold-integral, After-limit, After-scaled, After-size, Else-g-size, Start}
 
-module _ (s : tie.Start) where
+module _ (s : Start) where
   e-is : to_z w64 (of_z w64 s.args.e) ≡ s.args.e
   e-is = to_z-of_z w64 _ s.ranges.e
 
@@ -31,84 +31,58 @@ module _ (s : tie.Start) where
   sum_is : to_z w64 (of_z w64 (s.args.m.integral +ℤ s.args.e)) ≡ s.args.m.integral +ℤ s.args.e
   sum_is = to_z-of_z w64 _ sum_fits
 
-size_is : (c : tie.After-size) → c.size.result ≡ nat_abs c.before.before.args.e
+size_is : (c : After-size) → c.size.result ≡ nat_abs c.args.e
 size_is c = rw (e-is c.before.before) at c.size.ensures
 
 -- within the limit
-e-most : (c : tie.Else1) → nat_abs c.before.before.before.args.e ≤ c.before.before.before.args.g.el
+e-most : (c : Else-g-size) → nat_abs c.args.e ≤ c.args.g.el
 e-most c = omega (arith, size_is c.before)
 
-abbrev start : tie.After-hold → tie.Start
+abbrev start : After-hold-integral → Start
 start c = c.before.before.before.before.before.before
 
 -- the new integral, which the drive takes
-integral-now : (c : tie.After-hold) → to_z w64 (of_z w64 c.hold.result) ≡ summed (start c).args.g (start c).args.m (start c).args.e
+integral-now : (c : After-hold-integral) → to_z w64 (of_z w64 c.hold-integral.result) ≡ summed (start c).args.g (start c).args.m (start c).args.e
 integral-now c =
     let s = start c in
-    to_z-of_z w64 _ (record { sfits = c.hold.type-inv }) ∙ (simp (integral-is s, e-is s, sum_is s) at c.hold.ensures)
+    to_z-of_z w64 _ (record { sfits = c.hold-integral.type_inv }) ∙ (simp (integral-is s, e-is s, sum_is s) at c.hold-integral.ensures)
 
-drive-is : (c : tie.After-drive)
-    → to_z w64 (of_z w64 c.drive.result)
+drive-is : (c : After-drive-u)
+    → to_z w64 (of_z w64 c.drive-u.result)
     ≡ driven (start c.before.before).args.g (start c.before.before).args.m (start c.before.before).args.e
 drive-is c =
     let s = start c.before.before in
-    to_z-of_z w64 _ (record { sfits = c.drive.type-inv })
-    ∙ (simp (e-is s, previous-is s, integral-now c.before.before) at c.drive.ensures)
+    to_z-of_z w64 _ (record { sfits = c.drive-u.type_inv })
+    ∙ (simp (e-is s, previous-is s, integral-now c.before.before) at c.drive-u.ensures)
 
-scaled-is : (c : tie.After-scaled) → to_z w64 (of_z w64 c.scaled.result) ≡ quot_z (to_z w64 (of_z w64 c.before.drive.result)) (pos 256)
-scaled-is c = to_z-of_z w64 _ (record { sfits = c.scaled.type-inv }) ∙ c.scaled.ensures
+scaled-is : (c : After-scaled) → to_z w64 (of_z w64 c.scaled.result) ≡ quot_z (to_z w64 (of_z w64 c.drive-u.result)) (pos 256)
+scaled-is c = to_z-of_z w64 _ (record { sfits = c.scaled.type_inv }) ∙ c.scaled.ensures
 
-size-requires : tie.Need-size-requires
-size-requires c κs = rw (e-is c.before) (omega arith)
+-- the step's answer, and the former integral
+answer-is : (c : After-limit)
+    → let s = start c.before.before.before.before in
+    c.limit.result ≡ limited s.args.g.ol (scaled (driven s.args.g s.args.m s.args.e))
+answer-is c = rw (scaled-is c.before, drive-is c.before.before) at c.limit.ensures
 
-returns : tie.Need-returns
+pub returns-then-g-size : goal.returns-then-g-size
 unfolding filtered
-returns c =
+returns-then-g-size c =
     let s = c.before.before.before in
     let n = size_is c.before in
     rw (lt-leb (nat_abs s.args.e) s.args.g.el (omega arith))
 
-add-sum : tie.Need-overflow-add-sum
-add-sum c = let s = c.before.before.before.before.before in simp (integral-is s, e-is s) (sum_fits s)
-
-drive-requires : tie.Need-drive-requires
-drive-requires c κs =
+pub drive-u-requires : goal.drive-u-requires
+drive-u-requires c =
     let s = start c.before in
     let l = e-most c.before.before.before.before in
     simp (e-is s, previous-is s, integral-now c.before)
     (omega arith, omega arith, omega (arith, held_most s.args.g.il (s.args.m.integral +ℤ s.args.e), s))
 
-scaled-requires : tie.Need-scaled-requires
-scaled-requires c κs =
-    let fit : SFits w64 c.drive.result = record { sfits = c.drive.type-inv } in
-    rw (to_z-of_z w64 _ fit) (fits_quot c.drive.result 256 fit)
-
--- the step's answer, and the former integral
-answer-is : (c : tie.After-limit)
-    → let s = start c.before.before.before.before in
-    c.limit.result ≡ limited s.args.g.ol (scaled (driven s.args.g s.args.m s.args.e))
-answer-is c = rw (scaled-is c.before, drive-is c.before.before) at c.limit.ensures
-
-returns-2 : tie.Need-returns-2
+pub returns : goal.returns
 unfolding filtered
-returns-2 c =
+returns c =
     let a = c.before.before.before.before.before.before in
     let s = start a in
     let l = e-most a.before.before.before in
     rw (le-leb (nat_abs s.args.e) s.args.g.el l)
     (rw (answer-is c.before.before, integral-now a, integral-is s, e-is s) at c.answered.ensures)
-
-pub at-error-spec : {M : Type 1} → statement M
-at-error-spec =
-    tie.close
-    (tie.spec
-    (λ c. search rules)
-    size-requires
-    returns
-    add-sum
-    (λ c κs. search rules)
-    drive-requires
-    scaled-requires
-    (λ c κs. search rules)
-    (λ c κs. search rules)
-    returns-2)

@@ -2,12 +2,8 @@
 use mir.Syntax.{w64}
 use mir.ValLaws.{to_z-of_z}
 use Rattle.servo_motion.specs.Profile.{heads}
-use Rattle.servo_motion.proofs.is_heading.Statement.{statement}
-use Rattle.servo_motion.proofs.is_heading.Tie as tie
+use Rattle.servo_motion.proofs.is_heading.Goals as goal
 
-returns : tie.Need-returns
+pub returns : goal.returns
 unfolding heads
 returns c = rw (to_z-of_z w64 _ c.ranges.d, to_z-of_z w64 _ c.ranges.v)
-
-pub is-heading-spec : {M : Type 1} → statement M
-is-heading-spec = tie.close (tie.spec returns)

@@ -11,8 +11,8 @@ use mir.Syntax.{w64}
 use mir.Val.{to_z, of_z}
 use mir.ValLaws.{to_z-of_z}
 use Rattle.servo_motion.specs.Setpoint.{moved}
-use Rattle.servo_motion.proofs.moved.Statement.{statement}
-use Rattle.servo_motion.proofs.moved.Tie as tie
+use Rattle.servo_motion.proofs.moved.Goals as goal
+use Rattle.servo_motion.proofs.moved.Goals.{After-size-n, Start}
 
 forth : (p : ℕ) (w : ℤ) → le_z (pos 0) w ≡ true → moved p w ≡ (p + nat_abs w) % 2 ^ 48
 unfolding moved
@@ -24,32 +24,20 @@ unfolding moved
 behind p (pos w) e = absurd (true≢false (sym (le-leb 0 w (omega arith)) ∙ e))
 behind p (negsuc w) e = refl
 
-w-is : (s : tie.Start) → to_z w64 (of_z w64 s.args.w) ≡ s.args.w
+w-is : (s : Start) → to_z w64 (of_z w64 s.args.w) ≡ s.args.w
 w-is s = to_z-of_z w64 _ s.ranges.w
 
-size_is : (c : tie.After-size) → c.size.result ≡ nat_abs c.before.args.w
-size_is c = rw (w-is c.before) at c.size.ensures
+size_is : (c : After-size-n) → c.size-n.result ≡ nat_abs c.args.w
+size_is c = rw (w-is c.before) at c.size-n.ensures
 
-size-requires : tie.Need-size-requires
-size-requires c κs = rw (w-is c) (omega arith)
-
-add-result : tie.Need-overflow-add-result
-add-result c = omega (arith, size_is c.before)
-
-sub-result : tie.Need-overflow-sub-result
-sub-result c = omega (arith, size_is c.before)
-
-returns : tie.Need-returns
-returns c =
+pub returns-then-w-ge0 : goal.returns-then-w-ge0
+returns-then-w-ge0 c =
     let s = c.before.before in
-    let t : le_z (pos 0) s.args.w ≡ true = simp (w-is s) at c.if1.true in
+    let t : le_z (pos 0) s.args.w ≡ true = simp (w-is s) at c.if-w-ge0.true in
     rw (size_is c.before) (sym (forth s.args.setpoint s.args.w t))
 
-returns-2 : tie.Need-returns-2
-returns-2 c =
+pub returns-else-w-ge0 : goal.returns-else-w-ge0
+returns-else-w-ge0 c =
     let s = c.before.before in
-    let t : le_z (pos 0) s.args.w ≡ false = simp (w-is s) at c.if1.false in
+    let t : le_z (pos 0) s.args.w ≡ false = simp (w-is s) at c.if-w-ge0.false in
     rw (size_is c.before) (sym (behind s.args.setpoint s.args.w t))
-
-pub moved-spec : {M : Type 1} → statement M
-moved-spec = tie.close (tie.spec size-requires add-result sub-result (λ c. search rules) returns returns-2)

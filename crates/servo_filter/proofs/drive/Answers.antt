@@ -8,10 +8,10 @@ use mir.ValLaws.{to_z-of_z}
 use Rattle.base_integers.proofs.Sizes.{abs_diff, fits}
 use Rattle.servo_filter.specs.Filter.{drive}
 use Rattle.servo_filter.proofs.Sizes.{Bounded, first_two_most, drive_most}
-use Rattle.servo_filter.proofs.drive.Statement.{statement}
-use Rattle.servo_filter.proofs.drive.Tie as tie
+use Rattle.servo_filter.proofs.drive.Goals as goal
+use Rattle.servo_filter.proofs.drive.Goals.{After-times, After-times-2, After-times-3, Start}
 
-module _ (s : tie.Start) where
+module _ (s : Start) where
   e-is : to_z w64 (of_z w64 s.args.e) ≡ s.args.e
   e-is = to_z-of_z w64 _ s.ranges.e
 
@@ -30,36 +30,22 @@ module _ (s : tie.Start) where
   bounded : Bounded s.args.g s.args.e s.args.previous s.args.integral 65535 65535 65535 65535
   bounded = record { kp = omega arith; kd = omega arith; ki = omega arith; error = omega arith; previous = omega arith; integral = omega arith }
 
-p-is : (c : tie.After-times) → to_z w64 (of_z w64 c.times.result) ≡ pos c.before.args.g.kp *ℤ c.before.args.e
-p-is c = to_z-of_z w64 _ (record { sfits = c.times.type-inv }) ∙ (simp (e-is c.before) at c.times.ensures)
+p-is : (c : After-times) → to_z w64 (of_z w64 c.times.result) ≡ pos c.args.g.kp *ℤ c.args.e
+p-is c = to_z-of_z w64 _ (record { sfits = c.times.type_inv }) ∙ (simp (e-is c.before) at c.times.ensures)
 
-d-is : (c : tie.After-times2)
-    → to_z w64 (of_z w64 c.times2.result) ≡ pos c.before.before.args.g.kd *ℤ (c.before.before.args.e -ℤ c.before.before.args.previous)
+d-is : (c : After-times-2)
+    → to_z w64 (of_z w64 c.times-2.result) ≡ pos c.args.g.kd *ℤ (c.args.e -ℤ c.args.previous)
 d-is c =
     let s = c.before.before in
-    to_z-of_z w64 _ (record { sfits = c.times2.type-inv }) ∙ (simp (e-is s, previous-is s, change-is s) at c.times2.ensures)
+    to_z-of_z w64 _ (record { sfits = c.times-2.type_inv }) ∙ (simp (e-is s, previous-is s, change-is s) at c.times-2.ensures)
 
-i-is : (c : tie.After-times3)
-    → to_z w64 (of_z w64 c.times3.result) ≡ pos c.before.before.before.args.g.ki *ℤ c.before.before.before.args.integral
-i-is c = to_z-of_z w64 _ (record { sfits = c.times3.type-inv }) ∙ (simp (integral-is c.before.before.before) at c.times3.ensures)
+i-is : (c : After-times-3)
+    → to_z w64 (of_z w64 c.times-3.result) ≡ pos c.args.g.ki *ℤ c.args.integral
+i-is c = to_z-of_z w64 _ (record { sfits = c.times-3.type_inv }) ∙ (simp (integral-is c.before.before.before) at c.times-3.ensures)
 
-times-requires : tie.Need-times-requires
-times-requires c κs = rw (e-is c) (omega arith)
-
-sub-times : tie.Need-overflow-sub-times
-sub-times c = let s = c.before in simp (e-is s, previous-is s) (change-fits s)
-
-times-requires-2 : tie.Need-times-requires-2
-times-requires-2 c κs =
-    let s = c.before in
-    simp (e-is s, previous-is s, change-is s) (omega (arith, abs_diff s.args.e s.args.previous))
-
-times-requires-3 : tie.Need-times-requires-3
-times-requires-3 c κs = rw (integral-is c.before.before) (omega arith)
-
-total-requires : tie.Need-total-requires
+pub total-requires : goal.total-requires
 unfolding drive
-total-requires c κs =
+total-requires c =
     let s = c.before.before.before in
     let a = s.args in
     simp (p-is c.before.before, d-is c.before, i-is c) (
@@ -67,13 +53,8 @@ total-requires c κs =
       fits _ (omega (arith, drive_most a.g a.e a.previous a.integral 65535 65535 65535 65535 (bounded s))),
     )
 
-returns : tie.Need-returns
+pub returns : goal.returns
 unfolding drive
 returns c =
-    to_z-of_z w64 _ (record { sfits = c.total.type-inv })
+    to_z-of_z w64 _ (record { sfits = c.total.type_inv })
     ∙ (simp (p-is c.before.before.before, d-is c.before.before, i-is c.before) at c.total.ensures)
-
-pub drive-spec : {M : Type 1} → statement M
-drive-spec =
-    tie.close
-    (tie.spec times-requires sub-times times-requires-2 times-requires-3 total-requires returns)
