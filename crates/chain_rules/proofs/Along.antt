@@ -25,11 +25,11 @@ at_most n false w h = omega arith
 module _ {M S : Type 0} (K : Kind M S) (f : Frame) where
   pub length-handed : (t : Bool) (ms : List M) → length (handed K f t ms) ≡ length ms
   length-handed t [] = refl
-  length-handed t (m ∷ ms) = ap suc (length-handed _ ms)
+  length-handed t (m ∷ ms) = ap suc (length-handed (K.address m).low ms)
 
   pub length-said : (t : Bool) (ms : List M) → length (said K f t ms) ≡ length ms
   length-said t [] = refl
-  length-said t (m ∷ ms) = ap suc (length-said _ ms)
+  length-said t (m ∷ ms) = ap suc (length-said (K.address m).low ms)
 
   -- a module's reply is no longer than its type's
   pub replied_short : (n : ℕ) → ((m : M) → length (K.reply f m) ≤ n) → (m : M) → length (replied K f m) ≤ n

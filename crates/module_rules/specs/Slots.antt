@@ -22,8 +22,8 @@ low_at = leader_at + 1
 abbrev pub cause_at : ℕ
 cause_at = low_at + 1
 
-abbrev pub field_own : ℕ
-field_own = station_at + station.codec.size
+abbrev pub own_at : ℕ
+own_at = station_at + station.codec.size
 
 -- 02 P11: the bytes of a sample in the list that a tick takes: the type's number, then what the type measures; the rest is not looked at
 abbrev pub sample_size : ℕ

@@ -19,10 +19,10 @@ loop-rest-init c =
 
 pub returns : goal.returns
 returns c =
-    let b = c.before.before.before.before.before.before.before in
+    let b = c in
     let l = b.loop-rest in
     let a = b.args in
     let e = ends l.i l.rest l.digits (omega arith) l.invariant.3 in
     let n = length-drop l.i l.digits in
     let w : take (20 - l.i) (drop l.i l.digits) ≡ decimal a.n = take_all (20 - l.i) (drop l.i l.digits) (omega arith) ∙ e in
-    record { value = omega (arith, ap length e); out_after = c.put_all.ensures ∙ ap (λ (x : List ℕ). pasted a.at x a.out-1.now) w }
+    record { value = omega (arith, ap length e); out_after = c.put_all.ensures ∙ ap (λ (x : List ℕ). pasted a.at x a.out.now) w }

@@ -38,51 +38,48 @@ size_is c = rw (e-is c.before.before) at c.size.ensures
 e-most : (c : Else-g-size) → nat_abs c.args.e ≤ c.args.g.el
 e-most c = omega (arith, size_is c.before)
 
-abbrev start : After-hold-integral → Start
-start c = c.before.before.before.before.before.before
-
 -- the new integral, which the drive takes
-integral-now : (c : After-hold-integral) → to_z w64 (of_z w64 c.hold-integral.result) ≡ summed (start c).args.g (start c).args.m (start c).args.e
+integral-now : (c : After-hold-integral) → to_z w64 (of_z w64 c.hold-integral.result) ≡ summed c.args.g c.args.m c.args.e
 integral-now c =
-    let s = start c in
+    let s = c.before.before.before.before.before.before.before in
     to_z-of_z w64 _ (record { sfits = c.hold-integral.type_inv }) ∙ (simp (integral-is s, e-is s, sum_is s) at c.hold-integral.ensures)
 
 drive-is : (c : After-drive-u)
     → to_z w64 (of_z w64 c.drive-u.result)
-    ≡ driven (start c.before.before).args.g (start c.before.before).args.m (start c.before.before).args.e
+    ≡ driven c.args.g c.args.m c.args.e
 drive-is c =
-    let s = start c.before.before in
+    let s = c.before.before.before.before.before.before.before.before.before in
     to_z-of_z w64 _ (record { sfits = c.drive-u.type_inv })
-    ∙ (simp (e-is s, previous-is s, integral-now c.before.before) at c.drive-u.ensures)
+    ∙ (simp (e-is s, previous-is s, (let s = c.before.before.before.before.before.before.before.before.before in to_z-of_z w64 _ (record { sfits = c.hold-integral.type_inv }) ∙ (simp (integral-is s, e-is s, sum_is s) at c.hold-integral.ensures))) at c.drive-u.ensures)
 
 scaled-is : (c : After-scaled) → to_z w64 (of_z w64 c.scaled.result) ≡ quot_z (to_z w64 (of_z w64 c.drive-u.result)) (pos 256)
 scaled-is c = to_z-of_z w64 _ (record { sfits = c.scaled.type_inv }) ∙ c.scaled.ensures
 
 -- the step's answer, and the former integral
 answer-is : (c : After-limit)
-    → let s = start c.before.before.before.before in
+    → let s = c.before.before.before.before.before.before.before.before.before.before.before in
     c.limit.result ≡ limited s.args.g.ol (scaled (driven s.args.g s.args.m s.args.e))
-answer-is c = rw (scaled-is c.before, drive-is c.before.before) at c.limit.ensures
+answer-is c = rw ((to_z-of_z w64 _ (record { sfits = c.scaled.type_inv }) ∙ c.scaled.ensures), (let s = c.before.before.before.before.before.before.before.before.before.before.before in to_z-of_z w64 _ (record { sfits = c.drive-u.type_inv }) ∙ (simp (e-is s, previous-is s, (let s = c.before.before.before.before.before.before.before.before.before.before.before in to_z-of_z w64 _ (record { sfits = c.hold-integral.type_inv }) ∙ (simp (integral-is s, e-is s, sum_is s) at c.hold-integral.ensures))) at c.drive-u.ensures))) at c.limit.ensures
 
 pub returns-then-g-size : goal.returns-then-g-size
 unfolding filtered
 returns-then-g-size c =
-    let s = c.before.before.before in
-    let n = size_is c.before in
+    let s = c in
+    let n = size_is (goal.at.returns-then-g-size c).After-size in
     rw (lt-leb (nat_abs s.args.e) s.args.g.el (omega arith))
 
 pub drive-u-requires : goal.drive-u-requires
 drive-u-requires c =
-    let s = start c.before in
-    let l = e-most c.before.before.before.before in
-    simp (e-is s, previous-is s, integral-now c.before)
+    let s = (goal.at.drive-u-requires c).Start in
+    let l = e-most (goal.at.drive-u-requires c).Else-g-size in
+    simp (e-is s, previous-is s, integral-now (goal.at.drive-u-requires c).After-hold-integral)
     (omega arith, omega arith, omega (arith, held_most s.args.g.il (s.args.m.integral +ℤ s.args.e), s))
 
 pub returns : goal.returns
 unfolding filtered
 returns c =
-    let a = c.before.before.before.before.before.before in
-    let s = start a in
-    let l = e-most a.before.before.before in
+    let a = (goal.at.returns c).After-hold-integral in
+    let s = (goal.at.returns c).Start in
+    let l = e-most (goal.at.returns c).Else-g-size in
     rw (le-leb (nat_abs s.args.e) s.args.g.el l)
-    (rw (answer-is c.before.before, integral-now a, integral-is s, e-is s) at c.answered.ensures)
+    (rw (answer-is (goal.at.returns c).After-limit, integral-now a, integral-is s, e-is s) at c.answered.ensures)

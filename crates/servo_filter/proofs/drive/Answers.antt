@@ -16,10 +16,10 @@ module _ (s : Start) where
   e-is = to_z-of_z w64 _ s.ranges.e
 
   previous-is : to_z w64 (of_z w64 s.args.previous) ≡ s.args.previous
-  previous-is = to_z-of_z w64 _ s.fits.previous
+  previous-is = to_z-of_z w64 _ s.ranges.previous
 
   integral-is : to_z w64 (of_z w64 s.args.integral) ≡ s.args.integral
-  integral-is = to_z-of_z w64 _ s.fits.integral
+  integral-is = to_z-of_z w64 _ s.ranges.integral
 
   change-fits : SFits w64 (s.args.e -ℤ s.args.previous)
   change-fits = fits _ (omega (arith, abs_diff s.args.e s.args.previous))
@@ -46,15 +46,12 @@ i-is c = to_z-of_z w64 _ (record { sfits = c.times-3.type_inv }) ∙ (simp (inte
 pub total-requires : goal.total-requires
 unfolding drive
 total-requires c =
-    let s = c.before.before.before in
+    let s = (goal.at.total-requires c).Start in
     let a = s.args in
-    simp (p-is c.before.before, d-is c.before, i-is c) (
-      fits _ (omega (arith, first_two_most a.g a.e a.previous a.integral 65535 65535 65535 65535 (bounded s))),
-      fits _ (omega (arith, drive_most a.g a.e a.previous a.integral 65535 65535 65535 65535 (bounded s))),
-    )
+    simp (p-is (goal.at.total-requires c).After-times, d-is (goal.at.total-requires c).After-times-2, i-is c) record { sfits = fits _ (omega (arith, first_two_most a.g a.e a.previous a.integral 65535 65535 65535 65535 (bounded s))); sfits_2 = fits _ (omega (arith, drive_most a.g a.e a.previous a.integral 65535 65535 65535 65535 (bounded s))) }
 
 pub returns : goal.returns
 unfolding drive
 returns c =
     to_z-of_z w64 _ (record { sfits = c.total.type_inv })
-    ∙ (simp (p-is c.before.before.before, d-is c.before.before, i-is c.before) at c.total.ensures)
+    ∙ (simp (p-is (goal.at.returns c).After-times, d-is (goal.at.returns c).After-times-2, i-is (goal.at.returns c).After-times-3) at c.total.ensures)

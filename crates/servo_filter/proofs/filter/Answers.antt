@@ -15,4 +15,4 @@ e-is c = to_z-of_z w64 _ (record { sfits = c.difference.type_inv }) ∙ c.differ
 
 pub at_error-requires : goal.at_error-requires
 at_error-requires c =
-    (c.requires, rw (e-is c) (omega (arith, abs_difference c.args.setpoint c.args.position)))
+    record { kept = c.requires; e_bound = rw (e-is c) (omega (arith, abs_difference c.args.setpoint c.args.position)) }
