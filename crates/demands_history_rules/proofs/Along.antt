@@ -40,14 +40,14 @@ module _ {M N S T : Type 0} (K : Kind M S) (L : Kind N T) (h : M → N) (a : Lin
     handed-along t (m ∷ ms) =
         ap₂ ◌∷◌
         (ap₂ (λ (w : Address) (x : N). cond (t && named f.address w) x (h m)) (a.address m) (executed-along m) ∙ apart h (t && named f.address (K.address m)) (executed K f m) m)
-        (ap (λ (w : Address). handed L f w.low (map h ms)) (a.address m) ∙ handed-along _ ms)
+        (ap (λ (w : Address). handed L f w.low (map h ms)) (a.address m) ∙ handed-along (K.address m).low ms)
 
     said-along : (t : Bool) (ms : List M) → said L f t (map h ms) ≡ said K f t ms
     said-along t [] = refl
     said-along t (m ∷ ms) =
         ap₂ ◌∷◌
         (ap₂ (λ (w : Address) (r : List ℕ). cond (t && named f.address w) r []) (a.address m) (replied-along m))
-        (ap (λ (w : Address). said L f w.low (map h ms)) (a.address m) ∙ said-along _ ms)
+        (ap (λ (w : Address). said L f w.low (map h ms)) (a.address m) ∙ said-along (K.address m).low ms)
 
   -- what a step comes to with h of each module
   abbrev stepped : Step M → Step N
