@@ -225,8 +225,8 @@ made_still : (net : List ℕ) (c : Call) (i : ℕ) (m k : Servo) → CallStarts 
     → (k.run.profile.speed ≡ pos 0) × (0 < k.run.profile.top)
 made_still net _ i m _ l (same c s q) t = absurd (not_silent net c i m l s)
 made_still net _ i m _ l (timed samples p q) t = absurd l
-made_still net _ i m _ (p, l) (framed mark x room true goes a u) t = let z : true ≡ false = cc in absurd (true≢false z)
-made_still net _ i m _ (p, l) (framed mark x room false goes a u) t = starts_still (frame_in (net_in slots net).receiver false) _ m l.starts t
+made_still net _ i m _ l (framed mark x room true goes a u) t = let z : true ≡ false = cc in absurd (true≢false z)
+made_still net _ i m _ l (framed mark x room false goes a u) t = starts_still (frame_in (net_in slots net).receiver false) _ m l.1.starts t
 
 running_in : (m : Servo) → Fits m → m.run.drive.mode ≡ Trapezoid → Running m.run.profile
 running_in m f e = (subst (λ (d : Mode). InMode d m.latched.power m.run) e (good m f).sane.mode).2
