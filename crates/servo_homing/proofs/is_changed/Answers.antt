@@ -7,10 +7,10 @@ use borrow.Author.Rules.{rules}
 use Rattle.servo_homing.proofs.is_changed.Goals as goal
 
 pub returns-then-before-inputs : goal.returns-then-before-inputs
-returns-then-before-inputs c = let a = c.args in sym (unchanged_same a.byte a a.inputs c.if-before-inputs.true)
+returns-then-before-inputs c = let a = c.args in sym (unchanged_same a.byte a.before a.inputs c.if-before-inputs.true)
 
 pub returns : goal.returns
 unfolding changed
 returns c =
     let a = c.args in
-    rw (c.is_set-2.ensures, c.is_set.ensures, div-one a, div-one a.inputs)
+    rw (c.is_set-2.ensures, c.is_set.ensures, div-one a.before, div-one a.inputs)

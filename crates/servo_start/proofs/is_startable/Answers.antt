@@ -1,0 +1,8 @@
+-- `servo_start::is_startable` meets its contract. Assumes nothing.
+use Rattle.servo_rules.specs.Loads.{startable}
+use borrow.Author.Rules.{rules}
+use Rattle.servo_start.proofs.is_startable.Goals as goal
+
+pub returns : goal.returns
+unfolding startable
+returns c = rw (c.is_ready.ensures, c.is_complete.ensures)

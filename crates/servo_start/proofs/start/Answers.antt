@@ -1,0 +1,8 @@
+-- `servo_start::start` meets its contract. Assumes nothing.
+use Rattle.servo_rules.specs.Loads.{start}
+use borrow.Author.Rules.{rules}
+use Rattle.servo_start.proofs.start.Goals as goal
+
+pub returns : goal.returns
+unfolding start
+returns c = rw (c.dropped-m.ensures, c.started_by-m.ensures, c.position-here.ensures)
