@@ -22,7 +22,7 @@ pub can-requires : goal.can-requires
 can-requires c = ranged c
 
 pub perform-after-requires : goal.perform-after-requires
-perform-after-requires c = ranged c
+perform-after-requires c = ranged (goal.at.perform-after-requires c).After-decode-before
 
 pub returns-else-can : goal.returns-else-can
 unfolding decode_of

@@ -12,7 +12,7 @@ unfolding decode_of
 put_reply-requires c =
     let k = c in
     let a = k in
-    (rw c.run_in-run.ensures (steady_in a.args.s.now (λ i. omega (arith, k.type_inv.s i)) a.requires.1).profile, a.requires.2)
+    record { ranged = rw c.run_in-run.ensures (steady_in a.args.s.now (λ i. omega (arith, k.type_inv.s i)) a.requires.1).profile; reply_size_in_bounds = a.requires.2 }
 
 pub returns : goal.returns
 returns c =
