@@ -32,7 +32,7 @@ loop-i-preserved c =
     let l = c.loop-i in
     let s = c in
     let p = c.put_byte-at in
-    show_turn s.args.records.now s.args.room.now l.column l.at l.i l.room (omega arith) l.invariant s.requires.1 p.result p.new.0 p.ensures.0 (omega (arith, p.auto)) p.ensures.1
+    show_turn s.args.records.now s.args.room.now l.column l.at l.i l.room (omega arith) l.invariant s.requires.1 p.result p.new.room p.ensures.value (omega (arith, p.auto)) p.ensures.room_after
 
 pub put_closing-requires : goal.put_closing-requires
 put_closing-requires c =
@@ -45,4 +45,4 @@ returns c =
     let l = c.loop-i in
     let s = c in
     let p = c.put_closing in
-    show_end s.args.records.now s.args.room.now l.column l.at l.i l.room (omega arith) l.invariant p.new.0 p.ensures.1
+    show_end s.args.records.now s.args.room.now l.column l.at l.i l.room (omega arith) l.invariant p.new.room p.ensures.room_after
