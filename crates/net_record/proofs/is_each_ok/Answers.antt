@@ -13,7 +13,7 @@ use Rattle.module_rules.specs.Slots.{slot_size}
 use Rattle.net_record.proofs.is_each_ok.Goals as goal
 use Rattle.net_record.proofs.is_each_ok.Goals.{After-is_ok}
 
-turned : (c : After-is_ok invariant-loop decreases-loop)
+turned : (c : After-is_ok)
     → (c.is_ok.result && ok_slots slots (c.loop-left.left - 1) (drop (c.loop-left.at + slot_size) c.args.net.now))
     ≡ ok_slots slots c.args.n (drop slots_at c.args.net.now)
 turned c =
@@ -21,10 +21,10 @@ turned c =
     slots_turn slots l.left l.at c.args.net.now (omega arith) c.is_ok.ensures ∙ l.invariant.1
 
 pub returns-then-not-is_ok : goal.returns-then-not-is_ok
-returns-then-not-is_ok c = rw c.if-not-is_ok.true at (turned c)
+returns-then-not-is_ok c = rw c.if-not-is_ok.true at (turned (goal.at.returns-then-not-is_ok c).After-is_ok)
 
 pub loop-left-preserved : goal.loop-left-preserved
-loop-left-preserved c = (omega arith, rw c.if-not-is_ok.false at (turned c))
+loop-left-preserved c = (omega arith, rw c.if-not-is_ok.false at (turned (goal.at.loop-left-preserved c).After-is_ok))
 
 pub returns : goal.returns
 returns c =

@@ -12,7 +12,7 @@ use Rattle.net_rules.proofs.Listed.{range_turn, range_done}
 use Rattle.net_record.proofs.is_in_range.Goals as goal
 use Rattle.net_record.proofs.is_in_range.Goals.{After-is_sample_ok}
 
-turned : (c : After-is_sample_ok invariant-loop decreases-loop)
+turned : (c : After-is_sample_ok)
     → (c.is_sample_ok.result && all_in_range (c.loop-left.left - 1) (drop (c.loop-left.from + sample_size) c.args.samples.now))
     ≡ all_in_range c.args.n c.args.samples.now
 turned c =
@@ -20,10 +20,10 @@ turned c =
     range_turn l.left l.from c.args.samples.now (omega arith) c.is_sample_ok.ensures ∙ l.invariant.1
 
 pub returns-then-not-is_sample_ok : goal.returns-then-not-is_sample_ok
-returns-then-not-is_sample_ok c = rw c.if-not-is_sample_ok.true at (turned c)
+returns-then-not-is_sample_ok c = rw c.if-not-is_sample_ok.true at (turned (goal.at.returns-then-not-is_sample_ok c).After-is_sample_ok)
 
 pub loop-left-preserved : goal.loop-left-preserved
-loop-left-preserved c = (omega arith, rw c.if-not-is_sample_ok.false at (turned c))
+loop-left-preserved c = (omega arith, rw c.if-not-is_sample_ok.false at (turned (goal.at.loop-left-preserved c).After-is_sample_ok))
 
 pub returns : goal.returns
 returns c =

@@ -28,7 +28,7 @@ pub outputs-requires : goal.outputs-requires
 outputs-requires c =
     let s = (goal.at.outputs-requires c).Start in
     let n : slots_at + slot_size * s.args.place + slot_size - (slots_at + slot_size * s.args.place) ≡ slot_size = omega arith in
-    (search rules, rw n (within s).well-formed)
+    (search rules, rw n (within s).good)
 
 pub returns : goal.returns
 returns c = let s = (goal.at.returns c).Start in outputs_is s.args.net.now (λ i. omega (arith, c.type_inv.net i)) s.requires.0 s.args.place (within s).below c.outputs.ensures

@@ -16,7 +16,7 @@ use Rattle.module_rules.specs.Owes.{reply_size}
 use Rattle.replay_print.proofs.put_replies.Goals as goal
 use Rattle.replay_print.proofs.put_replies.Goals.{After-slice_known-in-loop-left-1}
 
-turned : (c : After-slice_known-in-loop-left-1 invariant-loop decreases-loop)
+turned : (c : After-slice_known-in-loop-left-1)
     → Turn c.args.lengths c.args.room.now c.requires.by_index c.loop-left.left c.loop-left.place c.loop-left.at c.loop-left.wrote c.put_reply-wrote.result c.loop-left.out c.put_reply-wrote.new.out
 turned c =
     let l = c.loop-left in
