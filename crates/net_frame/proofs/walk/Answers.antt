@@ -25,7 +25,7 @@ use Rattle.net_frame.proofs.walk.Goals as goal
 use Rattle.net_frame.proofs.walk.Goals.{After-take_turn-t}
 
 -- what a turn hands back
-module _ (c : After-take_turn-t invariant-loop decreases-loop) where
+module _ (c : After-take_turn-t) where
   said_is : c.take_turn-t.result.said ≡ length (words_at kind slots (frame_of c.args.f c.args.ds.now) c.loop-left.enabled c.loop-left.at c.loop-left.net)
   unfolding turn_of
   said_is = ap (λ (t : Turn). t.said) c.take_turn-t.ensures.value
@@ -40,15 +40,15 @@ pub take_turn-t-requires : goal.take_turn-t-requires
 take_turn-t-requires c = let l = c.loop-left in (omega arith, omega arith, turn_ok lawful l.left l.at l.net (omega arith) l.invariant.9)
 
 pub overflow_cast-lengths : goal.overflow_cast-lengths
-overflow_cast-lengths c = let z = said-small c in omega arith
+overflow_cast-lengths c = let z = said-small (goal.at.overflow_cast-lengths c).After-take_turn-t in omega arith
 
 pub overflow_add-written : goal.overflow_add-written
-overflow_add-written c = let z = said-small c in omega (arith, c.loop-left.invariant)
+overflow_add-written c = let z = said-small (goal.at.overflow_add-written c).After-take_turn-t in omega (arith, c.loop-left.invariant)
 
 pub loop-left-preserved : goal.loop-left-preserved
 unfolding turn_of
 loop-left-preserved c =
-    let h = c in
+    let h = (goal.at.loop-left-preserved c).After-take_turn-t in
     let l = h.loop-left in
     let a = h.args in
     let f = frame_of a.f a.ds.now in
@@ -61,11 +61,11 @@ loop-left-preserved c =
       omega arith,
       omega arith,
       omega arith,
-      rw (e.value, e.net_after.0) (r.net-1 ∙ l.invariant.5),
-      rw (e.value, e.net_after.0, e.net_after.1) (r.said ∙ l.invariant.6),
-      rw (e.value, e.net_after.0) (r.total ∙ l.invariant.7),
-      rw (e.value, e.net_after.0) (r.each ∙ l.invariant.8),
-      rw e.net_after.0 (ahead_ok lawful l.left l.at l.net (turned kind slots f l.enabled l.at l.net) (omega arith) (turned-after kind lawful f l.enabled l.at l.net (omega arith)) l.invariant.9),
+      rw (e.value, e.net_after) (r.net ∙ l.invariant.5),
+      rw (e.value, e.net_after, e.room_after) (r.said ∙ l.invariant.6),
+      rw (e.value, e.net_after) (r.total ∙ l.invariant.7),
+      rw (e.value, e.net_after) (r.each ∙ l.invariant.8),
+      rw e.net_after (ahead_ok lawful l.left l.at l.net (turned kind slots f l.enabled l.at l.net) (omega arith) (turned-after kind lawful f l.enabled l.at l.net (omega arith)) l.invariant.9),
     )
 
 pub returns : goal.returns
@@ -74,4 +74,4 @@ returns c =
     let l = c.loop-left in
     let a = c.args in
     let d = done (frame_of a.f a.ds.now) l.enabled l.left l.at l.place l.written l.net l.room l.lengths (omega arith) l.invariant.5 l.invariant.6 l.invariant.7 l.invariant.8 in
-    (ap₂ (λ (w : ℕ) (k : List ℕ). record { written = w; lengths = k }) d.2 d.3, (d.0, d.1))
+    record { value = ap₂ (λ (w : ℕ) (k : List ℕ). record { written = w; lengths = k }) d.2 d.3; net_after = d.0; room_after = d.1 }
