@@ -16,7 +16,7 @@ returns c =
     let l = c.loop-i in
     let a = c.args in
     let reply = a.reply.now in
-    let z : drop l.i a.t2 ≡ [] = drop_of_length-le a.t2 {i = l.i} (omega arith) in
+    let z : drop l.i a.sizes ≡ [] = drop_of_length-le a.sizes {i = l.i} (omega arith) in
     let f : take l.i l.numbers ≡ l.numbers = take_all l.i l.numbers (omega arith) in
-    let n : l.numbers ≡ numbers_in a.items a.t2 (drop 1 reply) = sym (append-nil l.numbers) ∙ rw (f, z) at l.invariant.4 in
+    let n : l.numbers ≡ numbers_in a.items a.sizes (drop 1 reply) = sym (append-nil l.numbers) ∙ rw (f, z) at l.invariant.4 in
     rw n

@@ -23,7 +23,7 @@ unfolding receiver_in
 answered-called-requires c =
     let s = (goal.at.answered-called-requires c).Start in
     let w = known s in
-    ((w.size, w.most, s.requires.1, ap (λ (r : Receiver). length r.bytes) c.receiver_in-r.ensures), w.slots)
+    record { net_len = (w.size, w.most, s.requires.1, ap (λ (r : Receiver). length r.bytes) c.receiver_in-r.ensures); net_value = w.slots }
 
 pub put_receiver-requires : goal.put_receiver-requires
 put_receiver-requires c = omega (arith, known (goal.at.put_receiver-requires c).Start)

@@ -37,7 +37,7 @@ hand_on-called-requires c =
     let a = c in
     let m = onto a.args.values.now a.args.marks.now l.i (omega arith) a.requires.1 l.invariant.1 in
     let w = valid_is slots l.net m.valid in
-    ((w.size, w.most, room_enough m c.take-got.ensures c.in-Ended.is, m.sound.long), w.slots)
+    record { net_len = (w.size, w.most, room_enough m c.take-got.ensures c.in-Ended.is, m.sound.long); net_value = w.slots }
 
 pub overflow_add-written : goal.overflow_add-written
 overflow_add-written c =

@@ -14,4 +14,4 @@ pub returns : goal.returns
 returns c =
     let a = c.args in
     let e = c.walk-w.ensures in
-    (handed_on (frame_in a.r a.damaged) (get_or a.net.now count_at 0) a.net.now c.ended_number.ensures e.value, (e.net_after, e.room_after))
+    record { value = handed_on (frame_in a.r a.damaged) (get_or a.net.now count_at 0) a.net.now c.ended_number.ensures e.value; net_after = e.net_after; room_after = e.room_after }
