@@ -5,24 +5,11 @@ use lib.ListN.{take, drop, length-drop}
 use lib.Seq.{take-length}
 use Rattle.replay_file.proofs.Measured.{ten_put}
 use borrow.Author.Rules.{rules}
-use Rattle.replay_feed.proofs.measured.Statement.{statement}
-use Rattle.replay_feed.proofs.measured.Tie as tie
+use Rattle.replay_feed.proofs.measured.Goals as goal
 
-returns : tie.Need-returns
+pub returns : goal.returns
 returns c =
-    let s = c.before.before.before.before.before in
+    let s = c in
     let body = s.args.body.now in
     ten_put s.args.t body _ s.requires.1 s.requires.0 (ap (λ (n : ℕ). take n (drop 1 body)) (sym (length-drop 1 body)) ∙ take-length (drop 1 body))
-    c.before.put_all.ensures
-
-pub measured-spec : {M : Type 1} → statement M
-measured-spec =
-    tie.close
-    (tie.spec
-    (λ c. search rules)
-    (λ c. search rules)
-    (λ c. search rules)
-    (λ c. search rules)
-    (λ c. search rules)
-    (λ c κs. search rules)
-    returns)
+    c.put_all.ensures
