@@ -59,9 +59,7 @@ returns-in-1 c =
     let mark : ℕ = get_or a.body.now 0 0 in
     let value : ℕ = get_or a.body.now 1 0 in
     let k = byte_alike n mark value (take (10 * a.at.count) a.samples.now) 3 a.at a.net.now in
-    rw c.in-1.is record { value = e.value ∙ k.turned; samples_after = sym (byte_samples n mark value (10 * a.at.count) a.samples.now (within s)); net_after = (
-        (e.net_after ∙ k.left, e.out_after ∙ ap (λ (x : List ℕ). pasted 0 x a.out.now) k.text),
-      ) }
+    rw c.in-1.is (record { value = e.value ∙ k.turned; samples_after = sym (byte_samples n mark value (10 * a.at.count) a.samples.now (within s)); net_after = e.net_after ∙ k.left; out_after = e.out_after ∙ ap (λ (x : List ℕ). pasted 0 x a.out.now) k.text })
 
 pub returns-in-2 : goal.returns-in-2
 unfolding net_record body_length
@@ -93,7 +91,7 @@ returns-in-4 c =
     let s = (goal.at.returns-in-4 c).Start in
     let a = s.args in
     let e = c.take_tick.ensures in
-    rw c.in-4.is record { value = e.value; samples_after = sym (list_same (10 * a.at.count) a.samples.now (within s)); net_after = e.net_after; out_after = sym (pasted_none 0 a.out.now) }
+    rw c.in-4.is (record { value = e.value; samples_after = sym (list_same (10 * a.at.count) a.samples.now (within s)); net_after = e.net_after; out_after = sym (pasted_none 0 a.out.now) })
 
 pub returns-in-5 : goal.returns-in-5
 unfolding net_record body_length
