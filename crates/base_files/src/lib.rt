@@ -11,6 +11,9 @@ use std::{fs, io, str};
 // The longest name that the system takes, with the 0 behind it.
 const NAME_ROOM: usize = 4096;
 
+// Room for an error's text: std's words have at most 256 bytes, and the number stands behind them.
+const TEXT_ROOM: usize = 300;
+
 // Linux's numbers for an argument that is not there, and for one that is too long.
 const EINVAL: i32 = 22;
 
@@ -74,7 +77,7 @@ fn words(text: &str) -> &str {
 
 // Writes a line to standard error: what failed, a colon and why.
 pub fn fail(rt: &impl Eprint, what: &str, error: io::Error) {
-    let mut text = ArrayString::<300>::new();
+    let mut text = ArrayString::<TEXT_ROOM>::new();
     let _ = write!(text, "{error}");
     let _ = eprintln!(rt; "{what}: {}", words(text.as_str()));
 }
