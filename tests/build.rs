@@ -1,4 +1,4 @@
-//! Links the proved archive. `DOLJURVEN_LIB` names another one than the one that `rt staticlib doljurven` writes.
+//! Links the proved archive. `DOLJURVEN_LIB` names another one than the one that `tools/build doljurven` writes.
 
 use std::{env, path::PathBuf};
 
@@ -11,7 +11,7 @@ fn main() {
     };
     let archive = archive
         .canonicalize()
-        .unwrap_or_else(|_| panic!("{} is not there: run `rt staticlib doljurven` first", archive.display()));
+        .unwrap_or_else(|_| panic!("{} is not there: run `tools/build doljurven` first", archive.display()));
     println!("cargo:rerun-if-changed={}", archive.display());
     println!("cargo:rustc-link-search=native={}", archive.parent().unwrap().display());
     println!("cargo:rustc-link-lib=static=doljurven");

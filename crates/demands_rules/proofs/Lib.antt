@@ -22,6 +22,7 @@ pub mod Buffers
 pub mod Dipping
 pub mod HomingRun
 pub mod Winding
+mod Histories
 pub mod Alive
 pub mod Sheet
 pub mod Racing

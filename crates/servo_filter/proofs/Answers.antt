@@ -12,34 +12,12 @@ use Rattle.servo_filter.specs.declared.Memory.{Memory}
 use Rattle.servo_filter.specs.Filter.{Kept, held, drive, scaled, driven, summed, output, limited, answered, filtered, Told, told, Tick, told_at, after}
 use Rattle.servo_filter.specs.Promises.{Trips, Works, base, AsTheBase, OnlyTheIntegral, AllCut, WindsUpNoMore, wound_by, Pushed, Lowered, Within, Keeps}
 use Rattle.servo_filter.proofs.Held.{held_most}
-use Rattle.servo_filter.proofs.Limiting.{Lies, inside, above, below, lies}
+use Rattle.servo_filter.proofs.Limiting.{lies}
+use Rattle.servo_filter.proofs.Telling.{said, plain-told, cut-told, answer_within}
 
 pub trips : Trips
 unfolding filtered
 trips g m e h = rw (lt-leb (nat_abs e) g.el h) refl
-
--- the answer to an error within EL
-module _ (g : Gains) (m : Memory) (e : ℤ) where
-  abbrev z : ℤ
-  z = scaled (driven g m e)
-
-  -- what is told of it, with this integral
-  abbrev said : ℤ → Bool → Told
-  said integral cut = record { trips = false; memory = record { integral = integral; previous = e }; output = output g.ol (driven g m e); cut = cut }
-
-  plain-told : Lies g.ol z → nat_abs z ≤ g.ol → told (answered (limited g.ol z) (summed g m e) m.integral e) ≡ said (summed g m e) false
-  plain-told (inside h k q) l = rw (q, k) refl
-  plain-told (above h s k q) l = absurd (omega arith)
-  plain-told (below h s k q) l = absurd (omega arith)
-
-  cut-told : Lies g.ol z → g.ol < nat_abs z → told (answered (limited g.ol z) (summed g m e) m.integral e) ≡ said m.integral true
-  cut-told (inside h k q) l = absurd (omega arith)
-  cut-told (above h s k q) l = rw (q, k) refl
-  cut-told (below h s k q) l = rw (q, k) refl
-
-  answer_within : nat_abs e ≤ g.el → filtered g m e ≡ answered (limited g.ol z) (summed g m e) m.integral e
-  unfolding filtered
-  answer_within h = rw (le-leb (nat_abs e) g.el h) refl
 
 pub works : Works
 works g m e h =

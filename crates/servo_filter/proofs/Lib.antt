@@ -1,5 +1,6 @@
 pub mod Held
 pub mod Limiting
 pub mod Sizes
+mod Telling
 pub mod Answers
 pub mod Terms

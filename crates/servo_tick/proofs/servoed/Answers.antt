@@ -2,6 +2,8 @@
 use mathlib.Core.Path.{◌≡◌, sym, ap, ◌∙◌}
 use borrow.Author.Rules.{rules}
 use mir.Syntax.{w64}
+use native.Mathlib.Omega.{arith}
+use mir.Val.{to_z, of_z}
 use mir.ValLaws.{to_z-of_z}
 use Rattle.servo_filter.specs.declared.Filtered.{Filtered}
 use Rattle.servo_filter.specs.Filter.{filtered, told}
@@ -27,16 +29,14 @@ whole-requires c = rw c.advanced-p.ensures (advanced-ranged c.args.r c.requires.
 pub returns-in-Plain : goal.returns-in-Plain
 returns-in-Plain c =
     let f = (goal.at.returns-in-Plain c).After-filter-answer in
-    let y = c.answer-1.given in
-    let u = to_z-of_z w64 y.0.1.0 (record { sfits = c.in-Plain.known_told-1-own.given.1.0.1 }) in
-    (rw (f.advanced-p.ensures, u) at c.followed.ensures) ∙ made_of f _ y.1
+    let u : to_z w64 (of_z w64 c.in-Plain.u) ≡ c.in-Plain.u = to_z-of_z w64 c.in-Plain.u (record { sfits = omega arith }) in
+    (rw (f.advanced-p.ensures, u) at c.followed.ensures) ∙ made_of f _ c.in-Plain.is
 
 pub returns-in-Cut : goal.returns-in-Cut
 returns-in-Cut c =
     let f = (goal.at.returns-in-Cut c).After-filter-answer in
-    let y = c.answer-in-Cut-1.given in
-    let u = to_z-of_z w64 y.0.1.0 (record { sfits = c.in-Cut.known_told-in-Cut-1-own.given.1.0.1 }) in
-    (rw (f.advanced-p.ensures, u) at c.followed-in-Cut.ensures) ∙ made_of f _ y.1
+    let u : to_z w64 (of_z w64 c.in-Cut.u) ≡ c.in-Cut.u = to_z-of_z w64 c.in-Cut.u (record { sfits = omega arith }) in
+    (rw (f.advanced-p.ensures, u) at c.followed-in-Cut.ensures) ∙ made_of f _ c.in-Cut.is
 
 pub returns-in-Off : goal.returns-in-Off
 returns-in-Off c =

@@ -1,0 +1,40 @@
+-- `net_frame::walk` meets its contract. The invariant: the rest of the walk, from the record as it is, gives the whole. Assumes nothing.
+use mathlib.Core.Path.{◌≡◌, refl, ap, ap₂, ◌∙◌}
+use mathlib.Core.List.{List}
+use mathlib.Core.Bool.{true}
+use Prim.Native.Nat.{ℕ, ◌+◌, ◌*◌, ◌≤◌}
+use native.Mathlib.Omega.{arith}
+use lib.ListN.{length, drop, replicate}
+use Rattle.base_layout.specs.Bytes.{pasted}
+use Rattle.module_rules.specs.Touch.{frame_of}
+use Rattle.chain_rules.specs.Chain.{join}
+use Rattle.types_rules.specs.Types.{kind, slots}
+use Rattle.types_rules.proofs.Laws.{lawful}
+use Rattle.net_rules.specs.declared.Turn.{Turn}
+use Rattle.net_rules.specs.Record.{ok_slots, slots_at, chain_most}
+use Rattle.net_rules.specs.Walk.{turned, walked, speech, words_at, turn_of, walk_of}
+use Rattle.net_rules.specs.Calls.{noted}
+use Rattle.net_rules.proofs.Ahead.{turn_ok, ahead_ok, turned-after}
+use Rattle.net_rules.proofs.Rounds.{Round, round, done, word_short}
+use Rattle.net_frame.proofs.walk.Reads as reads
+use Rattle.net_frame.proofs.walk.Lts as lts
+use Rattle.net_frame.proofs.take_turn.Reads as take-turn-reads
+use Rattle.module_rules.specs.Slots.{slot_size}
+use Rattle.module_rules.specs.Owes.{reply_size}
+use Rattle.net_frame.proofs.walk.Given as goal
+
+abbrev pub invariant-loop-left : goal.invariant-loop-left
+invariant-loop-left l =
+    (l.at + slot_size * l.left ≡ slots_at + slot_size * l.n)
+    × (l.place + l.left ≡ l.n)
+    × (length l.net ≡ length l.initial.net)
+    × (length l.room ≡ length l.initial.room)
+    × (l.written + reply_size * l.left ≤ length l.initial.room)
+    × (walked kind slots (frame_of l.f l.ds) l.enabled l.left l.at l.net ≡ walked kind slots (frame_of l.f l.ds) true l.n slots_at l.initial.net)
+    × (pasted l.written (join (speech kind slots (frame_of l.f l.ds) l.enabled l.left l.at l.net)) l.room ≡ pasted 0 (join (speech kind slots (frame_of l.f l.ds) true l.n slots_at l.initial.net)) l.initial.room)
+    × (l.written + length (join (speech kind slots (frame_of l.f l.ds) l.enabled l.left l.at l.net)) ≡ length (join (speech kind slots (frame_of l.f l.ds) true l.n slots_at l.initial.net)))
+    × (noted (speech kind slots (frame_of l.f l.ds) l.enabled l.left l.at l.net) l.place l.lengths ≡ noted (speech kind slots (frame_of l.f l.ds) true l.n slots_at l.initial.net) 0 (replicate chain_most 0))
+    × (ok_slots slots l.left (drop l.at l.net) ≡ true)
+
+abbrev pub decreases-loop-left : goal.decreases-loop-left
+decreases-loop-left l = l.left

@@ -1,0 +1,19 @@
+-- `net_record::is_each_ok` meets its contract. The invariant: what the slots left say is what they all say. Assumes nothing.
+use mathlib.Core.Path.{◌≡◌, refl, sym, ◌∙◌}
+use mathlib.Core.Bool.{◌&&◌}
+use Prim.Native.Nat.{◌+◌, ◌*◌, ◌-◌}
+use native.Mathlib.Omega.{arith}
+use borrow.Author.Rules.{rules}
+use borrow.Author.Tests.{not-true, not-false}
+use lib.ListN.{drop}
+use Rattle.types_rules.specs.Types.{slots}
+use Rattle.net_rules.specs.Record.{ok_slots, slots_at}
+use Rattle.net_rules.proofs.Tests.{slots_turn, slots-done}
+use Rattle.module_rules.specs.Slots.{slot_size}
+use Rattle.net_record.proofs.is_each_ok.Given as goal
+
+abbrev pub invariant-loop-left : goal.invariant-loop-left
+invariant-loop-left l = (l.at + slot_size * l.left ≡ slots_at + slot_size * l.n) × (ok_slots slots l.left (drop l.at l.net) ≡ ok_slots slots l.n (drop slots_at l.net))
+
+abbrev pub decreases-loop-left : goal.decreases-loop-left
+decreases-loop-left l = l.left

@@ -1,0 +1,18 @@
+-- `replay_print::put_pairs` meets its contract. The invariant: the bytes left, put where the loop is, give the whole. Assumes nothing.
+use mathlib.Core.Path.{◌≡◌, refl, sym, ◌∙◌}
+use mathlib.Core.List.{[]}
+use Prim.Native.Nat.{◌+◌, ◌*◌, ◌-◌, ◌≤◌}
+use native.Mathlib.Omega.{arith}
+use lib.ListN.{length, drop, drop_of_length-le}
+use Rattle.base_layout.specs.Bytes.{pasted}
+use Rattle.base_layout.proofs.Pasted.{pasted_none}
+use Rattle.replay_print.specs.Text.{hexes}
+use Rattle.replay_print.proofs.Text.{hexes_turn}
+use Rattle.replay_print.proofs.put_pairs.Goals as goal
+
+pub loop-i-preserved : goal.loop-i-preserved
+loop-i-preserved c =
+    let l = c.loop-i in
+    let a = c.args in
+    let t = hexes_turn a.bytes.now l.out l.place l.i (omega arith) (omega arith) in
+    (omega arith, omega arith, omega arith, rw c.put_pair.ensures (t ∙ l.invariant.3))

@@ -1,0 +1,21 @@
+-- `replay_print::put_pairs` meets its contract. The invariant: the bytes left, put where the loop is, give the whole. Assumes nothing.
+use mathlib.Core.Path.{◌≡◌, refl, sym, ◌∙◌}
+use mathlib.Core.List.{[]}
+use Prim.Native.Nat.{◌+◌, ◌*◌, ◌-◌, ◌≤◌}
+use native.Mathlib.Omega.{arith}
+use lib.ListN.{length, drop, drop_of_length-le}
+use Rattle.base_layout.specs.Bytes.{pasted}
+use Rattle.base_layout.proofs.Pasted.{pasted_none}
+use Rattle.replay_print.specs.Text.{hexes}
+use Rattle.replay_print.proofs.Text.{hexes_turn}
+use Rattle.replay_print.proofs.put_pairs.Given as goal
+
+abbrev pub invariant-loop-i : goal.invariant-loop-i
+invariant-loop-i l =
+    (l.i ≤ length l.bytes)
+    × (l.place ≡ l.at + 3 * l.i)
+    × (length l.out ≡ length l.initial.out)
+    × (pasted l.place (hexes (drop l.i l.bytes)) l.out ≡ pasted l.at (hexes l.bytes) l.initial.out)
+
+abbrev pub decreases-loop-i : goal.decreases-loop-i
+decreases-loop-i l = length l.bytes - l.i
