@@ -22,12 +22,11 @@ loop-i-preserved-in-More c =
     let l = c.loop-i in
     let a = c.args in
     let t = a.file.now in
-    let g = c.next-1.given in
-    let e = sym c.step.ensures ∙ g.1 in (
+    let e = sym c.step.ensures ∙ c.in-More.is in (
       (subst (FitAfter (gone l.part)) e (step_fit l.part (get_or t l.i 0) l.invariant.0)).0,
       l.invariant.1,
       omega arith,
-      look_more (look_from a.from t) a.first t a.room.now l.part l.column l.wrote l.i l.room l.invariant.3 g.0.0 (omega arith) (ap told e),
+      look_more (look_from a.from t) a.first t a.room.now l.part l.column l.wrote l.i l.room l.invariant.3 c.in-More.next (omega arith) (ap told e),
     )
 
 pub put_byte-wrote-requires : goal.put_byte-wrote-requires
@@ -35,9 +34,8 @@ put_byte-wrote-requires c =
     let l = c.loop-i in
     let a = c.args in
     let t = a.file.now in
-    let g = c.value-1.given in
-    let e = sym c.step.ensures ∙ g.1 in
-    let b : Byte = record { value = g.0.0; mark = g.0.1.0 } in
+    let e = sym c.step.ensures ∙ c.in-Ended.is in
+    let b : Byte = record { value = c.in-Ended.value; mark = c.in-Ended.mark } in
     byte-room (look_from a.from t) a.first t a.room.now l.part l.column l.wrote l.i l.room l.invariant.3 b Kind (omega arith) (ap told e)
 
 pub loop-i-preserved : goal.loop-i-preserved
@@ -45,9 +43,8 @@ loop-i-preserved c =
     let l = c.loop-i in
     let a = c.args in
     let t = a.file.now in
-    let g = c.value-1.given in
-    let e = sym c.step.ensures ∙ g.1 in
-    let b : Byte = record { value = g.0.0; mark = g.0.1.0 } in
+    let e = sym c.step.ensures ∙ c.in-Ended.is in
+    let b : Byte = record { value = c.in-Ended.value; mark = c.in-Ended.mark } in
     let p = c.put_byte-wrote in (
       tt,
       omega arith,

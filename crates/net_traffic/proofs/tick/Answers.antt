@@ -11,34 +11,28 @@ use native.Mathlib.Omega.{arith}
 use mathlib.Core.Path.{sym, ap, ◌∙◌}
 use Prim.Native.Nat.{ℕ}
 use borrow.Author.Rules.{rules}
-use Rattle.net_traffic.proofs.tick.Statement.{statement}
-use Rattle.net_traffic.proofs.tick.Tie as tie
+use Rattle.net_traffic.proofs.tick.Goals as goal
+use Rattle.net_traffic.proofs.tick.Goals.{After-slice_known-1, Start}
 
-known : (c : tie.Start) → Valid slots c.args.net.now
+known : (c : Start) → Valid slots c.args.net.now
 known c = valid_is slots c.args.net.now c.requires.0
 
-slice-read-n : tie.Need-slice-read-n
-slice-read-n c = omega (arith, known c.before.before.before)
+pub bounds-net-19 : goal.bounds-net-19
+bounds-net-19 c = omega (arith, known (goal.at.bounds-net-19 c).Start)
 
-cast-tick-each : tie.Need-overflow-cast-tick-each
-cast-tick-each c = omega (arith, known c.before.before.before.before)
-
-tick-each-requires : tie.Need-tick-each-requires
-tick-each-requires c κs =
-    let a = c.before.before.before.before in
+pub tick_each-requires : goal.tick_each-requires
+tick_each-requires c =
+    let a = (goal.at.tick_each-requires c).Start in
     let k = known a in
     (omega (arith, k), k.slots, omega (arith, a.requires.1, length-modules slots a.args.net.now))
 
-returns : tie.Need-returns
+pub returns : goal.returns
 returns c =
-    let a = c.before.before.before.before.before.before.before in
+    let a = c in
     let net = a.args.net.now in
     let list = a.args.samples.now in
     let n = length-modules slots net in
-    c.before.before.tick-each.ensures
+    c.tick_each.ensures
     ∙ ap (λ (k : ℕ). ticked kind slots (samples_in k list) slots_at net) (sym n)
-    ∙ ticked_is kind lawful net (λ i. omega (arith, c.before.before.before.before.before.before.slice-known.given i)) a.requires.0
+    ∙ ticked_is kind lawful net (λ i. omega (arith, (goal.at.returns c).After-slice_known-1.type_inv.net i)) a.requires.0
     (samples_for (net_in slots net) list) (length_samples _ list ∙ n)
-
-pub tick-spec : {M : Type 1} → statement M
-tick-spec = tie.close (tie.spec slice-read-n cast-tick-each tick-each-requires (λ c. search rules) returns)
