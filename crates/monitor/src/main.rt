@@ -4,7 +4,7 @@
 
 #![tactic(auto)]
 
-ghost use Rattle.std.specs.Prelude.{◌≡◌, ◌+◌, ◌*◌, ◌^◌, ◌<◌, ◌≤◌, length};
+ghost use Rattle.std.specs.Prelude.{◌≡◌, ◌↔◌, ◌+◌, ◌*◌, ◌^◌, ◌<◌, ◌≤◌, length, IsTrue};
 ghost use Rattle.text_rules.specs.Import.{Fit, stage_of};
 ghost use Rattle.monitor_file.specs.Looking.{Fit as PartFit, gone};
 ghost use Rattle.monitor_file.specs.Spots.{Near};
@@ -224,7 +224,9 @@ fn usage(rt: &impl Eprint) {
     let _ = eprintln!(rt; "       monitor export [RECORDS]");
 }
 
-fn is_word(given: &[u8], word: &[u8]) -> bool {
+fn is_word(given: &[u8], word: &[u8]) -> bool
+    ensures { IsTrue result ↔ (given.now ≡ word.now) }
+{
     given == word
 }
 
