@@ -1,12 +1,10 @@
 -- What a piece of a text and a piece of a file leave: what goes into the next piece is fit for it, and what is written has room. Assumes nothing.
-use mathlib.Core.Path.{◌≡◌, sym, ap, subst⁻¹, ◌∙◌}
+use mathlib.Core.Path.{◌≡◌, ap, subst⁻¹}
 use mathlib.Core.List.{List}
 use Prim.Native.Nat.{ℕ, ◌+◌, ◌*◌, ◌<◌, ◌≤◌}
 use native.Mathlib.Omega.{arith}
 use lib.ListN.{length}
 use Rattle.text_rules.specs.declared.Read.{Read}
-use Rattle.text_rules.specs.Export.{text_from}
-use Rattle.text_rules.specs.Fold.{Reading}
 use Rattle.text_rules.specs.Import.{Stage, Fit, stage_of, step, read_from, CameTo}
 use Rattle.text_rules.proofs.Folding.{fold-within, fold_few}
 use Rattle.text_rules.proofs.Reading.{read_fit}

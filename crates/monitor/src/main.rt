@@ -4,17 +4,24 @@
 
 #![tactic(auto)]
 
-ghost use Rattle.std.specs.Prelude.{◌≡◌, ◌+◌, ◌*◌, ◌^◌, ◌<◌, ◌≤◌, length};
+ghost use Rattle.std.specs.Prelude.{◌≡◌, ◌↔◌, ◌+◌, ◌*◌, ◌^◌, ◌<◌, ◌≤◌, length, IsTrue};
 ghost use Rattle.text_rules.specs.Import.{Fit, stage_of};
 ghost use Rattle.monitor_file.specs.Looking.{Fit as PartFit, gone};
 ghost use Rattle.monitor_file.specs.Spots.{Near};
 
-use libc::STDERR_FILENO;
 use monitor_file::{Part, Spot};
+use std::io::{Input, Read};
+use std::rt::{Env, Files};
 use text_rules::Reader;
+
+// The room for the first argument. A longer one is no word that is asked for.
+const WORD_ROOM: usize = 16;
 
 // How many bytes are read at once.
 const BLOCK: usize = 65536;
+
+// How many blocks an input may have. A proved loop has to end, and nothing says that a file does: no run uses this number up.
+const BLOCKS: u64 = 140_737_488_355_328;
 
 // Where an import is: its reader, where the next character stands, and whether to stop.
 #[derive(Clone, Copy)]
@@ -33,42 +40,36 @@ struct Exporting {
     over: bool,
 }
 
-fn tell(what: &[u8], offset: u64) {
-    io::write_all(STDERR_FILENO, what);
-    io::write_all(STDERR_FILENO, b": offset ");
-    io::print_decimal(STDERR_FILENO, offset);
+fn tell(rt: &impl Eprint, what: &str, offset: u64) {
+    let _ = eprint!(rt; "{what}: offset {offset}");
 }
 
-fn tell_spot(what: &[u8], spot: Spot) {
-    tell(what, spot.offset);
-    io::write_all(STDERR_FILENO, b", line ");
-    io::print_decimal(STDERR_FILENO, spot.line);
-    io::write_all(STDERR_FILENO, b", column ");
-    io::print_decimal(STDERR_FILENO, spot.column);
-    io::write_all(STDERR_FILENO, b"\n");
+fn tell_spot(rt: &impl Eprint, what: &str, spot: Spot) {
+    tell(rt, what, spot.offset);
+    let _ = eprintln!(rt; ", line {}, column {}", spot.line, spot.column);
 }
 
-fn tell_record(offset: u64) {
-    tell(b"bad record", offset);
-    io::write_all(STDERR_FILENO, b"\n");
+fn tell_record(rt: &impl Eprint, offset: u64) {
+    tell(rt, "bad record", offset);
+    let _ = eprintln!(rt);
 }
 
 // A piece of the text: its records are written up to a character that can't stand there, which is told.
-fn import_piece(s: Importing, text: &[u8], out: &mut [u8]) -> Importing
+fn import_piece<R: Print + Eprint>(rt: &R, s: Importing, text: &[u8], out: &mut [u8]) -> Importing
     requires { Fit (stage_of s.reader) × Near s.spot × (s.spot.offset + length text.now + 2 < 2 ^ 64) × (3 * length text.now ≤ length out.old) }
     ensures { Fit (stage_of result.reader) × Near result.spot × (result.spot.offset ≤ s.spot.offset + length text.now) }
 {
     let reader = s.reader;
     let read = text_import::put_records(reader, text, out);
     let wrote = 3 * read.bytes;
-    let is_written = base_files::put(&out[..wrote]);
+    let is_written = base_files::put(rt, &out[..wrote]);
     let count = read.count;
     let from = s.spot;
     let spot = monitor_file::spot_after(from, &text[..count]);
     let next = read.reader;
     let is_bad = count < text.len();
     if is_bad {
-        tell_spot(b"bad text", spot);
+        tell_spot(rt, "bad text", spot);
     }
     Importing {
         reader: next,
@@ -78,46 +79,38 @@ fn import_piece(s: Importing, text: &[u8], out: &mut [u8]) -> Importing
 }
 
 // The text's end, which is told where the text may not end there.
-fn import_end(s: Importing) -> Importing
+fn import_end(rt: &impl Eprint, s: Importing) -> Importing
     ensures { (result.reader ≡ s.reader) × (result.spot ≡ s.spot) }
 {
-    let reader = s.reader;
-    let spot = s.spot;
-    if !text_import::may_end(reader) {
-        tell_spot(b"text breaks off", spot);
+    if !text_import::may_end(s.reader) {
+        tell_spot(rt, "text breaks off", s.spot);
     }
-    Importing {
-        reader,
-        spot,
-        over: true,
-    }
+    Importing { over: true, ..s }
 }
 
 // Reads the next block.
-fn import_block(fd: i32, s: Importing, buf: &mut [u8], out: &mut [u8]) -> Importing
+fn import_block<R: Print + Eprint, F: Read>(
+    rt: &R,
+    input: &mut F,
+    s: Importing,
+    buf: &mut [u8],
+    out: &mut [u8],
+) -> Importing
     requires { Fit (stage_of s.reader) × Near s.spot × (s.spot.offset + length buf.old + 2 < 2 ^ 64) × (3 * length buf.old ≤ length out.old) }
     ensures { Fit (stage_of result.reader) × Near result.spot × (result.spot.offset ≤ s.spot.offset + length buf.old) }
 {
-    let got = libc::read(fd, buf);
-    let n = io::count(got, buf);
-    if got < 0 {
-        os::fail(b"read");
-        let reader = s.reader;
-        let spot = s.spot;
-        return Importing {
-            reader,
-            spot,
-            over: true,
-        };
+    match input.read(buf) {
+        Ok(0) => import_end(rt, s),
+        Ok(n) => import_piece(rt, s, &buf[..n], out),
+        Err(error) => {
+            base_files::fail(rt, "read", error);
+            Importing { over: true, ..s }
+        }
     }
-    if n == 0 {
-        return import_end(s);
-    }
-    import_piece(s, &buf[..n], out)
 }
 
-// A proved loop has to end, and nothing says that a file does: the blocks are counted down from a number that no run uses up.
-fn import_all(fd: i32, buf: &mut [u8], out: &mut [u8])
+// The blocks, until the text ends or is at fault.
+fn import_all<R: Print + Eprint, F: Read>(rt: &R, input: &mut F, buf: &mut [u8], out: &mut [u8])
     requires { (length buf.old ≤ 65536) × (3 * length buf.old ≤ length out.old) }
 {
     let mut s = Importing {
@@ -129,52 +122,44 @@ fn import_all(fd: i32, buf: &mut [u8], out: &mut [u8])
         },
         over: false,
     };
-    let mut blocks: u64 = 140_737_488_355_328;
-    while 0 < blocks {
-        s = import_block(fd, s, buf, out);
+    for _ in 0..BLOCKS {
+        s = import_block(rt, input, s, buf, out);
         if s.over {
             return;
         }
-        blocks -= 1;
     }
 }
 
-fn import(fd: i32) {
+fn import<R: Print + Eprint, F: Read>(rt: &R, input: &mut F) {
     let mut buf = [0u8; BLOCK];
     let mut out = [0u8; 3 * BLOCK];
-    import_all(fd, &mut buf, &mut out);
+    import_all(rt, input, &mut buf, &mut out);
 }
 
 // Where the file ends or is at fault: the last line is ended, and a record that is bad or cut is told by where it begins.
-fn export_end(s: Exporting, is_bad: bool) -> Exporting
+fn export_end<R: Print + Eprint>(rt: &R, s: Exporting, is_bad: bool) -> Exporting
     requires { PartFit s.part × (gone s.part ≤ s.offset) }
     ensures { (result.part ≡ s.part) × (result.column ≡ s.column) × (result.offset ≡ s.offset) }
 {
     let mut end = [0u8; 1];
     let n = text_export::put_closing(&mut end, 0, s.column);
-    base_files::put(&end[..n]);
-    let part = s.part;
-    let taken = monitor_file::gone(part);
+    base_files::put(rt, &end[..n]);
+    let taken = monitor_file::gone(s.part);
     if is_bad | (0 < taken) {
-        tell_record(s.offset - taken);
+        tell_record(rt, s.offset - taken);
     }
-    Exporting {
-        part,
-        column: s.column,
-        offset: s.offset,
-        over: true,
-    }
+    Exporting { over: true, ..s }
 }
 
 // A piece of the file: its line bytes are shown up to a byte that can't stand there.
-fn export_piece(s: Exporting, file: &[u8], out: &mut [u8]) -> Exporting
+fn export_piece<R: Print + Eprint>(rt: &R, s: Exporting, file: &[u8], out: &mut [u8]) -> Exporting
     requires { PartFit s.part × (s.column < 16) × (gone s.part ≤ s.offset) × (s.offset + length file.now < 2 ^ 64) × (5 * length file.now ≤ length out.old) }
     ensures { PartFit result.part × (result.column < 16) × (gone result.part ≤ result.offset) × (result.offset ≤ s.offset + length file.now) }
 {
     let from = s.part;
     let looked = monitor_file::put_looked(from, s.column, file, out);
     let wrote = looked.wrote;
-    let is_written = base_files::put(&out[..wrote]);
+    let is_written = base_files::put(rt, &out[..wrote]);
     let count = looked.count;
     let part = looked.part;
     let next = Exporting {
@@ -184,35 +169,34 @@ fn export_piece(s: Exporting, file: &[u8], out: &mut [u8]) -> Exporting
         over: !is_written,
     };
     if is_written & (count < file.len()) {
-        return export_end(next, true);
+        return export_end(rt, next, true);
     }
     next
 }
 
 // Reads the next block.
-fn export_block(fd: i32, s: Exporting, buf: &mut [u8], out: &mut [u8]) -> Exporting
+fn export_block<R: Print + Eprint, F: Read>(
+    rt: &R,
+    input: &mut F,
+    s: Exporting,
+    buf: &mut [u8],
+    out: &mut [u8],
+) -> Exporting
     requires { PartFit s.part × (s.column < 16) × (gone s.part ≤ s.offset) × (s.offset + length buf.old < 2 ^ 64) × (5 * length buf.old ≤ length out.old) }
     ensures { PartFit result.part × (result.column < 16) × (gone result.part ≤ result.offset) × (result.offset ≤ s.offset + length buf.old) }
 {
-    let got = libc::read(fd, buf);
-    let n = io::count(got, buf);
-    if got < 0 {
-        os::fail(b"read");
-        let part = s.part;
-        return Exporting {
-            part,
-            column: s.column,
-            offset: s.offset,
-            over: true,
-        };
+    match input.read(buf) {
+        Ok(0) => export_end(rt, s, false),
+        Ok(n) => export_piece(rt, s, &buf[..n], out),
+        Err(error) => {
+            base_files::fail(rt, "read", error);
+            Exporting { over: true, ..s }
+        }
     }
-    if n == 0 {
-        return export_end(s, false);
-    }
-    export_piece(s, &buf[..n], out)
 }
 
-fn export_all(fd: i32, buf: &mut [u8], out: &mut [u8])
+// The blocks, until the file ends or is at fault.
+fn export_all<R: Print + Eprint, F: Read>(rt: &R, input: &mut F, buf: &mut [u8], out: &mut [u8])
     requires { (length buf.old ≤ 65536) × (5 * length buf.old ≤ length out.old) }
 {
     let mut s = Exporting {
@@ -221,72 +205,59 @@ fn export_all(fd: i32, buf: &mut [u8], out: &mut [u8])
         offset: 0,
         over: false,
     };
-    let mut blocks: u64 = 140_737_488_355_328;
-    while 0 < blocks {
-        s = export_block(fd, s, buf, out);
+    for _ in 0..BLOCKS {
+        s = export_block(rt, input, s, buf, out);
         if s.over {
             return;
         }
-        blocks -= 1;
     }
 }
 
-fn export(fd: i32) {
+fn export<R: Print + Eprint, F: Read>(rt: &R, input: &mut F) {
     let mut buf = [0u8; BLOCK];
     let mut out = [0u8; 5 * BLOCK];
-    export_all(fd, &mut buf, &mut out);
+    export_all(rt, input, &mut buf, &mut out);
 }
 
-fn usage() {
-    io::write_all(STDERR_FILENO, b"usage: monitor import [TEXT]\n");
-    io::write_all(STDERR_FILENO, b"       monitor export [RECORDS]\n");
+fn usage(rt: &impl Eprint) {
+    let _ = eprintln!(rt; "usage: monitor import [TEXT]");
+    let _ = eprintln!(rt; "       monitor export [RECORDS]");
 }
 
-fn is_word(given: &[u8], word: &[u8]) -> bool {
-    if given.len() != word.len() {
-        return false;
-    }
-    let mut i: usize = 0;
-    while i < given.len() {
-        if given[i] != word[i] {
-            return false;
-        }
-        i += 1;
-    }
-    true
+fn is_word(given: &[u8], word: &[u8]) -> bool
+    ensures { IsTrue result ↔ (given.now ≡ word.now) }
+{
+    given == word
 }
 
 // What the first argument asks for, on an open file.
-fn work(word: &[u8], fd: i32) {
+fn work<R: Print + Eprint, F: Read>(rt: &R, word: &[u8], input: &mut F) {
     if is_word(word, b"import") {
-        import(fd);
+        import(rt, input);
         return;
     }
-    export(fd);
+    export(rt, input);
 }
 
 // On the file that the second argument names, or on standard input.
-fn work_on(word: &[u8], count: usize) {
-    if count == 2 {
-        work(word, libc::STDIN_FILENO);
+fn work_on<R: Env + Files + Input + Print + Eprint>(rt: &R, word: &[u8]) {
+    if !base_files::is_given(rt, 2) {
+        work(rt, word, &mut rt.reader());
         return;
     }
-    let fd = base_files::open_named(2);
-    if fd < 0 {
-        return;
+    if let Some(mut file) = base_files::open_named(rt, 2) {
+        work(rt, word, &mut file);
     }
-    work(word, fd);
-    libc::close(fd);
 }
 
-fn main() {
-    let count = os::arg_count();
-    let mut word = io::buffer();
-    let n = os::arg(1, &mut word);
-    let is_asked = is_word(&word[..n], b"import") | is_word(&word[..n], b"export");
-    if !is_asked | (3 < count) {
-        usage();
+fn main(rt: HostRuntime) {
+    let mut room = [0u8; WORD_ROOM];
+    let n = rt.arg(1, &mut room).unwrap_or(0);
+    let word = &room[..n];
+    let is_asked = is_word(word, b"import") | is_word(word, b"export");
+    if !is_asked | base_files::is_given(&rt, 3) {
+        usage(&rt);
         return;
     }
-    work_on(&word[..n], count);
+    work_on(&rt, word);
 }

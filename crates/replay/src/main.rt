@@ -11,6 +11,14 @@ ghost use Rattle.net_rules.specs.Calls.{list_size};
 ghost use Rattle.replay_print.specs.Text.{text_size};
 
 use replay_file::Place;
+use std::io::Read;
+use std::rt::{Env, Files};
+
+// How many bytes of the file are held at once.
+const BLOCK: usize = 65536;
+
+// How many turns a replay may have. A proved loop has to end, and nothing says that a file does: no run uses this number up.
+const TURNS: u64 = 1_152_921_504_606_846_976;
 
 // Where the program is: the replay's place, the bytes of the buffer that are not taken yet, whether the file has no more, and whether to stop.
 #[derive(Clone, Copy)]
@@ -27,38 +35,48 @@ fn keep(buf: &mut [u8], start: usize, end: usize)
     requires { (start ≤ end) × (end ≤ length buf.old) }
     ensures { buf.new ≡ paste buf.old 0 (drop start buf.old) (end - start) }
 {
-    let n = end - start;
-    let mut i = 0;
-    while i < n {
-        buf[i] = buf[start + i];
-        i += 1;
-    }
+    buf.copy_within(start..end, 0);
 }
 
 // Reads more behind the bytes that are not taken yet.
-fn refill(fd: i32, at: Place, start: usize, end: usize, buf: &mut [u8]) -> State
+fn refill<F: Read>(
+    rt: &impl Eprint,
+    input: &mut F,
+    at: Place,
+    start: usize,
+    end: usize,
+    buf: &mut [u8],
+) -> State
     requires { (start ≤ end) × (end ≤ length buf.old) }
     ensures { (result.at ≡ at) × (result.start ≤ result.end) × (result.end ≤ length buf.old) }
 {
     keep(buf, start, end);
     let n = end - start;
-    let got = libc::read(fd, &mut buf[n..]);
-    if got < 0 {
-        os::fail(b"read");
-    }
-    let more = io::count(got, &buf[n..]);
-    State {
-        at,
-        start: 0,
-        end: n + more,
-        last: more == 0,
-        over: got < 0,
+    match input.read(&mut buf[n..]) {
+        Ok(more) => State {
+            at,
+            start: 0,
+            end: n + more,
+            last: more == 0,
+            over: false,
+        },
+        Err(error) => {
+            base_files::fail(rt, "read", error);
+            State {
+                at,
+                start: 0,
+                end: n,
+                last: true,
+                over: true,
+            }
+        }
     }
 }
 
 // A turn of the replay, with what it prints written out.
-fn step(
-    fd: i32,
+fn step<R: Print + Eprint, F: Read>(
+    rt: &R,
+    input: &mut F,
     s: State,
     buf: &mut [u8],
     types: &mut [u8],
@@ -76,10 +94,10 @@ fn step(
     let end = s.end;
     let t = replay_play::turn(at, types, samples, net, &buf[start..end], s.last, out);
     let wrote = t.wrote;
-    let is_written = base_files::put(&out[..wrote]);
+    let is_written = base_files::put(rt, &out[..wrote]);
     let next = t.next;
     if t.wants {
-        return refill(fd, next, start, end, buf);
+        return refill(rt, input, next, start, end, buf);
     }
     State {
         at: next,
@@ -90,9 +108,10 @@ fn step(
     }
 }
 
-// A proved loop has to end, and nothing says that a file does: the turns are counted down from a number that no run uses up.
-fn run(
-    fd: i32,
+// The turns, until the replay is over.
+fn run<R: Print + Eprint, F: Read>(
+    rt: &R,
+    input: &mut F,
     buf: &mut [u8],
     types: &mut [u8],
     samples: &mut [u8],
@@ -108,42 +127,44 @@ fn run(
         last: false,
         over: false,
     };
-    let mut turns: u64 = 1_152_921_504_606_846_976;
-    while 0 < turns {
-        s = step(fd, s, buf, types, samples, net, out);
+    for _ in 0..TURNS {
+        s = step(rt, input, s, buf, types, samples, net, out);
         if s.over {
             return;
         }
-        turns -= 1;
     }
 }
 
-fn replay(fd: i32) {
-    let mut buf = io::large_buffer();
+fn replay<R: Print + Eprint, F: Read>(rt: &R, input: &mut F) {
+    let mut buf = [0u8; BLOCK];
     let mut types = [0u8; net_rules::CHAIN_MOST];
     let mut samples = [0u8; net_rules::CHAIN_MOST * module_rules::SAMPLE_LEN];
     let mut net = [0u8; net_rules::NET_LEN];
     let mut out = [0u8; replay_print::TEXT_LEN];
-    run(fd, &mut buf, &mut types, &mut samples, &mut net, &mut out);
+    run(
+        rt,
+        input,
+        &mut buf,
+        &mut types,
+        &mut samples,
+        &mut net,
+        &mut out,
+    );
 }
 
 // Replays the file that the argument names.
-fn replay_named() {
-    let fd = base_files::open_named(1);
-    if fd < 0 {
-        return;
+fn replay_named<R: Env + Files + Print + Eprint>(rt: &R) {
+    if let Some(mut file) = base_files::open_named(rt, 1) {
+        replay(rt, &mut file);
     }
-    replay(fd);
-    libc::close(fd);
 }
 
-fn main() {
-    let count = os::arg_count();
-    if count < 2 {
-        replay(libc::STDIN_FILENO);
-    } else if count == 2 {
-        replay_named();
+fn main(rt: HostRuntime) {
+    if !base_files::is_given(&rt, 1) {
+        replay(&rt, &mut rt.stdin());
+    } else if !base_files::is_given(&rt, 2) {
+        replay_named(&rt);
     } else {
-        io::write_all(libc::STDERR_FILENO, b"usage: replay [CAPTURE]\n");
+        let _ = eprintln!(rt; "usage: replay [CAPTURE]");
     }
 }

@@ -7,20 +7,14 @@ ghost use Rattle.servo_motion.specs.Profile.{fastest, Ranged};
 ghost use Rattle.servo_filter.specs.Filter.{Kept, blank, told};
 ghost use Rattle.servo_filter.specs.Promises.{Ranged as Gains-as-Ranged};
 
-use libc::STDOUT_FILENO;
 use servo_filter::{Filtered, Gains, Memory};
 use servo_motion::Profile;
 
-// A space and the number.
-fn write(z: i64)
+// A space and the number. Here and below, what can't be written is passed over.
+fn write(out: &impl Print, z: i64)
     requires { nat_abs z < 2 ^ 63 }
 {
-    if z < 0 {
-        io::write_all(STDOUT_FILENO, b" -");
-    } else {
-        io::write_all(STDOUT_FILENO, b" ");
-    }
-    io::print_decimal(STDOUT_FILENO, base_integers::size(z));
+    let _ = print!(out; " {z}");
 }
 
 fn tick(p: Profile, velocity: bool) -> Profile
@@ -41,42 +35,46 @@ fn ticks(start: Profile, velocity: bool, count: u32) -> Profile
     ensures { Ranged result × (0 < result.acceleration) }
 {
     let mut p = start;
-    let mut left = count;
-    while 0 < left {
+    for _ in 0..count {
         p = tick(p, velocity);
-        left -= 1;
     }
     p
 }
 
 // The setpoint's whole part and fraction.
-fn place(setpoint: u64)
+fn place(out: &impl Print, setpoint: u64)
     requires { setpoint < 2 ^ 48 }
 {
-    io::write_all(STDOUT_FILENO, b" at ");
-    io::print_decimal(STDOUT_FILENO, servo_motion::whole(setpoint) as u64);
-    io::write_all(STDOUT_FILENO, b" ");
-    io::print_decimal(STDOUT_FILENO, setpoint % 65536);
-    io::write_all(STDOUT_FILENO, b"\n");
+    let _ = println!(out;
+        " at {} {}",
+        servo_motion::whole(setpoint),
+        setpoint % 65536
+    );
 }
 
 // The speed after every so many ticks, and where that ends.
-fn walk(start: Profile, velocity: bool, every: u32, rows: u32)
+fn walk(out: &impl Print, start: Profile, velocity: bool, every: u32, rows: u32)
     requires ranged { Ranged start }
     requires acceleration_nonzero { 0 < start.acceleration }
 {
     let mut p = start;
-    let mut left = rows;
-    while 0 < left {
+    for _ in 0..rows {
         p = ticks(p, velocity, every);
-        write(p.speed);
-        left -= 1;
+        write(out, p.speed);
     }
-    place(p.setpoint);
+    place(out, p.setpoint);
 }
 
 // A trapezoid from rest.
-fn trapezoid(setpoint: u64, goal: u32, acceleration: u32, top: u32, every: u32, rows: u32)
+fn trapezoid(
+    out: &impl Print,
+    setpoint: u64,
+    goal: u32,
+    acceleration: u32,
+    top: u32,
+    every: u32,
+    rows: u32,
+)
     requires { (setpoint < 2 ^ 48) × (0 < acceleration) × (acceleration ≤ fastest) × (top ≤ fastest) }
 {
     let p = Profile {
@@ -87,11 +85,11 @@ fn trapezoid(setpoint: u64, goal: u32, acceleration: u32, top: u32, every: u32, 
         acceleration,
         top,
     };
-    walk(p, false, every, rows);
+    walk(out, p, false, every, rows);
 }
 
 // Velocity mode from a setpoint of 0.
-fn velocity(speed: i64, aim: i64, acceleration: u32, rows: u32)
+fn velocity(out: &impl Print, speed: i64, aim: i64, acceleration: u32, rows: u32)
     requires { (nat_abs speed ≤ fastest) × (nat_abs aim ≤ fastest) × (0 < acceleration) × (acceleration ≤ fastest) }
 {
     let p = Profile {
@@ -102,26 +100,26 @@ fn velocity(speed: i64, aim: i64, acceleration: u32, rows: u32)
         acceleration,
         top: 0,
     };
-    walk(p, true, 1, rows);
+    walk(out, p, true, 1, rows);
 }
 
 // The output, with a word if it was cut, or off; and the memory that is kept.
-fn answered(f: Filtered) -> Memory
+fn answered(out: &impl Print, f: Filtered) -> Memory
     requires { nat_abs (told f).output < 256 }
     ensures { result ≡ (told f).memory }
 {
     match f {
-        Filtered::Plain(m, out) => {
-            write(out);
+        Filtered::Plain(m, output) => {
+            write(out, output);
             m
         }
-        Filtered::Cut(m, out) => {
-            write(out);
-            io::write_all(STDOUT_FILENO, b" cut");
+        Filtered::Cut(m, output) => {
+            write(out, output);
+            let _ = print!(out; " cut");
             m
         }
         Filtered::Off => {
-            io::write_all(STDOUT_FILENO, b" off");
+            let _ = print!(out; " off");
             blank()
         }
     }
@@ -137,62 +135,76 @@ fn blank() -> Memory
 }
 
 // The outputs at these positions, one a tick, and the memory after them.
-fn outputs(g: Gains, start: Memory, setpoint: u32, positions: &[u32]) -> Memory
+fn outputs(out: &impl Print, g: Gains, start: Memory, setpoint: u32, positions: &[u32]) -> Memory
     requires gains_ranged { Gains-as-Ranged g }
     requires kept { Kept start }
     ensures { Kept result }
 {
     let mut m = start;
-    let mut i: usize = 0;
-    while i < positions.len() {
-        m = answered(servo_filter::filter(g, m, setpoint, positions[i]));
-        i += 1;
+    for position in positions {
+        m = answered(out, servo_filter::filter(g, m, setpoint, *position));
     }
-    io::write_all(STDOUT_FILENO, b"\n");
+    let _ = println!(out);
     m
 }
 
 // The bench sheet's moves, their mirror images, and the shortest one.
-fn bench() {
-    trapezoid(65524, 1, 2, 5, 1, 6);
-    trapezoid(65525, 1, 2, 5, 1, 6);
-    trapezoid(12, 0, 2, 5, 1, 6);
-    trapezoid(11, 0, 2, 5, 1, 6);
-    trapezoid(65535, 1, 2, 5, 1, 3);
-    velocity(5, -5, 2, 6);
+fn bench(out: &impl Print) {
+    trapezoid(out, 65524, 1, 2, 5, 1, 6);
+    trapezoid(out, 65525, 1, 2, 5, 1, 6);
+    trapezoid(out, 12, 0, 2, 5, 1, 6);
+    trapezoid(out, 11, 0, 2, 5, 1, 6);
+    trapezoid(out, 65535, 1, 2, 5, 1, 3);
+    velocity(out, 5, -5, 2, 6);
 }
 
 // Across 2 ^ 31 and across 0, both ways, and as far as a position can be.
-fn wraps() {
-    trapezoid(0x7FFF_FFFE_0000, 0x8000_0002, 40000, 90000, 1, 7);
-    trapezoid(0x8000_0002_8000, 0x7FFF_FFFE, 40000, 90000, 1, 8);
-    trapezoid(0xFFFF_FFFF_4000, 2, 50000, 70000, 1, 6);
-    trapezoid(0x0000_0001_C000, 0xFFFF_FFFE, 50000, 70000, 1, 7);
-    trapezoid(0x0000_0000_0007, 0x7FFF_FFFF, 83886080, 83886080, 10, 4);
-    trapezoid(0x0000_0000_0007, 0x8000_0000, 83886080, 83886080, 10, 4);
+fn wraps(out: &impl Print) {
+    trapezoid(out, 0x7FFF_FFFE_0000, 0x8000_0002, 40000, 90000, 1, 7);
+    trapezoid(out, 0x8000_0002_8000, 0x7FFF_FFFE, 40000, 90000, 1, 8);
+    trapezoid(out, 0xFFFF_FFFF_4000, 2, 50000, 70000, 1, 6);
+    trapezoid(out, 0x0000_0001_C000, 0xFFFF_FFFE, 50000, 70000, 1, 7);
+    trapezoid(
+        out,
+        0x0000_0000_0007,
+        0x7FFF_FFFF,
+        83886080,
+        83886080,
+        10,
+        4,
+    );
+    trapezoid(
+        out,
+        0x0000_0000_0007,
+        0x8000_0000,
+        83886080,
+        83886080,
+        10,
+        4,
+    );
 }
 
 // Acceleration above the greatest speed, far above it, and a single step; then long moves, every so many ticks.
-fn limits() {
-    trapezoid(0, 1, 50000, 30000, 1, 5);
-    trapezoid(0, 0xFFFF_FFFF, 83886080, 30000, 1, 5);
-    trapezoid(65535, 1, 83886080, 83886080, 1, 3);
-    trapezoid(0, 5000, 300, 300000, 100, 22);
-    trapezoid(0x1234_5678_9ABC, 0x1234_0000, 777, 123456, 1000, 14);
-    trapezoid(65536, 4, 1, 83886080, 100, 10);
+fn limits(out: &impl Print) {
+    trapezoid(out, 0, 1, 50000, 30000, 1, 5);
+    trapezoid(out, 0, 0xFFFF_FFFF, 83886080, 30000, 1, 5);
+    trapezoid(out, 65535, 1, 83886080, 83886080, 1, 3);
+    trapezoid(out, 0, 5000, 300, 300000, 100, 22);
+    trapezoid(out, 0x1234_5678_9ABC, 0x1234_0000, 777, 123456, 1000, 14);
+    trapezoid(out, 65536, 4, 1, 83886080, 100, 10);
 }
 
 // Velocity mode up and down, to its own speed, and at both ends of its range.
-fn velocities() {
-    velocity(-7, 20, 10, 4);
-    velocity(100, 100, 1, 2);
-    velocity(3, -40, 83886080, 3);
-    velocity(-83886080, 83886080, 83886080, 4);
-    velocity(83886080, -83886080, 1, 3);
+fn velocities(out: &impl Print) {
+    velocity(out, -7, 20, 10, 4);
+    velocity(out, 100, 100, 1, 2);
+    velocity(out, 3, -40, 83886080, 3);
+    velocity(out, -83886080, 83886080, 83886080, 4);
+    velocity(out, 83886080, -83886080, 1, 3);
 }
 
 // A 256th toward zero.
-fn small_errors() {
+fn small_errors(out: &impl Print) {
     let positions = [255u32, 256, 4294967041, 4294967040, 0];
     let g = Gains {
         kp: 1,
@@ -202,7 +214,7 @@ fn small_errors() {
         ol: 255,
         el: 16383,
     };
-    outputs(g, blank(), 0, &positions);
+    outputs(out, g, blank(), 0, &positions);
 }
 
 // All three gains k, the limits at their greatest.
@@ -222,16 +234,16 @@ fn gains(k: u16) -> Gains
 
 // With gains of 0 nothing is cut, and the integral winds up; then gains at their greatest, and the error that brings u to its bound. So they cut at once,
 // and the integral stays 0.
-fn greatest_gains() {
+fn greatest_gains(out: &impl Print) {
     let winding = [2147467265u32, 2147467265, 2147467265, 2147500031];
     let last = [2147467265u32];
-    let wound = outputs(gains(0), blank(), 2147483648, &winding);
-    outputs(gains(32767), wound, 2147483648, &last);
-    outputs(gains(32767), blank(), 2147483648, &winding);
+    let wound = outputs(out, gains(0), blank(), 2147483648, &winding);
+    outputs(out, gains(32767), wound, 2147483648, &last);
+    outputs(out, gains(32767), blank(), 2147483648, &winding);
 }
 
 // A held integral, outputs that are cut, and an error above the limit.
-fn held_integral() {
+fn held_integral(out: &impl Print) {
     let positions = [500u32, 200, 700, 1200, 3000, 3001, 1000];
     let g = Gains {
         kp: 9,
@@ -241,15 +253,15 @@ fn held_integral() {
         ol: 100,
         el: 2000,
     };
-    outputs(g, blank(), 1000, &positions);
+    outputs(out, g, blank(), 1000, &positions);
 }
 
-fn main() {
-    bench();
-    wraps();
-    limits();
-    velocities();
-    small_errors();
-    greatest_gains();
-    held_integral();
+fn main(rt: HostRuntime) {
+    bench(&rt);
+    wraps(&rt);
+    limits(&rt);
+    velocities(&rt);
+    small_errors(&rt);
+    greatest_gains(&rt);
+    held_integral(&rt);
 }
