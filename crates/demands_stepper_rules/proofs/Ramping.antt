@@ -30,7 +30,8 @@ use Rattle.demands_history_rules.specs.Calls.{Call}
 use Rattle.demands_rules.specs.Place.{ticks_in}
 use Rattle.demands_rules.specs.Loaded.{control, WholeLoad}
 use Rattle.demands_rules.proofs.Making.{fits_at}
-use Rattle.demands_rules.proofs.Stepping.{stepped, Steps, went}
+use Rattle.demands_rules.proofs.TimeSteps.{stepped, Steps}
+use Rattle.demands_rules.proofs.Stepping.{went}
 use Rattle.demands_stepper_rules.specs.Motion.{Moves}
 use Rattle.demands_stepper_rules.specs.Ramp.{NeverBelow, Disturbs, Ramps, RampOnTheLine}
 use Rattle.demands_stepper_rules.proofs.CalmTick.{Calm, tick_steps}
