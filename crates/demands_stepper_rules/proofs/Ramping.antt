@@ -1,9 +1,8 @@
 -- A step-motor module's ramp through calls that do not disturb it. Assumes nothing.
 use mathlib.Core.Path.{◌≡◌, refl, sym, ap, subst, ◌∙◌}
-use mathlib.Core.Logic.{◌⊎◌, inl, inr}
-use mathlib.Core.List.{List}
+use mathlib.Core.Logic.{inl, inr}
 use mathlib.Core.Bool.{Bool}
-use Prim.Native.Nat.{ℕ, zero, suc, ◌<◌, ◌≤◌}
+use Prim.Native.Nat.{ℕ, zero, suc}
 use native.Mathlib.Omega.{arith}
 use Rattle.line_receiver.specs.Frames.{Frame}
 use Rattle.module_rules.specs.Rules.{Request, malformed, set, reset, wants, settled}
@@ -26,7 +25,6 @@ use Rattle.stepper_slot_rules.specs.Promises.{Moving}
 use Rattle.stepper_slot_rules.proofs.Steady.{by_test, Steady}
 use Rattle.stepper_slot_rules.proofs.Good.{good}
 use Rattle.types_rules.specs.Table.{stepper}
-use Rattle.demands_history_rules.specs.Calls.{Call}
 use Rattle.demands_rules.specs.Place.{ticks_in}
 use Rattle.demands_rules.specs.Loaded.{control, WholeLoad}
 use Rattle.demands_rules.proofs.Making.{fits_at}
