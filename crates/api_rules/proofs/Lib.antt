@@ -11,3 +11,4 @@ pub mod Room
 pub mod Full
 pub mod Listed
 pub mod Text
+pub mod TextBounds

@@ -20,7 +20,7 @@ use Rattle.line_receiver.proofs.Ending.{most_end}
 use Rattle.module_rules.specs.Owes.{reply_size}
 use Rattle.chain_rules.specs.Chain.{Net, Step, flat, byte_step}
 use Rattle.chain_rules.proofs.Bytes.{step-on, step_end}
-use Rattle.chain_rules.proofs.Taking.{step-few, few-within, few_replies}
+use Rattle.chain_rules.proofs.FewReplies.{step-few, few-within, few_replies}
 use Rattle.types_rules.specs.Types.{Module, kind, slots}
 use Rattle.types_rules.proofs.Laws.{lawful, said_short}
 use Rattle.net_rules.specs.Record.{receiver_size, room_size, buffer_room_size, receiver_bytes, net_in, stored, valid}

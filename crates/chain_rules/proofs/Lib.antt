@@ -4,3 +4,4 @@ pub mod Bytes
 pub mod Along
 pub mod Timing
 pub mod Taking
+pub mod FewReplies

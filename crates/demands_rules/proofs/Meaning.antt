@@ -50,7 +50,8 @@ use Rattle.stepper_rules.proofs.Ramping.{climb, fall, slow_down}
 use Rattle.stepper_rules.proofs.Ticking.{never_past, ticking}
 use Rattle.types_rules.proofs.Promised.{every_type}
 use Rattle.servo_slot_rules.specs.Promises.{Fits}
-use Rattle.servo_slot_rules.proofs.Good.{InMode, good}
+use Rattle.servo_slot_rules.proofs.Modes.{InMode}
+use Rattle.servo_slot_rules.proofs.Good.{good}
 use Rattle.servo_slot_rules.proofs.Ticks.{met_sane}
 use Rattle.host_rules.proofs.Sent.{sent}
 use Rattle.api_rules.proofs.Status.{status_read}

@@ -50,7 +50,8 @@ use Rattle.servo_rules.proofs.AtRest.{stays_resting}
 use Rattle.servo_rules.proofs.Placing.{only_here}
 use Rattle.servo_rules.proofs.TurningOn.{turns_on_here}
 use Rattle.servo_slot_rules.specs.Promises.{Fits}
-use Rattle.servo_slot_rules.proofs.Good.{InMode, good}
+use Rattle.servo_slot_rules.proofs.Modes.{InMode}
+use Rattle.servo_slot_rules.proofs.Good.{good}
 use Rattle.types_rules.specs.Table.{servo}
 use Rattle.types_rules.proofs.Promised.{every_type}
 use Rattle.demands_rules.specs.Motion.{Moves, Bound, AtRest, SetsOut, moving, bound, Begins, out, put, turned_on, Asks, LoadStarts, by_start, by_load, Starts, of_load, by_stop_here, StartsAreExecuted}

@@ -46,7 +46,8 @@ use Rattle.servo_rules.proofs.FindingHome.{homing_ticks}
 use Rattle.servo_rules.proofs.Finishing.{move_done}
 use Rattle.servo_rules.proofs.Reply.{status_bits}
 use Rattle.servo_slot_rules.specs.Promises.{Fits}
-use Rattle.servo_slot_rules.proofs.Good.{InMode, good}
+use Rattle.servo_slot_rules.proofs.Modes.{InMode}
+use Rattle.servo_slot_rules.proofs.Good.{good}
 use Rattle.types_rules.specs.Table.{servo}
 use Rattle.types_rules.specs.Types.{slots}
 use Rattle.net_rules.specs.Record.{net_in}

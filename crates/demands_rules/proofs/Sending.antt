@@ -26,7 +26,8 @@ use Rattle.servo_rules.specs.LoadPromises.{Movable, Completes}
 use Rattle.servo_rules.proofs.Keeping.{number, distinct}
 use Rattle.servo_rules.proofs.Starting.{begins}
 use Rattle.servo_slot_rules.specs.Promises.{Fits}
-use Rattle.servo_slot_rules.proofs.Good.{InMode, good}
+use Rattle.servo_slot_rules.proofs.Modes.{InMode}
+use Rattle.servo_slot_rules.proofs.Good.{good}
 use Rattle.types_rules.specs.Table.{servo}
 use Rattle.demands_history_rules.specs.Calls.{Call}
 use Rattle.demands_rules.specs.ServoPlace.{Stands, Executed, Homed}

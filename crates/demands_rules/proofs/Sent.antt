@@ -52,7 +52,8 @@ use Rattle.servo_rules.proofs.Meeting.{distinct as halts-differ}
 use Rattle.servo_rules.proofs.Ticking.{ticks}
 use Rattle.servo_rules.proofs.FindingHome.{homing_ticks, Meeting, ran, ended, stands as Stands-by, slows, meeting}
 use Rattle.servo_slot_rules.specs.Promises.{Fits}
-use Rattle.servo_slot_rules.proofs.Good.{InMode, good}
+use Rattle.servo_slot_rules.proofs.Modes.{InMode}
+use Rattle.servo_slot_rules.proofs.Good.{good}
 use Rattle.types_rules.specs.Table.{servo}
 use Rattle.types_rules.specs.Types.{kind, slots}
 use Rattle.types_rules.proofs.Promised.{every_type}

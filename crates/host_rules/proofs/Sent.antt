@@ -10,7 +10,7 @@ use Rattle.line_receiver.specs.Receive.{sum8}
 use Rattle.line_receiver.specs.Frames.{written}
 use Rattle.line_receiver.proofs.Read.{read}
 use Rattle.host_rules.specs.Promises.{Writer, Sent}
-use Rattle.host_rules.proofs.Table.{table}
+use Rattle.host_rules.proofs.ByTable.{table}
 
 -- a frame has four bytes more than its data, and stands at the room's start
 frame_long : (a c : ℕ) (ds : List ℕ) → length (written a c ds) ≡ length ds + 4

@@ -19,7 +19,7 @@ use Rattle.types_rules.specs.Promises.{ThereIs}
 use Rattle.types_rules.proofs.Promised.{numbers}
 use Rattle.host_rules.specs.Reading.{needed_for, summed, reading_of, refusal, status_of}
 use Rattle.host_rules.specs.Writing.{unfit, cramped, written_of, room_after}
-use Rattle.host_rules.specs.Promises.{Exactly, Reader, Fits, Over, Writer, Table}
+use Rattle.host_rules.specs.Promises.{Exactly, Reader, Fits, Over, Writer}
 use Rattle.host_rules.proofs.Tests.{or-true, fit}
 
 -- one equivalence after another, and two or three side by side
@@ -129,7 +129,7 @@ module _ (r : Reading) where
   empty false false true h = refl
   empty false false false h = absurd (h refl)
 
-reader : (kind items : ℕ) (reply : List ℕ) → Reader kind items reply
+pub reader : (kind items : ℕ) (reply : List ℕ) → Reader kind items reply
 unfolding status_of summed
 reader kind items reply =
     let r : Reading = reading_of items (sizes_of kind) reply in
@@ -180,7 +180,7 @@ module _ (n : ℕ) (before after : List ℕ) where
   kept false true h = (refl, refl)
   kept false false h = absurd (h refl)
 
-writer : (address code : ℕ) (ds room : List ℕ) → Writer address code ds room
+pub writer : (address code : ℕ) (ds room : List ℕ) → Writer address code ds room
 unfolding written_of room_after
 writer address code ds room =
     let n : ℕ = length ds + 4 in
@@ -194,6 +194,3 @@ writer address code ds room =
       wrote = put n room after a b;
       untouched = kept n room after a b;
     }
-
-pub table : Table
-table = (reader, writer)

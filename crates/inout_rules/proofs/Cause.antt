@@ -14,7 +14,7 @@ use Rattle.module_rules.specs.declared.Asked.TheVariants as Both
 use Rattle.module_rules.specs.Commands.{asked}
 use Rattle.module_rules.specs.Rules as Any
 use Rattle.module_rules.specs.Promises.{is_unknown, is_miscounted, is_out_of_range, is_not_now}
-use Rattle.module_rules.proofs.Settled.{cause-tested}
+use Rattle.module_rules.proofs.Tested.{cause-tested}
 use Rattle.module_rules.proofs.Replies as Every
 use Rattle.inout_rules.specs.declared.Io.{Io}
 use Rattle.inout_rules.specs.declared.Command.{Command}

@@ -2,7 +2,7 @@
 use mathlib.Core.Path.{◌≡◌, refl, ap, ap₂, ◌∙◌}
 use mathlib.Core.Logic.{◌⊎◌, inl, inr, ⊎_elim, ◌↔◌}
 use mathlib.Core.List.{List, [], ◌∷◌}
-use mathlib.Core.Bool.{Bool, true, false, cond, ◌||◌, false≢true}
+use mathlib.Core.Bool.{Bool, true, false, ◌||◌, false≢true}
 use Prim.Native.Nat.{ℕ, ◌+◌, ◌%◌}
 use native.Mathlib.Omega.{arith}
 use borrow.Author.Tests.{eqb-true, eq-eqb, ne_eqb, lt-ltb, le-ltb}
@@ -21,6 +21,7 @@ use Rattle.module_rules.specs.Promises.{Apart}
 use Rattle.module_rules.specs.FramePromises.{PowersUp, Concerned, Replying, undamaged, Becomes, Stored, Counts}
 use Rattle.module_rules.proofs.Settled.{settles}
 use Rattle.module_rules.proofs.Speaking.{speaks_before}
+use Rattle.module_rules.proofs.ItemAsks.{define_asks, read_asks}
 
 pub powers_up : PowersUp
 powers_up = record { individual = refl; group = refl; leader = refl; low = refl; cause = refl; items = refl; baud = refl }
@@ -73,19 +74,10 @@ module _ {M S C : Type 0} (T : Rules M S C) (p : Apart T) where
       → Becomes T m (execute T (undamaged to code ds) alone m) (caused (fault_cause x) (T.station m))
   unread x to code ds alone m q = becomes (settles T (undamaged to code ds) alone m refl q)
 
-  -- what Define Status and Read Status ask, by whether there is such an item byte
-  define_asks : (to b : ℕ) (alone t : Bool) → T.shows b ≡ t → request T (undamaged to 2 (b ∷ [])) alone ≡ cond t (set (Define b)) (malformed Value)
-  unfolding request asked
-  define_asks to b alone t e = rw e refl
-
-  read_asks : (to b : ℕ) (alone t : Bool) → T.shows b ≡ t → request T (undamaged to 3 (b ∷ [])) alone ≡ cond t (set Nothing) (malformed Value)
-  unfolding request asked
-  read_asks to b alone t e = rw e refl
-
   not_shown : (to b code : ℕ) (alone : Bool) (m : M) → (code ≡ 2) ⊎ (code ≡ 3) → T.shows b ≡ false
       → Becomes T m (execute T (undamaged to code (b ∷ [])) alone m) (caused 5 (T.station m))
-  not_shown to b code alone m (inl c) e = unread Value to code (b ∷ []) alone m (rw c (define_asks to b alone false e))
-  not_shown to b code alone m (inr c) e = unread Value to code (b ∷ []) alone m (rw c (read_asks to b alone false e))
+  not_shown to b code alone m (inl c) e = unread Value to code (b ∷ []) alone m (rw c (define_asks T to b alone false e))
+  not_shown to b code alone m (inr c) e = unread Value to code (b ∷ []) alone m (rw c (read_asks T to b alone false e))
 
   pub stored : Stored T
   unfolding execute request asked
@@ -96,10 +88,10 @@ module _ {M S C : Type 0} (T : Rules M S C) (p : Apart T) where
     member = λ a b h l.
         let g : 128 + b % 128 ≡ b = omega arith in
         becomes (addressed a b m _ (ap₂ (λ (g : ℕ) (t : Bool). record { individual = a; group = g; leader = t; low = true }) g (le-ltb b 128 h)));
-    items = λ b g. becomes (settles T (undamaged to 2 (b ∷ [])) alone m refl (define_asks to b alone true g) ∙ set-once (Define b) m);
+    items = λ b g. becomes (settles T (undamaged to 2 (b ∷ [])) alone m refl (define_asks T to b alone true g) ∙ set-once (Define b) m);
     baud = λ b. becomes (set-once (Rate b) m);
     not_alone = λ ds. becomes refl;
-    read_status = λ b g. becomes (settles T (undamaged to 3 (b ∷ [])) alone m refl (read_asks to b alone true g) ∙ set-once Nothing m);
+    read_status = λ b g. becomes (settles T (undamaged to 3 (b ∷ [])) alone m refl (read_asks T to b alone true g) ∙ set-once Nothing m);
     not_shown = λ b code c g. not_shown to b code alone m c g;
     no_op = becomes (set-once Nothing m);
   }

@@ -5,9 +5,12 @@ pub mod Speaking
 pub mod Slotted
 pub mod Slotting
 pub mod Settled
+pub mod Tested
 pub mod Replies
 pub mod Kept
 pub mod Touching
+pub mod OlderNumbers
 pub mod Numbering
 pub mod Reporting
+pub mod ItemAsks
 pub mod Frames

@@ -1,9 +1,7 @@
 -- Nothing but the number of a cause differs from document 01's numbering. Assumes nothing.
 use mathlib.Core.Path.{◌≡◌, refl, sym, ap, ◌∙◌}
-use mathlib.Core.Bool.{Bool, true, false, cond, ◌||◌}
+use mathlib.Core.Bool.{Bool, true, false, cond}
 use Prim.Native.Nat.{ℕ}
-use lib.Dec.{eqb}
-use borrow.Author.Tests.{eqb-true}
 use Rattle.line_receiver.specs.Frames.{Frame}
 use Rattle.module_rules.specs.declared.Station.{Station}
 use Rattle.module_rules.specs.declared.Setting.{Setting}
@@ -15,15 +13,7 @@ use Rattle.module_rules.specs.Report.{reply_of}
 use Rattle.module_rules.specs.Rules.{Request, malformed, set, reset, wants, fault_cause, Rules, with_cause, request, settled, execute, reply}
 use Rattle.module_rules.specs.Promises.{Apart, Unseen}
 use Rattle.module_rules.specs.Numbering.{older_number, as_older, older_settled, Renumbered}
-
--- document 01's number is 0 where the cause is
-zero_alike : (c : ℕ) → eqb (older_number c) 0 ≡ eqb c 0
-zero_alike c = go (eqb c 4) (eqb c 5) refl refl
-  where
-    go : (a b : Bool) → eqb c 4 ≡ a → eqb c 5 ≡ b → eqb (cond (a || b) 2 c) 0 ≡ eqb c 0
-    go true b p q = rw (eqb-true c 4 p) refl
-    go false true p q = rw (eqb-true c 5 q) refl
-    go false false p q = refl
+use Rattle.module_rules.proofs.OlderNumbers.{zero_alike}
 
 fault_older : (x : Fault) → older_number (fault_cause x) ≡ 2
 fault_older Unknown = refl

@@ -13,7 +13,8 @@ use Rattle.module_rules.specs.Report.{report, reply_of}
 use Rattle.module_rules.specs.Rules.{reset, Rules, joined, request, execute, reply}
 use Rattle.module_rules.specs.Promises.{Apart, is_out_of_range, ReadShown, Resets, StatusFirst, Replied, Short}
 use Rattle.module_rules.proofs.Short.{reply_short}
-use Rattle.module_rules.proofs.Settled.{cause, cause-tested}
+use Rattle.module_rules.proofs.Settled.{cause}
+use Rattle.module_rules.proofs.Tested.{cause-tested}
 
 module _ {M S C : Type 0} (T : Rules M S C) where
   pub status_first : StatusFirst T

@@ -2,25 +2,22 @@
 use mathlib.Core.Path.{◌≡◌, refl, sym, ap, ap₂, ◌∙◌}
 use mathlib.Core.Logic.{◌⊎◌, inl, inr}
 use mathlib.Core.List.{List}
-use mathlib.Core.Bool.{Bool, true, false, cond, not}
+use mathlib.Core.Bool.{Bool, true, false, cond}
 use Prim.Native.Nat.{ℕ, ◌≤◌}
 use native.Mathlib.Omega.{arith}
 use borrow.Author.Tests.{eqb-true}
 use lib.ListN.{length, get_or}
 use lib.Dec.{eqb}
-use Rattle.base_layout.specs.First.{Line, first, Numbered}
-use Rattle.base_layout.proofs.First.{exactly}
 use Rattle.line_receiver.specs.Frames.{Frame}
 use Rattle.module_rules.specs.declared.Station.{Station}
 use Rattle.module_rules.specs.declared.Setting.{Setting}
 use Rattle.module_rules.specs.declared.Setting.TheVariants.{Assign, Define, Rate, Nothing}
 use Rattle.module_rules.specs.declared.Asked.{Asked}
-use Rattle.module_rules.specs.declared.Asked.TheVariants as Both
 use Rattle.module_rules.specs.declared.Fault.{Fault}
 use Rattle.module_rules.specs.declared.Fault.TheVariants.{Unknown, Count, Value}
 use Rattle.module_rules.specs.Commands.{asked, applied, caused}
-use Rattle.module_rules.specs.Rules.{Request, malformed, set, reset, wants, Meaning, unknown, takes, fault_cause, judged, Rules, owned, joined, with_cause, meaning, request, settled, execute}
-use Rattle.module_rules.specs.Promises.{Apart, Cause, is_unknown, is_miscounted, is_out_of_range, is_not_now, cause_table, CauseTested, CauseIs, AddressKept}
+use Rattle.module_rules.specs.Rules.{Request, malformed, set, reset, wants, Meaning, unknown, takes, fault_cause, judged, Rules, owned, joined, with_cause, request, settled, execute}
+use Rattle.module_rules.specs.Promises.{Apart, Cause, CauseIs, AddressKept}
 
 -- of one or the other, by a test
 pub pick : {A : Type 0} (P : A → Type 0) (t : Bool) (q r : A) → (t ≡ true → P q) → P r → P (cond t q r)
@@ -72,29 +69,6 @@ fault_small Unknown = omega arith
 fault_small Count = omega arith
 fault_small Value = omega arith
 
--- no meaning has a fault in it
-abbrev Sound : {C : Type 0} → Request C → Type 0
-Sound (malformed x) = ⊥
-Sound (set s) = Unit {0}
-Sound reset = Unit {0}
-Sound (wants c) = Unit {0}
-
-module _ {C : Type 0} where
-  abbrev AllSound : Meaning (Request C) → Type 0
-  AllSound unknown = Unit {0}
-  AllSound (takes n good q) = Sound q
-
-  owned-sound : (u : Meaning C) → AllSound (owned u)
-  owned-sound unknown = tt
-  owned-sound (takes n good c) = tt
-
-  joined-sound : (shows : ℕ → Bool) (a : Asked) (u : Meaning C) → AllSound (joined shows a u)
-  joined-sound shows Both.Other u = owned-sound u
-  joined-sound shows Both.Unknown u = tt
-  joined-sound shows (Both.Wants n s) u = tt
-  joined-sound shows (Both.Chooses b s) u = tt
-  joined-sound shows (Both.Reset n) u = tt
-
 module _ {M S C : Type 0} (T : Rules M S C) where
   -- what holds of every request that a frame can make holds of the one that it makes
   pub asks : (P : Request C → Type 0) (f : Frame) (alone : Bool)
@@ -104,7 +78,7 @@ module _ {M S C : Type 0} (T : Rules M S C) where
   asks P f alone e = joined-asks P f.content T.shows f.code (T.own f.code f.content) e alone
 
   -- a frame that is damaged or not, and what it asks
-  abbrev after : Bool → Request C → M → M
+  abbrev pub after : Bool → Request C → M → M
   after d q m = cond d (with_cause T 1 m) (settled T q m)
 
   -- a frame that is not damaged is settled by what it asks
@@ -113,7 +87,7 @@ module _ {M S C : Type 0} (T : Rules M S C) where
   settles f alone m e g = ap₂ (λ (d : Bool) (q : Request C). after d q m) e g
 
   module _ (a : Apart T) where
-    causes : (c : ℕ) (m : M) → (T.station (with_cause T c m)).cause ≡ c
+    pub causes : (c : ℕ) (m : M) → (T.station (with_cause T c m)).cause ≡ c
     causes c m = ap (λ (s : Station). s.cause) (a.put (caused c (T.station m)) m)
 
     -- a module that differs in its cause alone
@@ -162,56 +136,6 @@ module _ {M S C : Type 0} (T : Rules M S C) where
     pub cause_is : CauseIs T
     unfolding execute
     cause_is f alone m = all_small f.damaged (request T f alone) m
-
-    -- ---- the tests in their order
-
-    -- what the tests of a meaning give
-    abbrev found : List ℕ → Meaning (Request C) → M → ℕ
-    found ds u m =
-        cond (is_unknown T u) 4 (cond (is_miscounted T ds u) 2 (cond (is_out_of_range T u) 5 (cond (is_not_now T m u) 3 0)))
-
-    can-found : (c : C) (m : M) (t : Bool)
-        → (T.station (cond t (with_cause T 0 (T.perform c m)) (with_cause T 3 m))).cause ≡ cond (not t) 3 0
-    can-found c m true = causes 0 _
-    can-found c m false = causes 3 m
-
-    good-found : (n : ℕ) (q : Request C) (m : M) → Sound q → (T.station (settled T q m)).cause ≡ cond (is_not_now T m (takes n true q)) 3 0
-    good-found n (malformed x) m o = absurd o
-    good-found n (set s) m o = causes 0 _
-    good-found n reset m o = causes 0 _
-    good-found n (wants c) m o = can-found c m (T.can c m)
-
-    counted-found : (n : ℕ) (t good : Bool) (q : Request C) (m : M) → Sound q
-        → (T.station (settled T (cond t (cond good q (malformed Value)) (malformed Count)) m)).cause
-        ≡ cond (not t) 2 (cond (not good) 5 (cond (is_not_now T m (takes n good q)) 3 0))
-    counted-found n false good q m o = causes 2 m
-    counted-found n true false q m o = causes 5 m
-    counted-found n true true q m o = good-found n q m o
-
-    judged-found : (ds : List ℕ) (u : Meaning (Request C)) (m : M) → AllSound u → (T.station (settled T (judged ds u) m)).cause ≡ found ds u m
-    judged-found ds unknown m o = causes 4 m
-    judged-found ds (takes n good q) m o = counted-found n (eqb (length ds) n) good q m o
-
-    all_found : (d : Bool) (ds : List ℕ) (u : Meaning (Request C)) (m : M) → AllSound u
-        → (T.station (after d (judged ds u) m)).cause ≡ cond d 1 (found ds u m)
-    all_found true ds u m o = causes 1 m
-    all_found false ds u m o = judged-found ds u m o
-
-    pub cause-tested : CauseTested T
-    unfolding execute request
-    cause-tested f alone m =
-        let table : List Line = cause_table T f alone m in
-        let own = T.own f.code f.content in
-        let is : (T.station (execute T f alone m)).cause ≡ first table =
-        all_found f.damaged f.content (meaning T f alone) m (joined-sound T.shows (asked f.code alone f.content) own) in
-        let numbered : Numbered table = (omega arith, (omega arith, (omega arith, (omega arith, (omega arith, tt))))) in
-        let x = exactly table numbered in
-        record {
-          order = (refl, numbered);
-          first = is;
-          each = λ n z. (λ e. (x.0 n z).0 (sym is ∙ e), λ g. is ∙ (x.0 n z).1 g);
-          none = (λ e. x.1.0 (sym is ∙ e), λ g. is ∙ x.1.1 g);
-        }
 
     -- ---- who a module is
 

@@ -21,7 +21,8 @@ use Rattle.line_receiver.specs.Promises.{Sound}
 use Rattle.line_receiver.proofs.Ending.{most_end}
 use Rattle.module_rules.specs.Owes.{reply_size}
 use Rattle.chain_rules.specs.Chain.{Net, Outcome, join, flat, byte_step, taking}
-use Rattle.chain_rules.proofs.Taking.{flat_append, step-few, few-within}
+use Rattle.chain_rules.proofs.Taking.{flat_append}
+use Rattle.chain_rules.proofs.FewReplies.{step-few, few-within}
 use Rattle.types_rules.specs.Types.{Module, kind, slots}
 use Rattle.types_rules.proofs.Laws.{lawful, said_short}
 use Rattle.net_rules.specs.declared.Called.{Called}

@@ -1,4 +1,5 @@
 pub mod Held
+mod Limits
 pub mod Limiting
 pub mod Sizes
 mod Telling

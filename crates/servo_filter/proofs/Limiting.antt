@@ -12,6 +12,7 @@ use Rattle.servo_filter.specs.declared.Limited.{Limited}
 use Rattle.servo_filter.specs.declared.Limited.TheVariants.{Plain, Above, Below}
 use Rattle.servo_filter.specs.Filter.{held, limited, Means}
 use Rattle.servo_filter.specs.Promises.{Cuts}
+use Rattle.servo_filter.proofs.Limits.{not_over, not_under, cut-above}
 use Rattle.servo_filter.proofs.Held.{held_between, held_low, held_high}
 
 -- within the limit, above it or below it: what is held and what is told
@@ -21,23 +22,13 @@ pub data Lies (n : ℕ) (z : ℤ) : Type 0 where
   below : n < nat_abs z → z ≡ neg_ℤ (pos (nat_abs z)) → held n z ≡ neg_ℤ (pos n) → limited n z ≡ Below (neg_ℤ (pos n)) → Lies n z
 
 module _ (n : ℕ) (z : ℤ) where
-  not_over : up z ≤ n → lt_z (pos n) z ≡ false
-  not_over h = parts_ge (pos n) z (omega arith)
-
-  not_under : down z ≤ n → lt_z z (neg_ℤ (pos n)) ≡ false
-  not_under h = parts_ge z (neg_ℤ (pos n)) (omega (arith, parts_neg (pos n)))
-
   plain : up z ≤ n → down z ≤ n → limited n z ≡ Plain z
   unfolding limited
-  plain h k = simp (not_over h, not_under k)
-
-  cut-above : n + down z < up z → limited n z ≡ Above (pos n)
-  unfolding limited
-  cut-above h = simp (parts_lt (pos n) z (omega arith))
+  plain h k = simp (not_over n z h, not_under n z k)
 
   cut_below : n + up z < down z → up z ≤ n → limited n z ≡ Below (neg_ℤ (pos n))
   unfolding limited
-  cut_below h k = simp (not_over k, parts_lt z (neg_ℤ (pos n)) (omega (arith, parts_neg (pos n))))
+  cut_below h k = simp (not_over n z k, parts_lt z (neg_ℤ (pos n)) (omega (arith, parts_neg (pos n))))
 
   kept : up z ≤ n → down z ≤ n → held n z ≡ z
   kept h k = held_between n z (parts_le z (pos n) (omega arith)) (parts_le (neg_ℤ (pos n)) z (omega (arith, parts_neg (pos n))))

@@ -1,11 +1,10 @@
--- ClosedForm and Longest: the stopping sum in closed form. Assumes nothing.
+-- ClosedForm: the stopping sum in closed form. Assumes nothing.
 use mathlib.Core.Path.{◌≡◌, refl, ap, ◌∙◌}
 use Prim.Native.Nat.{ℕ, zero, suc, ◌+◌, ◌-◌, ◌*◌, ◌/◌, ◌≤◌, ◌<◌}
 use native.Mathlib.Nat.{zero-mul, mul-zero, suc-mul, mul-suc, mul-add, mul_comm, le_of_suc-le-suc, div-add-mod', mod-lt, div-mul-le_self, div-lt_iff_lt-mul, le-mul_of_pos_right}
 use native.Mathlib.Omega.{arith}
 use Rattle.servo_motion.specs.Trapezoid.{stop}
-use Rattle.servo_motion.specs.Profile.{fastest}
-use Rattle.servo_motion.specs.Quick.{braking_ticks, ClosedForm, Longest}
+use Rattle.servo_motion.specs.Quick.{braking_ticks, ClosedForm}
 use Rattle.servo_motion.proofs.Stopping.{stop_zero, stop_step}
 
 -- 0 + 1 + .. + (k - 1)
@@ -54,9 +53,6 @@ closed_form w a h =
     let k : ℕ = braking_ticks w a in
     let t : k * (k - 1) / 2 ≡ up_to k = omega (arith, twice k) in
     rw t (closed k w a h (one_less k w a h (div-mul-le_self (w + (a - 1)) a)) (above w a h))
-
-pub longest : Longest
-longest = (refl, omega (arith, closed_form fastest 1 (omega arith)))
 
 -- no more ticks than 65,536ths of speed
 pub ticks_most : (w a : ℕ) → 0 < a → braking_ticks w a ≤ w

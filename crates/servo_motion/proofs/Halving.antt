@@ -1,5 +1,5 @@
--- Halving, StoppingStays and Quickly: a search by halves finds the greatest. Assumes nothing.
-use mathlib.Core.Path.{◌≡◌, refl, sym, ◌∙◌, subst}
+-- StoppingStays, and what one halving of a search leaves. Assumes nothing.
+use mathlib.Core.Path.{◌≡◌, sym, ◌∙◌, subst}
 use mathlib.Core.Logic.{inl, inr}
 use mathlib.Core.Bool.{Bool, true, false, cond}
 use Prim.Native.Nat.{ℕ, zero, suc, ◌+◌, ◌-◌, ◌/◌, ◌^◌, ◌≤◌, ◌<◌, min}
@@ -8,10 +8,10 @@ use native.Mathlib.Decide.{dec_le}
 use native.Mathlib.Omega.{arith}
 use borrow.Author.Tests.{leb-true, leb-false, lt-leb}
 use lib.Dec.{T, leb}
-use Rattle.servo_motion.specs.Trapezoid.{stop, greatest, next_speed}
+use Rattle.servo_motion.specs.Trapezoid.{stop, greatest}
 use Rattle.servo_motion.specs.Profile.{fastest}
-use Rattle.servo_motion.specs.Quick.{middle, halved, StaysFailed, Halving, StoppingStays, Quickly}
-use Rattle.servo_motion.proofs.Stopping.{stop_mono, within}
+use Rattle.servo_motion.specs.Quick.{middle, halved, StaysFailed, StoppingStays}
+use Rattle.servo_motion.proofs.Stopping.{stop_mono}
 use Rattle.servo_motion.proofs.Search.{Fit, greatest_is, greatest_low, greatest-found}
 
 module _ (ok : ℕ → Bool) (lo hi : ℕ) (h : lo < hi) where
@@ -48,7 +48,7 @@ module _ (ok : ℕ → Bool) (lo hi : ℕ) (h : lo < hi) where
 
 module _ (ok : ℕ → Bool) (f : StaysFailed ok) where
   -- what one halving leaves, and what the others make of it
-  one_half : (n lo hi : ℕ) → hi - lo < 2 ^ suc n → ((l u : ℕ) → u - l < 2 ^ n → halved n ok l u ≡ greatest ok l u) → (s t : Bool) → leb hi lo ≡ s
+  pub one_half : (n lo hi : ℕ) → hi - lo < 2 ^ suc n → ((l u : ℕ) → u - l < 2 ^ n → halved n ok l u ≡ greatest ok l u) → (s t : Bool) → leb hi lo ≡ s
       → ok (middle lo hi) ≡ t
       → cond s lo (cond t (halved n ok (middle lo hi) hi) (halved n ok lo (middle lo hi - 1))) ≡ greatest ok lo hi
   one_half n lo hi l rest true t e k = sym (greatest_low ok lo hi (leb-true hi lo e))
@@ -58,22 +58,10 @@ module _ (ok : ℕ → Bool) (f : StaysFailed ok) where
       let h = leb-false hi lo e in
       rest lo (middle lo hi - 1) (omega arith) ∙ sym (lower ok lo hi h f k)
 
-  halves : (n lo hi : ℕ) → hi - lo < 2 ^ n → halved n ok lo hi ≡ greatest ok lo hi
-  unfolding halved
-  halves zero lo hi l = sym (greatest_low ok lo hi (omega arith))
-  halves (suc n) lo hi l = one_half n lo hi l (halves n) (leb hi lo) (ok (middle lo hi)) refl refl
-
-pub halving : Halving
-halving ok f = halves ok f
-
 pub stopping_stays : StoppingStays
 stopping_stays a d h x y l e =
     let k = leb-false (stop x a) d e in
     lt-leb (stop y a) d (omega (arith, stop_mono x y a h l))
-
-pub quickly : Quickly
-unfolding next_speed
-quickly a top d v h l = sym (halving (within a d) (stopping_stays a d h) 27 (v - a) (min (v + a) top) (omega arith))
 
 -- how many halvings are left until no number stands above the lowest, of n that do; f is the most that are counted
 unfoldable pub rounds : ℕ → ℕ → ℕ

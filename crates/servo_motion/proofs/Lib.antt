@@ -1,7 +1,9 @@
 pub mod Stopping
 pub mod Search
 pub mod Closed
+pub mod LongestStop
 pub mod Halving
+pub mod Quick
 pub mod Speeds
 pub mod Velocity
 pub mod Apart

@@ -31,7 +31,8 @@ use Rattle.servo_rules.specs.StopPromises.{Released, Counted}
 use Rattle.servo_rules.specs.HomingPromises.{Acts, HeldHere}
 use Rattle.servo_rules.specs.RestPromises.{Rests, Resting, StaysResting, TurnsOn, StaysOff}
 use Rattle.servo_rules.proofs.Keeping.{by_test, either, distinct, off_released, halted_released}
-use Rattle.servo_rules.proofs.Meeting.{here, before, not_here, met_runs, by_power_lem, abrupt_or_not, met_released}
+use Rattle.servo_rules.proofs.Meeting.{here, before, not_here, met_runs, by_power_lem, abrupt_or_not}
+use Rattle.servo_rules.proofs.MeetingKeeps.{met_released}
 use Rattle.servo_rules.proofs.FindingHome.{abrupt_runs, homing_ticks}
 use Rattle.servo_rules.proofs.Known.{Known, known, BitOf, halt_bits, halt_bits_lem}
 use Rattle.servo_rules.proofs.Apart.{apart}

@@ -21,7 +21,7 @@ use Rattle.servo_rules.specs.TickPromises.{Between, Silent, DrivenOnly}
 use Rattle.servo_rules.specs.CutPromises.{Uncut, CutBit}
 use Rattle.servo_rules.proofs.Keeping.{either, Undriven, still, not_off, distinct, started_keeps, halted_keeps}
 use Rattle.servo_rules.proofs.Framed.{leaves}
-use Rattle.servo_rules.proofs.Meeting.{met_undriven}
+use Rattle.servo_rules.proofs.MeetingKeeps.{met_undriven}
 use Rattle.servo_rules.proofs.Ends.{tick_ends}
 use Rattle.servo_rules.proofs.Ticking.{met-silent, ticks}
 

@@ -35,7 +35,7 @@ use Rattle.servo_rules.proofs.Known.{Known, known}
 use Rattle.servo_rules.proofs.Coding.{codes}
 use Rattle.servo_rules.proofs.Apart.{apart}
 use Rattle.servo_rules.proofs.Framed.{leaves}
-use Rattle.servo_rules.proofs.Meeting.{met_error, met_amplifier}
+use Rattle.servo_rules.proofs.MeetingKeeps.{met_error, met_amplifier}
 use Rattle.servo_rules.proofs.Ends.{answer, tick_ends}
 use Rattle.servo_rules.proofs.Ticking.{ticks}
 use Rattle.servo_rules.proofs.Shown.{enabled}

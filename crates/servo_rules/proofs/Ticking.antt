@@ -21,7 +21,8 @@ use Rattle.servo_rules.specs.Tick.{advanced, put_out, tripped, worked_to, filter
 use Rattle.servo_rules.specs.StopPromises.{Released}
 use Rattle.servo_rules.specs.TickPromises.{followed, reaching, worked, Winds, Runs, Ticks}
 use Rattle.servo_rules.proofs.Keeping.{Undriven, off_released}
-use Rattle.servo_rules.proofs.Meeting.{latched_with, met_is, tick_is, by_power_lem, met_released, met_undriven}
+use Rattle.servo_rules.proofs.Meeting.{latched_with, met_is, tick_is, by_power_lem}
+use Rattle.servo_rules.proofs.MeetingKeeps.{met_released, met_undriven}
 use Rattle.servo_rules.proofs.Ends.{answer, tick_ends}
 
 pub tripped_released : (r : Run) → Released (tripped (advanced r) r) × ((tripped (advanced r) r).drive.error ≡ true)

@@ -1,3 +1,4 @@
+pub mod Modes
 pub mod Good
 pub mod Replaced
 pub mod Starts

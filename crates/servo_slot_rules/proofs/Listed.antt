@@ -19,7 +19,8 @@ use Rattle.servo_rules.specs.Homing.{good_byte}
 use Rattle.servo_slot_rules.specs.List.{homing_fits}
 use Rattle.servo_slot_rules.specs.Slot.{slot, decode_of, ok_of}
 use Rattle.servo_slot_rules.specs.Promises.{Fits, Lines, Listed}
-use Rattle.servo_slot_rules.proofs.Good.{Live, InMode, rates-good, good}
+use Rattle.servo_slot_rules.proofs.Modes.{Live, InMode}
+use Rattle.servo_slot_rules.proofs.Good.{rates-good, good}
 use Rattle.servo_slot_rules.proofs.Ticks.{gains-ranged}
 use Rattle.servo_slot_rules.proofs.Passed.{passed}
 

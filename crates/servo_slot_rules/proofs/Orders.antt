@@ -31,7 +31,8 @@ use Rattle.servo_rules.proofs.Keeping.{either}
 use Rattle.servo_rules.proofs.Shifting.{resets_position}
 use Rattle.servo_slot_rules.specs.List.{homing_fits}
 use Rattle.servo_slot_rules.specs.Slot.{gains, settings}
-use Rattle.servo_slot_rules.proofs.Good.{Live, InMode, Sane, Good}
+use Rattle.servo_slot_rules.proofs.Modes.{Live, InMode}
+use Rattle.servo_slot_rules.proofs.Good.{Sane, Good}
 use Rattle.servo_slot_rules.proofs.Replaced.{counts-good, settings-good, run-good, homing-good, dropped_fits, blank_kept, resting-ranged, off_sane, ready-live}
 use Rattle.servo_slot_rules.proofs.Starts.{to_speed_sane}
 

@@ -20,7 +20,8 @@ use Rattle.servo_slot_rules.specs.List.{homing_fits, sound}
 use Rattle.servo_slot_rules.specs.Slot.{mode_byte, slot, decode_of, ok_of}
 use Rattle.servo_slot_rules.specs.Parts.{front_tests, load_tests, run_tests}
 use Rattle.servo_slot_rules.specs.Promises.{Lines}
-use Rattle.servo_slot_rules.proofs.Good.{Live, InMode, rates_fit_lem, memory_fits_lem, drive_fits_lem, sound_fits}
+use Rattle.servo_slot_rules.proofs.Modes.{Live, InMode}
+use Rattle.servo_slot_rules.proofs.Good.{rates_fit_lem, memory_fits_lem, drive_fits_lem, sound_fits}
 
 -- the facts of a list of tests, one after another
 infixr 40 ◌and◌

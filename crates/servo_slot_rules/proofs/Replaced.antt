@@ -25,7 +25,8 @@ use Rattle.servo_rules.specs.State.{powered, ready, no_load, no_settings, no_run
 use Rattle.servo_rules.specs.Homing.{home_at}
 use Rattle.servo_slot_rules.specs.List.{homing_fits}
 use Rattle.servo_slot_rules.specs.Slot.{sample, counts, load, settings, homing}
-use Rattle.servo_slot_rules.proofs.Good.{Idle, Live, InMode, Sane, Good, rates_fit_lem}
+use Rattle.servo_slot_rules.proofs.Modes.{Idle, Live, InMode}
+use Rattle.servo_slot_rules.proofs.Good.{Sane, Good, rates_fit_lem}
 
 module _ {m : Servo} (g : Good m) where
   pub station-good : (s : Station) → station.codec.fits s → Good (with_station s m)

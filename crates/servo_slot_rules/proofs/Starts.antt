@@ -34,7 +34,8 @@ use Rattle.servo_rules.proofs.Signs.{signed_size}
 use Rattle.servo_rules.proofs.Keeping.{either}
 use Rattle.servo_rules.proofs.Ranges.{beginning_small}
 use Rattle.servo_slot_rules.proofs.Good as Fit
-use Rattle.servo_slot_rules.proofs.Good.{Rated, Live, Sane, Good, rates_fit_lem}
+use Rattle.servo_slot_rules.proofs.Modes.{Live}
+use Rattle.servo_slot_rules.proofs.Good.{Rated, Sane, Good, rates_fit_lem}
 use Rattle.servo_slot_rules.proofs.Replaced.{settings-good, run-good, dropped_fits, idle, idled_sane, ready-live}
 
 -- ---- starts

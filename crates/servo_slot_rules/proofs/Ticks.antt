@@ -31,7 +31,8 @@ use Rattle.servo_rules.proofs.Meeting.{here as place, before, not_here, meets, t
 use Rattle.servo_rules.proofs.Ticking.{low_off}
 use Rattle.servo_rules.proofs.Ranges.{advanced-ranged}
 use Rattle.servo_slot_rules.specs.Slot.{sample, gains, load, homing}
-use Rattle.servo_slot_rules.proofs.Good.{InMode, Sane, Good}
+use Rattle.servo_slot_rules.proofs.Modes.{InMode}
+use Rattle.servo_slot_rules.proofs.Good.{Sane, Good}
 use Rattle.servo_slot_rules.proofs.Replaced.{no_load_fits, home_fits, off_sane, ready-live}
 use Rattle.servo_slot_rules.proofs.Orders.{holding_sane, smooth_sane}
 

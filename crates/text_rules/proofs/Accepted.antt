@@ -1,21 +1,20 @@
 -- The reader takes just the texts of the grammar, for the bytes that they are. Assumes nothing.
-use mathlib.Core.Path.{◌≡◌, refl, sym, ap, ap₂, subst, ◌∙◌}
-use mathlib.Core.List.{List, [], ◌∷◌, ◌++◌, append_assoc, append-nil}
-use mathlib.Core.Bool.{Bool, true, false, cond, ◌&&◌}
-use mathlib.Core.Logic.{◌↔◌}
-use Prim.Native.Nat.{ℕ, suc, ◌+◌, ◌*◌, ◌<◌, ◌≤◌}
+use mathlib.Core.Path.{◌≡◌, refl, sym, ap, subst, ◌∙◌}
+use mathlib.Core.List.{List, [], ◌∷◌, ◌++◌, append_assoc}
+use mathlib.Core.Bool.{Bool, true, false}
+use Prim.Native.Nat.{ℕ, suc, ◌+◌, ◌*◌}
 use native.Mathlib.Omega.{arith}
-use borrow.Author.Tests.{lt-ltb, eq-eqb, eqb-true, ltb-true}
+use borrow.Author.Tests.{eq-eqb, eqb-true}
 use lib.ListN.{length}
-use lib.Dec.{eqb, ltb}
+use lib.Dec.{eqb}
 use Rattle.base_layout.proofs.Every.{every_hold}
 use Rattle.base_text.specs.Digits.{space, newline}
 use Rattle.line_receiver.specs.Frames.{Byte}
-use Rattle.text_rules.specs.Text.{bang, Hex, OneByte, plain, marked, OneLine, last, next, Text, empty, lines}
-use Rattle.text_rules.specs.Fold.{Brought, more, gives, cannot, Reading, onward, onward_with, still, goes_on, folded}
-use Rattle.text_rules.specs.Import.{Stage, Line, Space, Digit, Whole, Mark, value_of, step, read_from, read_text, may_end, is_text}
+use Rattle.text_rules.specs.Text.{bang, OneByte, plain, marked, OneLine, last, next, Text, empty, lines}
+use Rattle.text_rules.specs.Fold.{Brought, more, gives, cannot, Reading, goes_on, folded}
+use Rattle.text_rules.specs.Import.{Stage, Line, Space, Digit, Whole, Mark, step, read_from, read_text, may_end, is_text}
 use Rattle.text_rules.specs.Promises.{Accepts}
-use Rattle.text_rules.proofs.Hexed.{value_hex, hex_small, hex_value}
+use Rattle.text_rules.proofs.Steps.{Opens, line-opens, space-opens, digit-on, Left, Behind, lined_text, first-left, second_left, behind-left, mark_left}
 use Rattle.text_rules.proofs.Folding.{fold_by}
 
 -- from a stage on, all characters are taken, the text ends where it may, and has given these bytes
@@ -39,22 +38,6 @@ goes_gives s n c v m {t} e g =
     let f = fold_by step s c t e in
     let b : Byte = record { value = v; mark = m } in
     record { all = ap (λ (r : Reading Stage). r.count) f ∙ ap suc g.all; ends = ap (λ (r : Reading Stage). r.stage) f ∙ g.ends; same = ap (λ (r : Reading Stage). r.bytes) f ∙ ap (λ (l : List Byte). b ∷ l) g.same }
-
--- a byte's digits and its mark, where a byte begins
-abbrev Opens : Stage → Type 0
-Opens s = (c d : ℕ) → Hex c d → step s c ≡ more (Digit d)
-
-line-opens : Opens Line
-unfolding step
-line-opens c d h = rw (value_hex h, lt-ltb d 16 (hex_small h))
-
-space-opens : Opens Space
-unfolding step
-space-opens c d h = rw (value_hex h, lt-ltb d 16 (hex_small h))
-
-digit-on : (x c d : ℕ) → Hex c d → step (Digit x) c ≡ more (Whole (16 * x + d))
-unfolding step
-digit-on x c d h = rw (value_hex h, lt-ltb d 16 (hex_small h))
 
 -- a text's byte, and then the stage that what follows it begins at
 byte_goes : (s : Stage) → Opens s → (c : ℕ) (n : Stage) → ((v : ℕ) → step (Whole v) c ≡ gives (record { value = v; mark = false }) n) → step Mark c ≡ more n
@@ -83,89 +66,7 @@ pub text_goes : {t : List ℕ} {bs : List Byte} → Text t bs → Goes Line t bs
 text_goes empty = at_end
 text_goes (lines l t) = line_goes Line line-opens l (text_goes t)
 
--- And back. What can be left of a text by the grammar: behind a space, a line and a text;
-data Lined : List ℕ → List Byte → Type 0 where
-  lined : {t u : List ℕ} {bs cs : List Byte} → OneLine t bs → Text u cs → Lined (t ++ u) (bs ++ cs)
-
--- behind a byte, the line's end and a text, or a space and what is left there.
-data Parted : List ℕ → List Byte → Type 0 where
-  ended : {t : List ℕ} {bs : List Byte} → Text t bs → Parted (newline ∷ t) bs
-  spaced : {t : List ℕ} {bs : List Byte} → Lined t bs → Parted (space ∷ t) bs
-
-lined_text : {t : List ℕ} {bs : List Byte} → Lined t bs → Text t bs
-lined_text (lined l t) = lines l t
-
-lined_same : {t u : List ℕ} {bs : List Byte} → t ≡ u → Lined t bs → Lined u bs
-lined_same {t} {u} {bs} e l = subst (λ (x : List ℕ). Lined x bs) e l
-
--- a byte before what parts it from the next
-byte_lined : {t u : List ℕ} {b : Byte} {bs : List Byte} → OneByte t b → Parted u bs → Lined (t ++ u) (b ∷ bs)
-byte_lined {t} b (ended {t = u} x) = lined_same (append_assoc t (newline ∷ []) u) (lined (last b) x)
-byte_lined {t} b (spaced (lined {t = v} {u = w} l x)) = lined_same (append_assoc t (space ∷ v) w) (lined (next b l) x)
-
--- what is left where the reader stands at a stage
-abbrev Left : Stage → List ℕ → List Byte → Type 0
-Left Line t bs = Text t bs
-Left Space t bs = Lined t bs
-Left (Digit d) t bs = (h : ℕ) → Hex h d → Lined (h ∷ t) bs
-Left (Whole v) t bs = (h l x y : ℕ) → Hex h x → Hex l y → v ≡ 16 * x + y → Lined (h ∷ l ∷ t) bs
-Left Mark t bs = Parted t bs
-
--- what an answer says of the characters that follow it
-abbrev Behind : Brought Stage → List ℕ → List Byte → Type 0
-Behind (more n) t bs = Left n t bs
-Behind (gives b n) t [] = ⊥
-Behind (gives b n) t (x ∷ bs) = (x ≡ b) × Left n t bs
-Behind cannot t bs = ⊥
-
--- a character that the step takes stands before it
-first-left : (c : ℕ) (t : List ℕ) (bs : List Byte) → Behind (cond (ltb (value_of c) 16) (more (Digit (value_of c))) cannot) t bs → Lined (c ∷ t) bs
-first-left c t bs = go (ltb (value_of c) 16) refl
-  where
-    go : (q : Bool) → ltb (value_of c) 16 ≡ q → Behind (cond q (more (Digit (value_of c))) cannot) t bs → Lined (c ∷ t) bs
-    go true e h = h c (hex_value c (ltb-true _ _ e))
-    go false e h = absurd h
-
-second_left : (d c : ℕ) (t : List ℕ) (bs : List Byte)
-    → Behind (cond (ltb (value_of c) 16) (more (Whole (16 * d + value_of c))) cannot) t bs → (h : ℕ) → Hex h d → Lined (h ∷ c ∷ t) bs
-second_left d c t bs = go (ltb (value_of c) 16) refl
-  where
-    go : (q : Bool) → ltb (value_of c) 16 ≡ q → Behind (cond q (more (Whole (16 * d + value_of c))) cannot) t bs → (h : ℕ) → Hex h d → Lined (h ∷ c ∷ t) bs
-    go true e k h x = k h c d (value_of c) x (hex_value c (ltb-true _ _ e)) refl
-    go false e k h x = absurd k
-
--- a byte that has ended stands before what parts it from the next
-module _ (v : ℕ) {t : List ℕ} {bs : List Byte} (h l x y : ℕ) (hx : Hex h x) (hl : Hex l y) (e : v ≡ 16 * x + y) where
-  plain-left : Parted t bs → Lined (h ∷ l ∷ t) (record { value = v; mark = false } ∷ bs)
-  plain-left p = rw e (byte_lined (plain hx hl) p)
-
-  marked-left : Parted t bs → Lined (h ∷ l ∷ bang ∷ t) (record { value = v; mark = true } ∷ bs)
-  marked-left p = rw e (byte_lined (marked hx hl) p)
-
-behind-left : (v c : ℕ) (t : List ℕ) (bs : List Byte)
-    → Behind (cond (eqb c bang) (gives (record { value = v; mark = true }) Mark) (cond (eqb c space) (gives (record { value = v; mark = false }) Space) (cond (eqb c newline) (gives (record { value = v; mark = false }) Line) cannot))) t bs
-    → (h l x y : ℕ) → Hex h x → Hex l y → v ≡ 16 * x + y → Lined (h ∷ l ∷ c ∷ t) bs
-behind-left v c t bs = go (eqb c bang) refl (eqb c space) refl (eqb c newline) refl bs
-  where
-    go : (p : Bool) → eqb c bang ≡ p → (q : Bool) → eqb c space ≡ q → (r : Bool) → eqb c newline ≡ r → (bs : List Byte)
-        → Behind (cond p (gives (record { value = v; mark = true }) Mark) (cond q (gives (record { value = v; mark = false }) Space) (cond r (gives (record { value = v; mark = false }) Line) cannot))) t bs
-        → (h l x y : ℕ) → Hex h x → Hex l y → v ≡ 16 * x + y → Lined (h ∷ l ∷ c ∷ t) bs
-    go true e q f r g [] k h l x y hx hl z = absurd k
-    go true e q f r g (b ∷ bs) k h l x y hx hl z = rw (eqb-true c bang e, k.0) (marked-left v h l x y hx hl z k.1)
-    go false e true f r g [] k h l x y hx hl z = absurd k
-    go false e true f r g (b ∷ bs) k h l x y hx hl z = rw (eqb-true c space f, k.0) (plain-left v h l x y hx hl z (spaced k.1))
-    go false e false f true g [] k h l x y hx hl z = absurd k
-    go false e false f true g (b ∷ bs) k h l x y hx hl z = rw (eqb-true c newline g, k.0) (plain-left v h l x y hx hl z (ended k.1))
-    go false e false f false g bs k h l x y hx hl z = absurd k
-
-mark_left : (c : ℕ) (t : List ℕ) (bs : List Byte) → Behind (cond (eqb c space) (more Space) (cond (eqb c newline) (more Line) cannot)) t bs → Parted (c ∷ t) bs
-mark_left c t bs = go (eqb c space) refl (eqb c newline) refl
-  where
-    go : (q : Bool) → eqb c space ≡ q → (r : Bool) → eqb c newline ≡ r → Behind (cond q (more Space) (cond r (more Line) cannot)) t bs → Parted (c ∷ t) bs
-    go true f r g k = rw (eqb-true c space f) (spaced k)
-    go false f true g k = rw (eqb-true c newline g) (ended k)
-    go false f false g k = absurd k
-
+-- And back.
 step_left : (s : Stage) (c : ℕ) (t : List ℕ) (bs : List Byte) → Behind (step s c) t bs → Left s (c ∷ t) bs
 unfolding step
 step_left Line c t bs k = lined_text (first-left c t bs k)

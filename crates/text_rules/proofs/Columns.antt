@@ -2,13 +2,14 @@
 use mathlib.Core.Path.{◌≡◌, refl, sym, ap, ap₂, ◌∙◌}
 use mathlib.Core.List.{List, [], ◌∷◌, ◌++◌, append_assoc, append-nil}
 use mathlib.Core.Bool.{Bool, true, false, not}
-use Prim.Native.Nat.{ℕ, zero, suc, ◌+◌, ◌*◌, ◌-◌, ◌%◌, ◌<◌, ◌≤◌}
+use Prim.Native.Nat.{ℕ, zero, suc, ◌+◌, ◌*◌, ◌-◌, ◌<◌, ◌≤◌}
 use native.Mathlib.Omega.{arith}
-use borrow.Author.Tests.{eq-eqb, ne_eqb, ltb-true, ltb-false}
-use lib.ListN.{length, take, drop, length-append}
+use borrow.Author.Tests.{ne_eqb}
+use lib.ListN.{length, take, drop, drop_of_length-le, length-append}
+use lib.Seq.{take_all}
 use Rattle.base_layout.specs.Bytes.{pasted}
 use Rattle.base_layout.proofs.Pasted.{pasted_twice}
-use lib.Dec.{eqb, ltb}
+use lib.Dec.{eqb}
 use Rattle.base_text.specs.Digits.{space, newline, hex_pair}
 use Rattle.line_receiver.specs.Frames.{Byte}
 use Rattle.text_rules.specs.Text.{bang}
@@ -135,3 +136,11 @@ unfolding text_from
 text_turn c b bs at room h e =
     let l = text_length c b bs in
     rw e (pasted_twice at (in_column c b) (text_from (column_after c 1) bs) room (omega arith))
+
+-- up to 16 bytes are one line
+pub alone : (b : Byte) (bs : List Byte) → length bs ≤ 15 → exported (b ∷ bs) ≡ shown b ++ spaced bs
+unfolding exported
+alone b bs h =
+    ap₂ (λ (x y : List Byte). shown b ++ spaced x ++ lines_of (length bs) y) (take_all 15 bs h) (drop_of_length-le bs {i = 15} h)
+    ∙ ap (λ (l : List ℕ). shown b ++ spaced bs ++ l) (lines_none (length bs))
+    ∙ append-nil (shown b ++ spaced bs)

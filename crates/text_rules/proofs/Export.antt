@@ -1,41 +1,17 @@
 -- What is exported: a text of the grammar, its length, and the same text byte by byte. Assumes nothing.
-use mathlib.Core.Path.{◌≡◌, refl, sym, ap, ap₂, subst, ◌∙◌}
-use mathlib.Core.List.{List, [], ◌∷◌, ◌++◌, append_assoc, append-nil}
+use mathlib.Core.Path.{◌≡◌, refl, sym, ap, subst, ◌∙◌}
+use mathlib.Core.List.{List, [], ◌∷◌, ◌++◌}
 use mathlib.Core.Bool.{Bool, true, false, cond}
-use Prim.Native.Nat.{ℕ, zero, suc, ◌+◌, ◌*◌, ◌-◌, ◌/◌, ◌%◌, ◌<◌, ◌≤◌}
-use native.Mathlib.Numerals.{add-one}
+use Prim.Native.Nat.{ℕ, zero, suc, ◌+◌, ◌*◌, ◌-◌, ◌≤◌}
 use native.Mathlib.Omega.{arith}
-use borrow.Author.Tests.{lt-ltb, le-ltb, ltb-true, ltb-false, eq-eqb, ne_eqb}
-use lib.ListN.{length, get_or, take, drop, take-append-drop, length-append, length-drop}
-use lib.Dec.{eqb, ltb}
-use Rattle.base_layout.specs.Bytes.{Bytes}
-use Rattle.base_text.specs.Digits.{space, newline, hex_digit, hex_pair}
-use Rattle.line_receiver.specs.Frames.{Byte, values}
-use Rattle.text_rules.specs.Text.{bang, Hex, figure, upper, OneByte, plain, marked, OneLine, last, next, Text, empty, lines}
+use lib.ListN.{length, take, drop, take-append-drop, length-append, length-drop}
+use Rattle.base_text.specs.Digits.{hex_pair}
+use Rattle.line_receiver.specs.Frames.{Byte}
+use Rattle.text_rules.specs.Text.{bang, OneLine, last, next, Text, empty, lines}
 use Rattle.text_rules.specs.Records.{mark_of, marks}
 use Rattle.text_rules.specs.Export.{per_line, shown, spaced, lines_of, exported}
 use Rattle.text_rules.specs.Promises.{Small, IsText}
-
--- an upper-case digit is a hex digit
-hex_shown : (d : ℕ) → d < 16 → Hex (hex_digit d) d
-hex_shown d h = go (ltb d 10) refl
-  where
-    go : (q : Bool) → ltb d 10 ≡ q → Hex (cond q (48 + d) (55 + d)) d
-    go true e = figure (ltb-true d 10 e) refl
-    go false e = let g = ltb-false d 10 e in upper g h (omega arith)
-
-byte-shown : (b : Byte) → b.value < 256 → OneByte (shown b) b
-byte-shown b h = go b.mark
-  where
-    v : ℕ
-    v = b.value
-
-    e : 16 * (v / 16) + v % 16 ≡ v
-    e = omega arith
-
-    go : (m : Bool) → OneByte (hex_pair v ++ cond m (bang ∷ []) []) (record { value = v; mark = m })
-    go true = subst (λ (k : ℕ). OneByte (hex_pair v ++ bang ∷ []) (record { value = k; mark = true })) e (marked (hex_shown (v / 16) (omega arith)) (hex_shown (v % 16) (omega arith)))
-    go false = subst (λ (k : ℕ). OneByte (hex_pair v) (record { value = k; mark = false })) e (plain (hex_shown (v / 16) (omega arith)) (hex_shown (v % 16) (omega arith)))
+use Rattle.text_rules.proofs.ByteShown.{byte-shown}
 
 pub line-shown : (b : Byte) (bs : List Byte) → Small (b ∷ bs) → OneLine (shown b ++ spaced bs) (b ∷ bs)
 line-shown b [] h = last (byte-shown b (h 0))

@@ -1,9 +1,12 @@
 pub mod Hexed
 pub mod Folding
+pub mod Steps
 pub mod Accepted
 pub mod Offset
+pub mod ByteShown
 pub mod Export
 pub mod Columns
+pub mod ThereAndBack
 pub mod Normal
 pub mod Reading
 pub mod Putting

@@ -1,11 +1,11 @@
 -- Lines of 16 bytes, upper case, pieces, and the examples. Assumes nothing.
 use mathlib.Core.Path.{◌≡◌, refl, sym, ap, ap₂, subst⁻¹, ◌∙◌}
-use mathlib.Core.List.{List, [], ◌∷◌, ◌++◌, append-nil}
+use mathlib.Core.List.{List, [], ◌∷◌, ◌++◌}
 use mathlib.Core.Bool.{Bool, true, false, cond}
 use Prim.Native.Nat.{ℕ, zero, suc, ◌+◌, ◌-◌, ◌/◌, ◌%◌, ◌<◌, ◌≤◌}
 use native.Mathlib.Omega.{arith}
-use lib.ListN.{length, get_or, take, drop, drop_of_length-le, length-append, length-drop}
-use lib.Seq.{take_all, take_at, drop-append_seam}
+use lib.ListN.{length, get_or, take, drop, length-append, length-drop}
+use lib.Seq.{take_at, drop-append_seam}
 use lib.Dec.{ltb}
 use Rattle.base_text.specs.Digits.{space, newline, hex_digit, hex_pair}
 use Rattle.line_receiver.specs.Frames.{Byte}
@@ -16,7 +16,7 @@ use Rattle.text_rules.specs.Import.{value_of, step, is_text}
 use Rattle.text_rules.specs.Promises.{Small, SixteenALine, NoLowerCase, InPieces, Examples}
 use Rattle.text_rules.proofs.Folding.{pieces_is}
 use Rattle.text_rules.proofs.Export.{line-shown, small_take, small_drop}
-use Rattle.text_rules.proofs.Columns.{lines_none}
+use Rattle.text_rules.proofs.Columns.{alone}
 
 pub in_pieces : InPieces
 in_pieces S f s ps = pieces_is f s ps
@@ -54,14 +54,6 @@ lines_same (suc k) (suc j) [] h g = refl
 lines_same (suc k) (suc j) (b ∷ bs) h g =
     let l = length-drop (per_line - 1) bs in
     ap (λ (t : List ℕ). shown b ++ spaced (take (per_line - 1) bs) ++ t) (lines_same k j (drop (per_line - 1) bs) (omega arith) (omega arith))
-
--- up to 16 bytes are one line
-alone : (b : Byte) (bs : List Byte) → length bs ≤ 15 → exported (b ∷ bs) ≡ shown b ++ spaced bs
-unfolding exported
-alone b bs h =
-    ap₂ (λ (x y : List Byte). shown b ++ spaced x ++ lines_of (length bs) y) (take_all 15 bs h) (drop_of_length-le bs {i = 15} h)
-    ∙ ap (λ (l : List ℕ). shown b ++ spaced bs ++ l) (lines_none (length bs))
-    ∙ append-nil (shown b ++ spaced bs)
 
 one_line : (bs : List Byte) → 1 ≤ length bs → length bs ≤ 16 → Small bs → OneLine (exported bs) bs
 one_line [] h g s = absurd (omega arith)

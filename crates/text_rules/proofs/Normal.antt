@@ -1,24 +1,23 @@
 -- Lengths by the grammar, records and bytes, and the normal form. Assumes nothing.
-use mathlib.Core.Path.{◌≡◌, refl, sym, ap, ap₂, ◌∙◌}
+use mathlib.Core.Path.{◌≡◌, refl, ap, ap₂, ◌∙◌}
 use mathlib.Core.List.{List, [], ◌∷◌, ◌++◌}
-use mathlib.Core.Bool.{Bool, true, false, cond, ◌&&◌}
+use mathlib.Core.Bool.{Bool, true}
 use Prim.Native.Nat.{ℕ, zero, suc, ◌+◌, ◌*◌, ◌-◌, ◌<◌, ◌≤◌}
 use native.Mathlib.Omega.{arith}
-use borrow.Author.Tests.{eq-eqb, ne_eqb, eqb-true, leb-true}
-use lib.ListN.{length, get_or, length-append}
-use lib.Dec.{eqb, leb}
-use Rattle.base_layout.specs.Bytes.{Bytes}
-use Rattle.base_layout.proofs.Every.{every_hold}
+use borrow.Author.Tests.{ne_eqb}
+use lib.ListN.{length, length-append}
+use lib.Dec.{eqb}
 use Rattle.base_text.specs.Digits.{space, newline}
-use Rattle.line_receiver.specs.Frames.{Byte, values}
+use Rattle.line_receiver.specs.Frames.{Byte}
 use Rattle.text_rules.specs.declared.Read.{Read}
 use Rattle.text_rules.specs.Text.{bang, Hex, figure, upper, lower, OneByte, plain, marked, OneLine, last, next, Text, empty, lines}
-use Rattle.text_rules.specs.Records.{line_kind, mark_of, records, all_line, bytes_in, marks}
+use Rattle.text_rules.specs.Records.{mark_of, records, marks}
 use Rattle.text_rules.specs.Export.{exported}
 use Rattle.text_rules.specs.Import.{Stage, read_text, whole_by, is_text, stage_of, CameTo}
-use Rattle.text_rules.specs.Promises.{Small, Normal, NormalForm, normal, occurs, Lengths, LineRecords}
+use Rattle.text_rules.specs.Promises.{Small, NormalForm, normal, occurs, Lengths, LineRecords}
 use Rattle.text_rules.proofs.Hexed.{hex_small}
 use Rattle.text_rules.proofs.Accepted.{accepts}
+use Rattle.text_rules.proofs.ThereAndBack.{taken, given}
 use Rattle.text_rules.proofs.Export.{is_text_lem, length_exported}
 
 -- lengths
@@ -68,36 +67,6 @@ length-records (b ∷ bs) = omega (arith, length-records bs)
 
 pub lengths : Lengths
 lengths = record { text = length_text; bangs = bangs_text; records = length-records; exported = length_exported }
-
--- records and bytes
-pub one_mark : (m : ℕ) → m ≤ 1 → mark_of (eqb m 1) ≡ m
-one_mark zero h = refl
-one_mark (suc zero) h = refl
-one_mark (suc (suc m)) h = absurd (omega arith)
-
-taken : (rs : List ℕ) → all_line rs ≡ true → records (bytes_in rs) ≡ rs
-unfolding all_line bytes_in
-taken [] e = refl
-taken (k ∷ []) e = let z : false ≡ true = e in cc
-taken (k ∷ m ∷ []) e = let z : false ≡ true = e in cc
-taken (k ∷ m ∷ b ∷ rs) e =
-    let h = every_hold (eqb k line_kind ∷ leb m 1 ∷ all_line rs ∷ []) e in
-    let kind : line_kind ≡ k = sym (eqb-true k line_kind h.0) in
-    let mark : mark_of (eqb m 1) ≡ m = one_mark m (leb-true m 1 h.1.0) in
-    ap₂ (λ (x y : ℕ). x ∷ y ∷ b ∷ records (bytes_in rs)) kind mark ∙ ap (λ (l : List ℕ). k ∷ m ∷ b ∷ l) (taken rs h.1.1.0)
-
-given : (bs : List Byte) → (all_line (records bs) ≡ true) × (bytes_in (records bs) ≡ bs)
-unfolding all_line bytes_in
-given [] = (refl, refl)
-given (b ∷ bs) = let h = given bs in (ok b.mark h.0, ap₂ (λ (m : Bool) (l : List Byte). record { value = b.value; mark = m } ∷ l) (back b.mark) h.1)
-  where
-    ok : (m : Bool) → all_line (records bs) ≡ true → (eqb line_kind line_kind && leb (mark_of m) 1 && all_line (records bs)) ≡ true
-    ok true e = e
-    ok false e = e
-
-    back : (m : Bool) → eqb (mark_of m) 1 ≡ m
-    back true = refl
-    back false = refl
 
 pub line_records : LineRecords
 line_records = record { taken = taken; given = given }

@@ -2,19 +2,19 @@
 use mathlib.Core.Path.{◌≡◌, refl, sym, ap, ap₂, ◌∙◌}
 use mathlib.Core.List.{List, [], ◌∷◌}
 use mathlib.Core.Bool.{Bool, true, false, cond, ◌&&◌}
-use Prim.Native.Nat.{ℕ, zero, suc, ◌+◌, ◌-◌, ◌<◌, ◌≤◌}
+use Prim.Native.Nat.{ℕ, suc, ◌+◌, ◌-◌, ◌<◌, ◌≤◌}
 use native.Mathlib.Omega.{arith}
 use borrow.Author.Tests.{eq-eqb, ne_eqb, le-leb, lt-leb, lt-ltb, le-ltb, ltb-true, ltb-false}
 use lib.ListN.{length, get_or, drop, drop_of_length-le, length-drop}
 use lib.Seq.{drop-cons}
 use lib.Dec.{eqb, leb, ltb}
-use Rattle.line_receiver.specs.Frames.{Byte}
 use Rattle.text_rules.specs.declared.Measured.{Measured}
 use Rattle.text_rules.specs.declared.Measured.TheVariants.{Line, Other}
-use Rattle.text_rules.specs.Records.{line_kind, mark_of, all_line, bytes_in, marks, measured_of}
+use Rattle.text_rules.specs.Records.{line_kind, all_line, bytes_in, marks, measured_of}
 use Rattle.text_rules.specs.Export.{exported}
 use Rattle.text_rules.proofs.Export.{length_exported}
-use Rattle.text_rules.proofs.Normal.{one_mark, length-records, line_records}
+use Rattle.text_rules.proofs.ThereAndBack.{one_mark}
+use Rattle.text_rules.proofs.Normal.{length-records, line_records}
 
 -- the record at a place, and those behind it
 pub three_at : (rs : List ℕ) (i : ℕ) → i + 3 ≤ length rs → drop i rs ≡ get_or rs i 0 ∷ get_or rs (i + 1) 0 ∷ get_or rs (i + 2) 0 ∷ drop (i + 3) rs

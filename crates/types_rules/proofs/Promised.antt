@@ -5,6 +5,7 @@ use mathlib.Core.Logic.{inl, inr}
 use borrow.Author.Tests.{eqb-true}
 use lib.Dec.{eqb}
 use Rattle.module_rules.proofs.Settled as Settled
+use Rattle.module_rules.proofs.Tested.{cause-tested}
 use Rattle.module_rules.proofs.Replies as Replies
 use Rattle.module_rules.proofs.Frames as Frames
 use Rattle.module_rules.proofs.Kept.{reply_most}
@@ -40,7 +41,7 @@ every_type t =
     let a = (owes t).apart in
     record {
       cause = Settled.cause (rules_of t) a;
-      tested = Settled.cause-tested (rules_of t) a;
+      tested = cause-tested (rules_of t) a;
       cause_is = Settled.cause_is (rules_of t) a;
       address = Settled.address_kept (rules_of t) a;
       resets = Replies.resets (rules_of t) a;
