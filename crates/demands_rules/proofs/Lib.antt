@@ -9,7 +9,9 @@ pub mod InTime
 pub mod Since
 pub mod EachCall
 pub mod Arming
+pub mod TimeSteps
 pub mod Stepping
+mod SendingOn
 mod Sending
 pub mod Sent
 pub mod SettingOut
@@ -21,6 +23,7 @@ pub mod ServoQuestion
 pub mod Buffers
 pub mod Dipping
 pub mod HomingRun
+mod CutTicks
 pub mod Winding
 mod Histories
 pub mod Alive

@@ -39,7 +39,7 @@ use Rattle.servo_rules.specs.LoadPromises.{Completes}
 use Rattle.servo_rules.proofs.Known.{Known, known, BitOf, halt_bits, halt_bits_lem}
 use Rattle.servo_rules.proofs.Keeping.{by_test, either, distinct}
 use Rattle.servo_rules.proofs.Signs.{signed_size, signed_zero, signed_itself}
-use Rattle.servo_rules.proofs.Starting.{starts, begins}
+use Rattle.servo_rules.proofs.Starting.{begins}
 use Rattle.servo_rules.proofs.Completing.{complete}
 use Rattle.servo_rules.proofs.Ticking.{ticks}
 use Rattle.servo_rules.proofs.FindingHome.{homing_ticks}
@@ -60,7 +60,8 @@ use Rattle.demands_rules.specs.Sent.{WholeLoad}
 use Rattle.demands_rules.specs.Quickest.{total, final, speeds_from, Disturbs, Follows, SetsOff, OnItsWay, QuickestOnTheLine}
 use Rattle.demands_rules.proofs.Making.{same_place, fits_at, Silent, Made, same, framed, timed, made}
 use Rattle.demands_rules.proofs.Motion.{load-started}
-use Rattle.demands_rules.proofs.Stepping.{stepped, Steps, went}
+use Rattle.demands_rules.proofs.TimeSteps.{stepped, Steps}
+use Rattle.demands_rules.proofs.Stepping.{went}
 use Rattle.demands_rules.proofs.Racing.{no_quicker, never_past}
 use Rattle.demands_rules.proofs.Mirroring.{Goes, can_stop, sets_off, Gone, gone}
 use Rattle.demands_rules.proofs.Mirroring as Profiles

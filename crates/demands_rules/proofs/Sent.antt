@@ -3,7 +3,7 @@ use mathlib.Core.Path.{◌≡◌, refl, sym, ap, subst, ◌∙◌}
 use mathlib.Core.Logic.{◌⊎◌, inl, inr}
 use mathlib.Core.List.{List}
 use mathlib.Core.Bool.{Bool, true, false, cond, true≢false, false≢true}
-use mathlib.Core.Option.{some, none}
+use mathlib.Core.Option.{some}
 use Prim.Native.Nat.{ℕ, suc, ◌≤◌}
 use native.Mathlib.Omega.{arith}
 use native.Mathlib.Nat.{le_refl, le_of_eq}
@@ -75,7 +75,8 @@ use Rattle.demands_rules.proofs.Making.{fits_at, Silent, Made, same, framed, tim
 use Rattle.demands_rules.proofs.Placing.{valid-after, untouched, stood_before, executed-by, Carries, carried}
 use Rattle.demands_rules.proofs.Since.{none_yet, loaded_on}
 use Rattle.demands_rules.proofs.Arming.{Armed, armed_on, started_armed}
-use Rattle.demands_rules.proofs.Sending.{Only, Replaces, brought, off-sent, alike-sent, start-sent, hold-sent, homed-sent, slow-sent}
+use Rattle.demands_rules.proofs.Sending.{Replaces, brought, off-sent, start-sent, hold-sent, homed-sent, slow-sent}
+use Rattle.demands_rules.proofs.SendingOn.{Only, alike-sent}
 
 -- what takes a number's place drops a waiting load too
 replaces_drops : (k : ℕ) (f : Frame) → Replaces k f → Drops f

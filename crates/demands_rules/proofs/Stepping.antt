@@ -1,6 +1,5 @@
 -- What runs of a module of any type, through calls that do not disturb it: a step for each tick that is done. Assumes nothing.
 use mathlib.Core.Path.{◌≡◌, refl, sym, ap, subst, ◌∙◌}
-use mathlib.Core.Logic.{◌⊎◌, inl, inr}
 use mathlib.Core.List.{List, [], ◌∷◌}
 use mathlib.Core.Bool.{Bool, true, false, true≢false}
 use mathlib.Core.Option.{some}
@@ -11,26 +10,20 @@ use lib.ListN.{get_elem?, take}
 use lib.Seq.{take-length}
 use lib.Dec.{eqb}
 use Rattle.line_receiver.specs.Frames.{Frame, frame_in}
-use Rattle.module_rules.specs.Rules.{settled, request, with_cause, execute}
+use Rattle.module_rules.specs.Rules.{execute}
 use Rattle.module_rules.proofs.Settled.{settles}
 use Rattle.types_rules.specs.Table.{ModuleType, Of, SampleOf, rules_of}
 use Rattle.types_rules.specs.Types.{slots}
 use Rattle.types_rules.proofs.Promised.{every_type}
 use Rattle.net_rules.specs.Record.{net_in}
-use Rattle.api_rules.specs.Table.{tick_table}
-use Rattle.api_rules.specs.Promises.{Passes, Refuses, ValidRecord}
-use Rattle.api_rules.proofs.Refused as Refused
-use Rattle.demands_history_rules.specs.Calls.{Call, byte, tick, AllHanded, leaves, left_by}
-use Rattle.demands_history_rules.proofs.Calls.{passes?}
-use Rattle.demands_rules.specs.Place.{AtOf, sample_at, after, Stands, in_time, ticks_of, ticks_in, UndisturbedBy}
+use Rattle.api_rules.specs.Promises.{ValidRecord}
+use Rattle.demands_history_rules.specs.Calls.{Call, tick, AllHanded, leaves, left_by}
+use Rattle.demands_rules.specs.Place.{AtOf, after, Stands, in_time, ticks_of, ticks_in, UndisturbedBy}
 use Rattle.demands_rules.proofs.Making.{Made, same, framed, timed}
 use Rattle.demands_rules.proofs.Placing.{Only, calm, Carries, carried_on}
+use Rattle.demands_rules.proofs.TimeSteps.{stepped, Steps, time-steps}
 
 -- ---- so many steps
-
-unfoldable pub stepped : {P : Type 0} → (P → P) → ℕ → P → P
-stepped step zero p = p
-stepped step (suc n) p = stepped step n (step p)
 
 module _ {P : Type 0} (step : P → P) where
   step-last : (n : ℕ) (p : P) → step (stepped step n p) ≡ stepped step (suc n) p
@@ -57,14 +50,7 @@ ticks_at (d ∷ cs) net (suc n) c e = let i = ticks_at cs (leaves net d) n c e i
 -- of a type: what runs, its step, what disturbs it, with which samples it makes its step, and when it runs at all
 module _ (t : ModuleType) {P : Type 0} (part : Of t → P) (step : P → P) (Disturbs : Frame → Type 0) (Good : SampleOf t → Of t → Type 0)
     (Runs : P → Type 0) where
-  -- another cause leaves what runs, and so does what an undamaged frame asks, unless it disturbs; a tick makes a step of what runs, which runs on
-  pub record Steps : Type 0 where
-    pub caused : (c : ℕ) (m : Of t) → part (with_cause (rules_of t) c m) ≡ part m
-    pub asked : (f : Frame) (alone : Bool) (m : Of t) → (Disturbs f → ⊥) → part (settled (rules_of t) (request (rules_of t) f alone) m) ≡ part m
-    pub tick : (x : SampleOf t) (m : Of t) → Runs (part m) → Good x m → part ((rules_of t).tick x m) ≡ step (part m)
-    pub runs : (p : P) → Runs p → Runs (step p)
-
-  module _ (law : Steps) where
+  module _ (law : Steps t part step Disturbs Good Runs) where
     -- a frame that is not executed leaves all but the cause; one that is, and disturbs nothing, leaves what runs
     frame_keeps : (f : Frame) (alone : Bool) (m : Of t)
         → (f.damaged ≡ false → ((rules_of t).station (execute (rules_of t) f alone m)).cause ≡ 0 → Disturbs f → ⊥)
@@ -83,25 +69,6 @@ module _ (t : ModuleType) {P : Type 0} (part : Of t → P) (step : P → P) (Dis
     abbrev Later : ℕ → Of t → Of t → Type 0
     Later n m k = part k ≡ stepped step n (part m)
 
-    -- time makes a step of a tick that is done, and nothing of anything else
-    time-steps : (net : List ℕ) (i : ℕ) (c : Call) (m : Of t) → Runs (part m)
-        → ((samples : List ℕ) → c ≡ tick samples → Passes (tick_table net samples) → Good (sample_at t samples i) m)
-        → Later (ticks_of net c) m (in_time t net i c m)
-    unfolding stepped
-    time-steps net i (byte mark x room) m e q = refl
-    time-steps net i (tick samples) m e q = at (passes? (tick_table net samples))
-      where
-        done : Of t
-        done = (rules_of t).tick (sample_at t samples i) m
-
-        at : Passes (tick_table net samples) ⊎ Refuses (tick_table net samples) → Later (ticks_of net (tick samples)) m (in_time t net i (tick samples) m)
-        at (inl p) =
-            subst (λ (j : ℕ). Later j m (in_time t net i (tick samples) m)) (Refused.done (tick_table net samples) 0 1 refl p)
-            (subst (Later 1 m) (Refused.done (tick_table net samples) m done refl p) (law.tick _ m e (q samples refl p)))
-        at (inr r) =
-            subst (λ (j : ℕ). Later j m (in_time t net i (tick samples) m)) (Refused.refused (tick_table net samples) 0 1 refl r)
-            (subst (Later 0 m) (Refused.refused (tick_table net samples) m done refl r) refl)
-
     runs_on : (n : ℕ) (p : P) → Runs p → Runs (stepped step n p)
     unfolding stepped
     runs_on zero p r = r
@@ -114,7 +81,7 @@ module _ (t : ModuleType) {P : Type 0} (part : Of t → P) (step : P → P) (Dis
       by-time : (n : ℕ) (c : Call) (m : Of t) → get_elem? cs n ≡ some c → Stands t net cs i n m → Runs (part m)
           → Later (ticks_of (after net cs i n) c) m (in_time t (after net cs i n) i c m)
       by-time n c m g st e =
-          time-steps (after net cs i n) i c m e
+          time-steps t part step Disturbs Good Runs law (after net cs i n) i c m e
           (λ samples z p. u.ticks n _ m (record { samples = samples; call = g ∙ ap some z; done = p; own = refl }) st)
 
       -- a call leaves what time makes of the module, or a frame that does not disturb it

@@ -3,4 +3,5 @@ pub mod Motion
 pub mod Question
 mod Sending
 pub mod Sent
+mod CalmTick
 pub mod Ramping

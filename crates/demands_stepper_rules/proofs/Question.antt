@@ -18,7 +18,7 @@ use Rattle.stepper_rules.specs.Ramp.{ticked}
 use Rattle.stepper_rules.specs.Perform.{startable, start}
 use Rattle.stepper_rules.specs.Answers.{request, execute}
 use Rattle.stepper_rules.specs.FramePromises.{Startable}
-use Rattle.stepper_rules.proofs.Doing.{was_startable}
+use Rattle.stepper_rules.proofs.Starting.{was_startable}
 use Rattle.types_rules.specs.Table.{stepper}
 use Rattle.demands_rules.specs.Question.{Loading}
 use Rattle.demands_rules.proofs.Question as Any

@@ -1,9 +1,8 @@
 -- A step-motor module's ramp through calls that do not disturb it. Assumes nothing.
 use mathlib.Core.Path.{◌≡◌, refl, sym, ap, subst, ◌∙◌}
-use mathlib.Core.Logic.{◌⊎◌, inl, inr}
-use mathlib.Core.List.{List}
-use mathlib.Core.Bool.{Bool, true, false, cond}
-use Prim.Native.Nat.{ℕ, zero, suc, ◌<◌, ◌≤◌}
+use mathlib.Core.Logic.{inl, inr}
+use mathlib.Core.Bool.{Bool}
+use Prim.Native.Nat.{ℕ, zero, suc}
 use native.Mathlib.Omega.{arith}
 use Rattle.line_receiver.specs.Frames.{Frame}
 use Rattle.module_rules.specs.Rules.{Request, malformed, set, reset, wants, settled}
@@ -13,11 +12,9 @@ use Rattle.stepper_rules.specs.declared.Halt.TheVariants.{Keep, Abrupt, Smooth}
 use Rattle.stepper_rules.specs.declared.Motion.{Motion}
 use Rattle.stepper_rules.specs.declared.Order.{Order}
 use Rattle.stepper_rules.specs.declared.Order.TheVariants.{LoadTrajectory, Start, SetParameters, Stop}
-use Rattle.stepper_rules.specs.declared.Sample.{Sample}
 use Rattle.stepper_rules.specs.declared.Stepper.{Stepper}
 use Rattle.stepper_rules.specs.Carried.{needed, carried_in}
-use Rattle.stepper_rules.specs.State.{rest}
-use Rattle.stepper_rules.specs.Ramp.{onward, after, ticked}
+use Rattle.stepper_rules.specs.Ramp.{onward, after}
 use Rattle.stepper_rules.specs.RampPromises.{Counting, Climbs, Falls, Slows}
 use Rattle.stepper_rules.specs.Perform.{loaded, starts_now, start, parameters_set, stopped, can, perform}
 use Rattle.stepper_rules.specs.Answers as Answers
@@ -28,13 +25,14 @@ use Rattle.stepper_slot_rules.specs.Promises.{Moving}
 use Rattle.stepper_slot_rules.proofs.Steady.{by_test, Steady}
 use Rattle.stepper_slot_rules.proofs.Good.{good}
 use Rattle.types_rules.specs.Table.{stepper}
-use Rattle.demands_history_rules.specs.Calls.{Call}
 use Rattle.demands_rules.specs.Place.{ticks_in}
 use Rattle.demands_rules.specs.Loaded.{control, WholeLoad}
 use Rattle.demands_rules.proofs.Making.{fits_at}
-use Rattle.demands_rules.proofs.Stepping.{stepped, Steps, went}
+use Rattle.demands_rules.proofs.TimeSteps.{stepped, Steps}
+use Rattle.demands_rules.proofs.Stepping.{went}
 use Rattle.demands_stepper_rules.specs.Motion.{Moves}
 use Rattle.demands_stepper_rules.specs.Ramp.{NeverBelow, Disturbs, Ramps, RampOnTheLine}
+use Rattle.demands_stepper_rules.proofs.CalmTick.{Calm, tick_steps}
 
 pub never_below : NeverBelow
 never_below net i m v e z = at (good m (fits_at stepper net i m v e)).motion
@@ -47,9 +45,6 @@ never_below net i m v e z = at (good m (fits_at stepper net i m v e)).motion
 
 abbrev run_of : Stepper → Motion
 run_of m = m.motion
-
-abbrev Calm : Sample → Stepper → Type 0
-Calm x m = x.stop ≡ false
 
 abbrev Any : Motion → Type 0
 Any p = Unit {0}
@@ -84,10 +79,6 @@ module _ (f : Frame) (calm : Disturbs f → ⊥) (m : Stepper) where
   settled_keeps (set s) k = refl
   settled_keeps reset k = absurd (calm (inr (inr (inl k))))
   settled_keeps (wants c) k = by_test (Same m) (can c m) (with_cause 0 (perform c m)) (with_cause 3 m) (λ e. order_keeps c k) (λ e. refl)
-
-tick_steps : (x : Sample) (m : Stepper) → Calm x m → (ticked x m).motion ≡ onward m.motion
-unfolding ticked
-tick_steps x m e = ap (λ (b : Bool). cond b rest (onward m.motion)) e
 
 motion_steps : Steps stepper run_of onward Disturbs Calm Any
 motion_steps = record {

@@ -38,7 +38,7 @@ use Rattle.stepper_rules.proofs.Known.{spared, Known, known, BitOf, halt_bits, h
 use Rattle.stepper_slot_rules.specs.Promises.{Fits}
 use Rattle.stepper_slot_rules.proofs.Steady.{by_test, Steady}
 use Rattle.stepper_slot_rules.proofs.Good.{good}
-use Rattle.stepper_rules.proofs.Doing.{was_startable}
+use Rattle.stepper_rules.proofs.Starting.{was_startable}
 use Rattle.types_rules.specs.Table.{stepper}
 use Rattle.types_rules.specs.Types.{kind, slots}
 use Rattle.types_rules.proofs.Promised.{every_type}

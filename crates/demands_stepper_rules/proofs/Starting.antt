@@ -22,7 +22,7 @@ use Rattle.stepper_rules.specs.Perform.{loaded, starts_now, startable, start, pa
 use Rattle.stepper_rules.specs.Answers as Answers
 use Rattle.stepper_rules.specs.Answers.{request, with_cause, execute}
 use Rattle.stepper_rules.proofs.Known.{Known, known}
-use Rattle.stepper_rules.proofs.Doing.{can-start, was_startable}
+use Rattle.stepper_rules.proofs.Starting.{can-start, was_startable}
 use Rattle.stepper_slot_rules.proofs.Steady.{by_test}
 use Rattle.types_rules.specs.Table.{stepper}
 use Rattle.types_rules.proofs.Promised.{every_type}

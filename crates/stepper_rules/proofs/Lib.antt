@@ -1,9 +1,14 @@
 pub mod Asks
 pub mod Known
 pub mod Apart
+pub mod OneTick
+pub mod LastTicks
 pub mod Ramping
 pub mod Ticking
 pub mod LoadBytes
+pub mod Values
 pub mod Frames
+pub mod Starting
 pub mod Doing
+pub mod LoadValues
 pub mod Loading

@@ -1,58 +1,20 @@
 -- A step-motor module's speed through ticks, in closed form. Assumes nothing.
 use mathlib.Core.Path.{◌≡◌, refl, sym, ap, ap₂, subst, ◌∙◌}
 use mathlib.Core.Logic.{◌↔◌}
-use mathlib.Core.Bool.{Bool, true, false, cond, not, ◌&&◌}
+use mathlib.Core.Bool.{Bool, true, false, cond, ◌&&◌}
 use Prim.Native.Nat.{ℕ, zero, suc, ◌+◌, ◌*◌, ◌-◌, ◌/◌, ◌<◌, ◌≤◌}
-use native.Mathlib.Nat.{add-div_left, div-eq_of_lt, le-div_iff_mul-le, div-lt_iff_lt-mul}
+use native.Mathlib.Nat.{div-eq_of_lt, le-div_iff_mul-le, div-lt_iff_lt-mul}
 use native.Mathlib.Omega.{arith}
-use borrow.Author.Tests.{eqb-true, eqb-false, eq-eqb, ne_eqb, ltb-true, ltb-false, lt-ltb, le-ltb, leb-true, leb-false, le-leb}
+use borrow.Author.Tests.{eqb-true, eqb-false, ltb-true, ltb-false, lt-ltb, le-ltb, leb-true, leb-false, le-leb}
 use lib.Dec.{eqb, ltb, leb}
 use Rattle.stepper_rules.specs.declared.Motion.{Motion}
-use Rattle.stepper_rules.specs.State.{rest, is_moving}
+use Rattle.stepper_rules.specs.State.{rest}
 use Rattle.stepper_rules.specs.Ramp.{nearer, paced, changed, onward, after}
-use Rattle.stepper_rules.specs.RampPromises.{lesser, greater, Counting, OnlyTheLast, Climb, Fall, SlowDown, StaysAtRest}
-
--- ---- one tick
-
-pub moves : (p : Motion) → 0 < p.speed → is_moving p ≡ true
-moves p h = ap not (ne_eqb p.speed 0 (λ e. omega arith))
-
--- a tick that is not the T-th
-counts : (p : Motion) → Counting p → suc p.ticks < p.time → onward p ≡ paced p.speed (suc p.ticks) p
-unfolding onward
-counts p c h = rw (moves p c.moving, ne_eqb (suc p.ticks) p.time (λ e. omega arith)) refl
-
--- the T-th
-turns : (p : Motion) → Counting p → suc p.ticks ≡ p.time → onward p ≡ changed p
-unfolding onward
-turns p c e = rw (moves p c.moving, eq-eqb (suc p.ticks) p.time e) refl
-
--- one of both
-last? : (p : Motion) → Counting p → (t : Bool) → eqb (suc p.ticks) p.time ≡ t → {A : Type 0} → (suc p.ticks ≡ p.time → A) → (suc p.ticks < p.time → A) → A
-last? p c true e f g = f (eqb-true _ _ e)
-last? p c false e f g =
-    let n : suc p.ticks ≡ p.time → ⊥ = eqb-false _ _ e in
-    g (omega (arith, c.counted))
-
-up : (s g : ℕ) → s < g → nearer s g ≡ suc s
-up s g h = rw (lt-ltb s g h) refl
-
-down : (s g : ℕ) → g < s → nearer s g ≡ s - 1
-down s g h = rw (le-ltb s g (omega arith), lt-ltb g s h) refl
-
-there : (s g : ℕ) → s ≡ g → nearer s g ≡ s
-there s g e = rw (le-ltb s g (omega arith), le-ltb g s (omega arith)) refl
-
--- a T-th tick without a smooth stop
-turned : (p : Motion) → p.stopping ≡ false → changed p ≡ paced (nearer p.speed p.goal) 0 p
-unfolding changed
-turned p e = rw e refl
+use Rattle.stepper_rules.specs.RampPromises.{lesser, greater, Counting, OnlyTheLast, Climb, Fall, SlowDown}
+use Rattle.stepper_rules.proofs.OneTick.{counts, turns, last?, down, there, turned}
+use Rattle.stepper_rules.proofs.LastTicks.{on, same_count, one_more, lesser_of, lesser_top, ClimbSpeed, climb_next, climb_last, slowed, SlowSpeed, slow_next, slow_last}
 
 -- ---- fewer ticks than T
-
--- a motion goes on counting
-on : (p : Motion) → Counting p → suc p.ticks < p.time → Counting (paced p.speed (suc p.ticks) p)
-on p c h = record { moving = c.moving; counted = h }
 
 pub only_the_last : OnlyTheLast
 only_the_last p zero c h = ap (λ (n : ℕ). paced p.speed n p) (let z : p.ticks ≡ p.ticks + 0 = omega arith in z)
@@ -62,70 +24,7 @@ only_the_last p (suc k) c h =
     ∙ only_the_last (paced p.speed (suc p.ticks) p) k (on p c l) (omega arith)
     ∙ ap (λ (n : ℕ). paced p.speed n p) (let z : suc p.ticks + k ≡ p.ticks + suc k = omega arith in z)
 
-pub stays_at_rest : StaysAtRest
-unfolding onward
-stays_at_rest zero = refl
-stays_at_rest (suc k) = stays_at_rest k
-
 -- ---- the closed forms
-
--- ticks counted on, by T: none more, or one more at the T-th
-same_count : (r k t : ℕ) → (suc r + k) / t ≡ (r + suc k) / t
-same_count r k t = ap (λ (n : ℕ). n / t) (let z : suc r + k ≡ r + suc k = omega arith in z)
-
-one_more : (r k t : ℕ) → suc r ≡ t → (r + suc k) / t ≡ suc (k / t)
-one_more r k t e =
-    ap (λ (n : ℕ). n / t) (let z : r + suc k ≡ t + k = omega arith in z)
-    ∙ add-div_left k (let z : 0 < t = omega arith in z)
-    ∙ (let z : k / t + 1 ≡ suc (k / t) = omega arith in z)
-
-lesser_of : (a b : ℕ) → a ≤ b → lesser a b ≡ a
-lesser_of a b h = rw (le-leb a b h) refl
-
-lesser_top : (a b : ℕ) → b ≤ a → lesser a b ≡ b
-lesser_top a b h = by (leb a b) refl
-  where
-    by : (t : Bool) → leb a b ≡ t → cond t a b ≡ b
-    by true e = let l : a ≤ b = leb-true a b e in omega arith
-    by false e = refl
-
--- k ticks of a climb
-abbrev ClimbSpeed : ℕ → Motion → Type 0
-ClimbSpeed k p = Counting p → p.stopping ≡ false → p.speed ≤ p.goal → (after k p).speed ≡ lesser (p.speed + (p.ticks + k) / p.time) p.goal
-
-module _ (k : ℕ) (ih : (p : Motion) → ClimbSpeed k p) (p : Motion) (c : Counting p) (s : p.stopping ≡ false) (h : p.speed ≤ p.goal) where
-  climb_next : suc p.ticks < p.time → (after (suc k) p).speed ≡ lesser (p.speed + (p.ticks + suc k) / p.time) p.goal
-  climb_next l =
-      ap (λ (q : Motion). (after k q).speed) (counts p c l)
-      ∙ ih (paced p.speed (suc p.ticks) p) (on p c l) s h
-      ∙ ap (λ (n : ℕ). lesser (p.speed + n) p.goal) (same_count p.ticks k p.time)
-
-  -- from a T-th tick on
-  climb_from : (n : ℕ) → 0 < n → n ≤ p.goal → (after k (paced n 0 p)).speed ≡ lesser (n + k / p.time) p.goal
-  climb_from n m l =
-      ih (paced n 0 p) (record { moving = m; counted = omega (arith, c.counted) }) s l
-      ∙ ap (λ (j : ℕ). lesser (n + j / p.time) p.goal) (let z : 0 + k ≡ k = omega arith in z)
-
-  climb_last : suc p.ticks ≡ p.time → (after (suc k) p).speed ≡ lesser (p.speed + (p.ticks + suc k) / p.time) p.goal
-  climb_last e =
-      ap (λ (q : Motion). (after k q).speed) (turns p c e ∙ turned p s)
-      ∙ by (ltb p.speed p.goal) refl
-      ∙ ap (λ (n : ℕ). lesser (p.speed + n) p.goal) (sym (one_more p.ticks k p.time e))
-    where
-      by : (t : Bool) → ltb p.speed p.goal ≡ t
-          → (after k (paced (nearer p.speed p.goal) 0 p)).speed ≡ lesser (p.speed + suc (k / p.time)) p.goal
-      by true q =
-          let l : p.speed < p.goal = ltb-true _ _ q in
-          ap (λ (n : ℕ). (after k (paced n 0 p)).speed) (up p.speed p.goal l)
-          ∙ climb_from (suc p.speed) (omega arith) l
-          ∙ ap (λ (n : ℕ). lesser n p.goal) (let z : suc p.speed + k / p.time ≡ p.speed + suc (k / p.time) = omega arith in z)
-      by false q =
-          let l : p.goal ≤ p.speed = ltb-false _ _ q in
-          let z : p.speed ≡ p.goal = omega arith in
-          ap (λ (n : ℕ). (after k (paced n 0 p)).speed) (there p.speed p.goal z)
-          ∙ climb_from p.speed c.moving h
-          ∙ lesser_top (p.speed + k / p.time) p.goal (omega arith)
-          ∙ sym (lesser_top (p.speed + suc (k / p.time)) p.goal (omega arith))
 
 climb_speed : (k : ℕ) (p : Motion) → ClimbSpeed k p
 climb_speed zero p c s h =
@@ -242,56 +141,6 @@ fall p k c s o h =
         by false e q = omega arith
 
 -- ---- a smooth stop
-
--- what is left of it: so many units, by the T-th ticks among k
-slowed : ℕ → ℕ → ℕ → ℕ
-slowed speed goal n = cond (ltb n (suc speed - goal)) (speed - n) 0
-
--- one unit less to go is one T-th tick less
-fewer : (n v g : ℕ) → g < v → ltb n (suc (v - 1) - g) ≡ ltb (suc n) (suc v - g)
-fewer n v g l = at (ltb n (suc (v - 1) - g)) refl
-  where
-    at : (t : Bool) → ltb n (suc (v - 1) - g) ≡ t → t ≡ ltb (suc n) (suc v - g)
-    at true e = let q : n < suc (v - 1) - g = ltb-true _ _ e in sym (lt-ltb (suc n) (suc v - g) (omega arith))
-    at false e = let q : suc (v - 1) - g ≤ n = ltb-false _ _ e in sym (le-ltb (suc n) (suc v - g) (omega arith))
-
-abbrev SlowSpeed : ℕ → Motion → Type 0
-SlowSpeed k p = Counting p → p.stopping ≡ true → 0 < p.goal → p.goal ≤ p.speed → (after k p).speed ≡ slowed p.speed p.goal ((p.ticks + k) / p.time)
-
-module _ (k : ℕ) (ih : (p : Motion) → SlowSpeed k p) (p : Motion) (c : Counting p) (s : p.stopping ≡ true) (o : 0 < p.goal) (h : p.goal ≤ p.speed) where
-  slow_next : suc p.ticks < p.time → (after (suc k) p).speed ≡ slowed p.speed p.goal ((p.ticks + suc k) / p.time)
-  slow_next l =
-      ap (λ (q : Motion). (after k q).speed) (counts p c l)
-      ∙ ih (paced p.speed (suc p.ticks) p) (on p c l) s o h
-      ∙ ap (slowed p.speed p.goal) (same_count p.ticks k p.time)
-
-  slow_from : (n : ℕ) → p.goal ≤ n → (after k (paced n 0 p)).speed ≡ slowed n p.goal (k / p.time)
-  slow_from n l =
-      ih (paced n 0 p) (record { moving = omega arith; counted = omega (arith, c.counted) }) s o l
-      ∙ ap (λ (j : ℕ). slowed n p.goal (j / p.time)) (let z : 0 + k ≡ k = omega arith in z)
-
-  slow_last : suc p.ticks ≡ p.time → (after (suc k) p).speed ≡ slowed p.speed p.goal ((p.ticks + suc k) / p.time)
-  unfolding changed slowed
-  slow_last e =
-      ap (λ (q : Motion). (after k q).speed) (turns p c e)
-      ∙ by (ltb p.goal p.speed) refl
-      ∙ ap (slowed p.speed p.goal) (sym (one_more p.ticks k p.time e))
-    where
-      by : (t : Bool) → ltb p.goal p.speed ≡ t → (after k (changed p)).speed ≡ slowed p.speed p.goal (suc (k / p.time))
-      by true q =
-          let l : p.goal < p.speed = ltb-true _ _ q in
-          ap (λ (t : Bool). (after k (cond (p.stopping && t) rest (paced (nearer p.speed p.goal) 0 p))).speed) (ne_eqb p.speed p.goal (λ z. omega arith))
-          ∙ ap (λ (t : Bool). (after k (cond (t && false) rest (paced (nearer p.speed p.goal) 0 p))).speed) s
-          ∙ ap (λ (n : ℕ). (after k (paced n 0 p)).speed) (down p.speed p.goal l)
-          ∙ slow_from (p.speed - 1) (omega arith)
-          ∙ ap₂ (λ (t : Bool) (n : ℕ). cond t n 0) (fewer (k / p.time) p.speed p.goal l)
-          (let z : p.speed - 1 - k / p.time ≡ p.speed - suc (k / p.time) = omega arith in z)
-      by false q =
-          let l : p.speed ≤ p.goal = ltb-false _ _ q in
-          let z : p.speed ≡ p.goal = omega arith in
-          ap₂ (λ (a b : Bool). (after k (cond (a && b) rest (paced (nearer p.speed p.goal) 0 p))).speed) s (eq-eqb p.speed p.goal z)
-          ∙ ap (λ (q : Motion). q.speed) (stays_at_rest k)
-          ∙ sym (ap (λ (t : Bool). cond t (p.speed - suc (k / p.time)) 0) (le-ltb (suc (k / p.time)) (suc p.speed - p.goal) (omega arith)))
 
 slow_speed : (k : ℕ) (p : Motion) → SlowSpeed k p
 unfolding slowed

@@ -1,34 +1,15 @@
 -- What one tick does to speed and position. Assumes nothing.
 use mathlib.Core.Path.{◌≡◌, refl, sym, ap, ◌∙◌}
 use mathlib.Core.Bool.{Bool, true, false, cond, ◌&&◌, true≢false}
-use Prim.Native.Nat.{ℕ, suc, ◌+◌, ◌-◌, ◌%◌, ◌^◌, ◌<◌, ◌≤◌}
+use Prim.Native.Nat.{ℕ, suc, ◌+◌, ◌-◌, ◌%◌, ◌^◌, ◌≤◌}
 use native.Mathlib.Omega.{arith}
-use borrow.Author.Tests.{ltb-true}
-use lib.Dec.{eqb, ltb}
+use lib.Dec.{eqb}
 use Rattle.base_integers.specs.Whole.{less}
 use Rattle.stepper_rules.specs.declared.Motion.{Motion}
 use Rattle.stepper_rules.specs.State.{rest, is_moving}
 use Rattle.stepper_rules.specs.Ramp.{nearer, paced, changed, onward, moved, ticked}
 use Rattle.stepper_rules.specs.RampPromises.{NeverPast, Ticking, Computed}
-
--- one unit at most, and never past the goal
-record Near (s g n : ℕ) : Type 0 where
-  below : s ≤ g → n ≤ g
-  above : g ≤ s → g ≤ n
-  most : n ≤ suc s
-  least : s ≤ suc n
-
-nearer_is : (s g : ℕ) → Near s g (nearer s g)
-nearer_is s g = by (ltb s g) (ltb g s) refl refl
-  where
-    by : (a b : Bool) → ltb s g ≡ a → ltb g s ≡ b → Near s g (cond a (suc s) (cond b (s - 1) s))
-    by true b p q =
-        let l : s < g = ltb-true s g p in
-        record { below = λ h. omega arith; above = λ h. omega arith; most = omega arith; least = omega arith }
-    by false true p q =
-        let l : g < s = ltb-true g s q in
-        record { below = λ h. omega arith; above = λ h. omega arith; most = omega arith; least = omega arith }
-    by false false p q = record { below = λ h. h; above = λ h. h; most = omega arith; least = omega arith }
+use Rattle.stepper_rules.proofs.OneTick.{nearer_is}
 
 -- what is so of a motion, of it with another count, at rest, and with a speed one unit nearer, is so after a tick
 by_tick : (P : Motion → Type 0) (p : Motion) → P p → ((n : ℕ) → P (paced p.speed n p)) → (p.stopping ≡ true → P rest)
