@@ -1,5 +1,5 @@
 -- `base_integers::difference` meets its contract. Assumes nothing.
-use Rattle.std.proofs.Common.{ap, ◌∙◌, w64, rules}
+use Rattle.std.proofs.Common.{ap, ◌∙◌, w64}
 use mir.ValLaws.{to_z-of_z}
 use Rattle.base_integers.specs.Whole.{signed, difference}
 use Rattle.base_integers.proofs.difference.Goals as goal

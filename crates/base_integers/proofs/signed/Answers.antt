@@ -1,5 +1,5 @@
 -- `base_integers::signed` meets its contract: either half of the range lands in its own case of the definition. Assumes nothing.
-use Rattle.std.proofs.Common.{◌≡◌, ℕ, suc, ◌-◌, ◌^◌, ◌<◌, Bool, true, false, cond, ltb, pos, ◌-ℤ◌, neg_ℤ, refl, ◌∙◌, arith, w64, to_z, rules, ltb-false, ltb-true, le-ltb, lt-ltb}
+use Rattle.std.proofs.Common.{◌≡◌, ℕ, suc, ◌-◌, ◌^◌, ◌<◌, Bool, true, false, cond, ltb, pos, ◌-ℤ◌, neg_ℤ, refl, ◌∙◌, arith, w64, to_z, ltb-false, ltb-true, le-ltb, lt-ltb}
 use mir.ValLaws.{to_z-of_z, to_z_pos}
 use Rattle.base_integers.specs.Whole.{less, signed}
 use Rattle.base_integers.proofs.Sizes.{abs_signed, fits}

@@ -1,11 +1,11 @@
 -- `base_integers::word` meets its contract: of a number below 0 what it lacks to -1 is taken off -1's bits. Assumes nothing.
-use Rattle.std.proofs.Common.{◌≡◌, ℕ, zero, suc, ◌-◌, ◌%◌, ◌^◌, true, false, ℤ, pos, negsuc, ◌+ℤ◌, ◌-ℤ◌, neg_ℤ, nat_abs, sym, refl, true≢false, not-suc-le-zero, arith, w64, SFits, to_z, of_z, rules, ltb-true}
+use Rattle.std.proofs.Common.{◌≡◌, ℕ, zero, suc, ◌-◌, ◌%◌, ◌^◌, true, false, ℤ, pos, negsuc, ◌+ℤ◌, ◌-ℤ◌, neg_ℤ, nat_abs, sym, refl, true≢false, not-suc-le-zero, arith, w64, SFits, to_z, of_z, ltb-true}
 use lib.IntN.{+ℤ_idl}
 use lib.Signed.{lt_z, mag}
 use mir.ValLaws.{to_z-of_z}
 use Rattle.base_integers.specs.Whole.{word}
 use Rattle.base_integers.proofs.Parts.{parts_add, parts_neg, parts_same}
-use Rattle.base_integers.proofs.Sizes.{abs_neg, above, fits}
+use Rattle.base_integers.proofs.Sizes.{abs_neg, fits}
 use Rattle.base_integers.proofs.word.Goals as goal
 use Rattle.base_integers.proofs.word.Goals.{Start, Then-z-lt0}
 

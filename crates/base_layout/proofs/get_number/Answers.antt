@@ -1,9 +1,8 @@
 -- `base_layout::get_number` meets its contract. The invariant: the bytes above the place where the loop is spell the number so far. Assumes nothing.
 use mathlib.Core.Path.{◌≡◌}
-use Prim.Native.Nat.{ℕ, suc, ◌+◌, ◌-◌, ◌^◌, ◌<◌, ◌≤◌}
+use Prim.Native.Nat.{ℕ, suc, ◌+◌, ◌-◌}
 use native.Mathlib.Omega.{arith}
-use lib.ListN.{get_or, take, drop}
-use Rattle.base_layout.specs.Bytes.{of_le}
+use lib.ListN.{get_or}
 use Rattle.base_layout.proofs.Top.{top_turn, top_small, top_more}
 use Rattle.base_layout.proofs.get_number.Goals as goal
 

@@ -1,10 +1,8 @@
 -- `base_layout::put_number` meets its contract. The invariant: what is left of the number, put where the loop is, gives the whole. Assumes nothing.
-use mathlib.Core.Path.{◌≡◌, refl, sym, ◌∙◌}
+use mathlib.Core.Path.{◌≡◌}
 use Prim.Native.Nat.{◌+◌}
-use native.Mathlib.Omega.{arith}
-use lib.ListN.{length, length-set}
+use lib.ListN.{length}
 use Rattle.base_layout.specs.Bytes.{le, pasted}
-use Rattle.base_layout.proofs.Pasted.{pasted_none, number_turn}
 use Rattle.base_layout.proofs.put_number.Given as goal
 
 abbrev pub invariant-loop-left : goal.invariant-loop-left

@@ -1,14 +1,13 @@
 -- `base_text::put_decimal` meets its contract. The invariant: the digits of what is left, before those that are there, give the whole. Assumes nothing.
 use mathlib.Core.Path.{◌≡◌, refl, sym, ap, ◌∙◌}
-use mathlib.Core.List.{List, ◌++◌}
-use Prim.Native.Nat.{ℕ, ◌-◌, ◌/◌, ◌^◌, ◌<◌, ◌≤◌}
+use mathlib.Core.List.{List}
+use Prim.Native.Nat.{ℕ, ◌-◌, ◌/◌, ◌^◌, ◌<◌}
 use native.Mathlib.Omega.{arith}
-use lib.ListN.{length, take, drop, length-take, length-drop, length-set}
+use lib.ListN.{length, take, drop, length-drop}
 use lib.Seq.{take_all}
 use Rattle.base_layout.specs.Bytes.{pasted}
 use Rattle.base_text.specs.Digits.{decimal}
-use Rattle.base_text.specs.Digits as Spec
-use Rattle.base_text.proofs.Digits.{decimal_is, digit_turn, some_left, less, ends}
+use Rattle.base_text.proofs.Digits.{decimal_is, ends}
 use Rattle.base_text.proofs.put_decimal.Goals as goal
 
 pub loop-rest-init : goal.loop-rest-init

@@ -1,11 +1,5 @@
 -- `doljurven::nmc_byte` meets its contract. Assumes nothing.
-use Rattle.api_rules.proofs.Refused.{byte_passes, byte_refused, byte-done}
-use mathlib.Core.Path.{sym, ◌∙◌}
-use borrow.Author.Rules.{rules}
-use Rattle.doljurven.proofs.nmc_byte.Reads as reads
-use Rattle.doljurven.proofs.nmc_byte.Lts as lts
-use Rattle.api_refusals.proofs.byte_refusal.Reads as byte-refusal-reads
-use Rattle.net_traffic.proofs.byte.Reads as byte-Reads
+use Rattle.api_rules.proofs.Refused.{byte_refused, byte-done}
 use Rattle.doljurven.proofs.nmc_byte.Goals as goal
 
 pub returns-then-number-ne0 : goal.returns-then-number-ne0

@@ -1,8 +1,5 @@
 -- `doljurven::nmc_bytes` meets its contract. Assumes nothing.
-use mathlib.Core.Path.{sym, ◌∙◌}
-use native.Mathlib.Omega.{arith}
-use borrow.Author.Rules.{rules}
-use Rattle.api_rules.proofs.Refused.{buffer_passes, buffer_refused, buffer_done}
+use Rattle.api_rules.proofs.Refused.{buffer_refused, buffer_done}
 use Rattle.doljurven.proofs.nmc_bytes.Goals as goal
 
 pub returns-then-number-ne0 : goal.returns-then-number-ne0

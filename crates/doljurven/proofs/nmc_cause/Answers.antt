@@ -1,13 +1,11 @@
 -- `doljurven::nmc_cause` meets its contract. Assumes nothing.
-use Rattle.api_rules.proofs.Refused.{refused, done, place_passes}
+use Rattle.api_rules.proofs.Refused.{refused, done}
 use Rattle.net_rules.specs.Calls.{cause_at}
 use Rattle.net_rules.specs.Record.{net_in}
 use Rattle.types_rules.specs.Types.{slots}
 use Rattle.api_rules.specs.Calls.{cause_byte}
 use Rattle.api_rules.specs.Table.{place_table}
-use mathlib.Core.Path.{sym, ◌∙◌}
-use native.Mathlib.Omega.{arith}
-use borrow.Author.Rules.{rules}
+use mathlib.Core.Path.{◌∙◌}
 use Rattle.doljurven.proofs.nmc_cause.Goals as goal
 
 pub returns-then-number-eq0 : goal.returns-then-number-eq0

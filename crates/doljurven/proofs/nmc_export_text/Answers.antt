@@ -1,11 +1,9 @@
 -- `doljurven::nmc_export_text` meets its contract. Assumes nothing.
-use mathlib.Core.Path.{◌≡◌, sym, ap, ◌∙◌}
+use mathlib.Core.Path.{sym, ◌∙◌}
 use Prim.Native.Nat.{◌+◌}
 use native.Mathlib.Omega.{arith}
-use borrow.Author.Rules.{rules}
 use borrow.Author.Tests.{ltb-true, ltb-false}
 use lib.ListN.{length}
-use Rattle.text_rules.specs.Records.{all_line, bytes_in, marks}
 use Rattle.text_rules.proofs.Records.{measured-line, measured_other, text_length}
 use Rattle.api_rules.proofs.Text.{export_other, export_short, export_done}
 use Rattle.doljurven.proofs.nmc_export_text.Goals as goal

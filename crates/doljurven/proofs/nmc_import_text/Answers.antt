@@ -1,15 +1,13 @@
 -- `doljurven::nmc_import_text` meets its contract. Assumes nothing.
-use mathlib.Core.Path.{◌≡◌, sym, ap, subst, subst⁻¹, ◌∙◌}
+use mathlib.Core.Path.{◌≡◌, sym, ap, subst, ◌∙◌}
 use mathlib.Core.Bool.{false}
 use mathlib.Core.List.{List}
 use Prim.Native.Nat.{ℕ, ◌*◌, ◌/◌, ◌≤◌}
 use native.Mathlib.Omega.{arith}
-use borrow.Author.Rules.{rules}
-use borrow.Author.Tests.{not-true, not-false}
 use lib.ListN.{length, take}
 use Rattle.base_layout.specs.Bytes.{pasted}
 use Rattle.text_rules.specs.Records.{records}
-use Rattle.text_rules.specs.Import.{Stage, read_from, read_text, is_text, Fit, CameTo}
+use Rattle.text_rules.specs.Import.{Stage, read_from, read_text, is_text, CameTo}
 use Rattle.text_rules.proofs.Normal.{whole_is, records_fit}
 use Rattle.text_rules.proofs.Putting.{put_all}
 use Rattle.api_rules.proofs.Text.{import_none, import_short, import_done}

@@ -1,17 +1,11 @@
 -- `doljurven::nmc_outputs` meets its contract. Assumes nothing.
-use Rattle.api_rules.proofs.Refused.{refused, done, place_passes}
+use Rattle.api_rules.proofs.Refused.{refused, done}
 use Rattle.net_rules.specs.Calls.{outputs_at}
 use Rattle.net_rules.specs.Record.{net_in}
 use Rattle.types_rules.specs.Types.{slots}
 use Rattle.api_rules.specs.Calls.{outputs_bytes}
 use Rattle.api_rules.specs.Table.{place_table}
 use mathlib.Core.Path.{sym, ◌∙◌}
-use native.Mathlib.Omega.{arith}
-use borrow.Author.Rules.{rules}
-use Rattle.doljurven.proofs.nmc_outputs.Reads as reads
-use Rattle.doljurven.proofs.nmc_outputs.Lts as lts
-use Rattle.api_refusals.proofs.place_refusal.Reads as place-refusal-reads
-use Rattle.net_record.proofs.outputs.Reads as outputs-reads
 use Rattle.doljurven.proofs.nmc_outputs.Goals as goal
 
 pub returns-then-number-ne0 : goal.returns-then-number-ne0

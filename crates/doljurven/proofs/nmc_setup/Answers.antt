@@ -1,14 +1,9 @@
 -- `doljurven::nmc_setup` meets its contract. Assumes nothing.
-use Rattle.api_rules.proofs.Refused.{refused, done, setup_passes}
+use Rattle.api_rules.proofs.Refused.{refused, done}
 use Rattle.net_rules.specs.Calls.{fresh}
 use Rattle.api_rules.specs.Calls.{setup_record}
 use Rattle.api_rules.specs.Table.{setup_table}
 use mathlib.Core.Path.{sym, ◌∙◌}
-use borrow.Author.Rules.{rules}
-use Rattle.doljurven.proofs.nmc_setup.Reads as reads
-use Rattle.doljurven.proofs.nmc_setup.Lts as lts
-use Rattle.api_refusals.proofs.setup_refusal.Reads as setup-refusal-reads
-use Rattle.net_record.proofs.set_up.Reads as set-up-reads
 use Rattle.doljurven.proofs.nmc_setup.Goals as goal
 
 pub returns-then-number-ne0 : goal.returns-then-number-ne0

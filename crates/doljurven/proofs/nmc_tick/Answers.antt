@@ -1,7 +1,5 @@
 -- `doljurven::nmc_tick` meets its contract. Assumes nothing.
-use mathlib.Core.Path.{sym, ◌∙◌}
-use borrow.Author.Rules.{rules}
-use Rattle.api_rules.proofs.Refused.{Ticks, tick_passes, tick_refused, tick_done}
+use Rattle.api_rules.proofs.Refused.{tick_refused, tick_done}
 use Rattle.doljurven.proofs.nmc_tick.Goals as goal
 
 pub returns-then-number-ne0 : goal.returns-then-number-ne0

@@ -1,11 +1,8 @@
 -- `doljurven::put_numbers` meets its contract. The invariant: the numbers left, put where the loop is, give the whole. Assumes nothing.
-use mathlib.Core.Path.{◌≡◌, refl, sym, ◌∙◌}
-use Prim.Native.Nat.{◌+◌, ◌*◌, ◌-◌, ◌≤◌}
+use mathlib.Core.Path.{◌≡◌, sym, ◌∙◌}
+use Prim.Native.Nat.{◌+◌, ◌-◌}
 use native.Mathlib.Omega.{arith}
-use lib.ListN.{length}
-use Rattle.base_layout.specs.Bytes.{pasted}
 use Rattle.base_layout.proofs.Pasted.{pasted_none}
-use Rattle.api_rules.specs.Calls.{numbers_bytes}
 use Rattle.api_rules.proofs.Numbers.{numbers_turn}
 use Rattle.doljurven.proofs.put_numbers.Goals as goal
 

@@ -1,5 +1,5 @@
 -- `host_frame::put_frame` meets its contract. Assumes nothing.
-use Rattle.std.proofs.Common.{◌≡◌, ℕ, ◌+◌, ◌*◌, List, [], ◌∷◌, ◌++◌, length, set, ap, ◌∙◌, arith, length-set, rules}
+use Rattle.std.proofs.Common.{◌≡◌, ℕ, ◌+◌, ◌*◌, List, [], ◌∷◌, ◌++◌, length, set, ap, ◌∙◌, arith}
 use Rattle.base_layout.specs.Bytes.{pasted}
 use Rattle.line_receiver.specs.Receive.{sum8}
 use Rattle.host_rules.proofs.Framed.{framed}

@@ -1,7 +1,6 @@
 -- `host_frame::write_frame` meets its contract. Assumes nothing.
-use Rattle.std.proofs.Common.{◌≡◌, ◌+◌, true, length, arith, rules, le-ltb, lt-ltb}
+use Rattle.std.proofs.Common.{◌≡◌, ◌+◌, true, length, le-ltb, lt-ltb}
 use Rattle.host_rules.specs.Writing.{unfit, written_of, room_after}
-use Rattle.host_rules.proofs.Tests.{fit}
 use Rattle.host_frame.proofs.write_frame.Goals as goal
 
 pub returns-then-address-code : goal.returns-then-address-code

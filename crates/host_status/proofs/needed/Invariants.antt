@@ -1,12 +1,8 @@
 -- `host_status::needed` meets its contract. The invariant: the bytes counted and those of the items left give the whole. Assumes nothing.
-use mathlib.Core.Path.{◌≡◌, refl}
-use mathlib.Core.List.{[]}
+use mathlib.Core.Path.{◌≡◌}
 use Prim.Native.Nat.{◌+◌, ◌*◌, ◌-◌, ◌≤◌}
-use native.Mathlib.Omega.{arith}
-use borrow.Author.Rules.{rules}
-use lib.ListN.{length, drop, drop_of_length-le}
+use lib.ListN.{length, drop}
 use Rattle.host_rules.specs.Reading.{chosen_size, needed_for}
-use Rattle.host_rules.proofs.Turns.{size_turn}
 use Rattle.host_status.proofs.needed.Given as goal
 
 abbrev pub invariant-loop-i : goal.invariant-loop-i

@@ -1,13 +1,11 @@
 -- `host_status::read` meets its contract. The invariant: the numbers read and those that the bytes left hold give the whole. Assumes nothing.
-use mathlib.Core.List.{append-nil, [], ◌++◌}
-use mathlib.Core.Path.{◌≡◌, refl, sym, ◌∙◌}
-use Prim.Native.Nat.{◌+◌, ◌-◌, ◌≤◌}
+use mathlib.Core.List.{append-nil, []}
+use mathlib.Core.Path.{◌≡◌, sym, ◌∙◌}
+use Prim.Native.Nat.{◌-◌}
 use native.Mathlib.Omega.{arith}
-use borrow.Author.Rules.{rules}
-use lib.ListN.{length, get_or, take, drop, length-set, drop_of_length-le}
+use lib.ListN.{take, drop, drop_of_length-le}
 use lib.Seq.{take_all}
-use Rattle.host_rules.specs.Reading.{chosen_size, numbers_in, reading_of}
-use Rattle.host_rules.proofs.Turns.{size_least, size_turn, number_turn}
+use Rattle.host_rules.specs.Reading.{numbers_in, reading_of}
 use Rattle.host_status.proofs.read.Goals as goal
 
 pub returns : goal.returns

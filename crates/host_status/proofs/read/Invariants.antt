@@ -1,13 +1,9 @@
 -- `host_status::read` meets its contract. The invariant: the numbers read and those that the bytes left hold give the whole. Assumes nothing.
-use mathlib.Core.List.{append-nil, [], ◌++◌}
-use mathlib.Core.Path.{◌≡◌, refl, sym, ◌∙◌}
+use mathlib.Core.List.{◌++◌}
+use mathlib.Core.Path.{◌≡◌}
 use Prim.Native.Nat.{◌+◌, ◌-◌, ◌≤◌}
-use native.Mathlib.Omega.{arith}
-use borrow.Author.Rules.{rules}
-use lib.ListN.{length, get_or, take, drop, length-set, drop_of_length-le}
-use lib.Seq.{take_all}
-use Rattle.host_rules.specs.Reading.{chosen_size, numbers_in, reading_of}
-use Rattle.host_rules.proofs.Turns.{size_least, size_turn, number_turn}
+use lib.ListN.{length, take, drop}
+use Rattle.host_rules.specs.Reading.{chosen_size, numbers_in}
 use Rattle.host_status.proofs.read.Given as goal
 
 abbrev pub invariant-loop-i : goal.invariant-loop-i

@@ -1,7 +1,6 @@
 -- `inout_parse::own_request` meets its contract. Each code is one arm. Assumes nothing.
 use borrow.Author.Tests.{ne_eqb}
 use Rattle.inout_rules.specs.Asks.{own}
-use borrow.Author.Rules.{rules}
 use Rattle.inout_parse.proofs.own_request.Goals as goal
 
 pub returns-in-0 : goal.returns-in-0

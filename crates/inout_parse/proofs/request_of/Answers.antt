@@ -1,6 +1,5 @@
 -- `inout_parse::request_of` meets its contract. Assumes nothing.
 use Rattle.module_rules.specs.Rules.{request}
-use borrow.Author.Rules.{rules}
 use Rattle.inout_parse.proofs.request_of.Goals as goal
 
 pub returns-in-Other : goal.returns-in-Other

@@ -1,9 +1,6 @@
 -- `inout_perform::blended` meets its contract. The sum of two masks picks each bit by its direction. Assumes nothing.
 use Rattle.inout_rules.proofs.Blend.{blend_is}
-use lib.Bits.{and_le_l}
-use native.Mathlib.Omega.{arith}
 use mathlib.Core.Path.{sym}
-use borrow.Author.Rules.{rules}
 use Rattle.inout_perform.proofs.blended.Goals as goal
 
 pub returns : goal.returns

@@ -1,6 +1,5 @@
 -- `inout_perform::put_reply` meets its contract. Assumes nothing.
 use Rattle.module_rules.specs.Rules.{reply}
-use borrow.Author.Rules.{rules}
 use Rattle.inout_perform.proofs.put_reply.Goals as goal
 
 pub returns : goal.returns

@@ -1,6 +1,5 @@
 -- `inout_slot::decode` meets its contract. Assumes nothing.
 use Rattle.inout_slot_rules.specs.Slot.{decode_of}
-use borrow.Author.Rules.{rules}
 use Rattle.inout_slot.proofs.decode.Goals as goal
 
 pub returns : goal.returns

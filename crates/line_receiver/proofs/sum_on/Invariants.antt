@@ -1,5 +1,5 @@
 -- `line_receiver::sum_on` meets its contract: with the bytes not yet passed, the loop's sum gives the whole. Assumes nothing.
-use Rattle.std.proofs.Common.{◌≡◌, ◌+◌, ◌-◌, ◌%◌, ◌<◌, ◌≤◌, length, get_or, drop, add-one, arith, drop_of_length-le, drop-cons, rules}
+use Rattle.std.proofs.Common.{◌≡◌, ◌+◌, ◌-◌, ◌%◌, ◌<◌, ◌≤◌, length, drop}
 use Rattle.line_receiver.specs.Receive.{total}
 use Rattle.line_receiver.proofs.sum_on.Given as goal
 

@@ -1,8 +1,6 @@
 -- `module_reply::put_item` meets its contract. Assumes nothing.
-use Rattle.base_layout.proofs.Pasted.{pasted_none}
 use Rattle.base_layout.proofs.Laws.{length-le}
-use mathlib.Core.Path.{refl, sym}
-use borrow.Author.Rules.{rules}
+use mathlib.Core.Path.{sym}
 use Rattle.module_reply.proofs.put_item.Goals as goal
 
 pub returns-then-t : goal.returns-then-t

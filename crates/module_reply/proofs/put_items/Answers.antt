@@ -1,14 +1,8 @@
 -- `module_reply::put_items` meets its contract. The invariant: the items left, put where the loop is, give the whole. Assumes nothing.
-use Rattle.module_rules.proofs.Items.{turn, total-drop}
-use mathlib.Core.Path.{◌≡◌, refl, sym, ◌∙◌}
-use mathlib.Core.List.{[]}
-use Prim.Native.Nat.{◌+◌, ◌-◌, ◌≤◌}
+use Rattle.module_rules.proofs.Items.{turn}
+use mathlib.Core.Path.{◌∙◌}
+use Prim.Native.Nat.{◌-◌}
 use native.Mathlib.Omega.{arith}
-use lib.ListN.{length, drop, drop_of_length-le}
-use Rattle.base_layout.specs.Bytes.{pasted}
-use Rattle.base_layout.proofs.Pasted.{pasted_none}
-use Rattle.line_receiver.specs.Receive.{total}
-use Rattle.module_rules.specs.Report.{chosen}
 use Rattle.module_reply.proofs.put_items.Goals as goal
 
 pub loop-i-preserved : goal.loop-i-preserved

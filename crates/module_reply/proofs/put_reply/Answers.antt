@@ -2,7 +2,6 @@
 use Rattle.module_rules.specs.Report.{reply_of}
 use Rattle.base_layout.proofs.Pasted.{pasted_none}
 use mathlib.Core.Path.{refl, sym}
-use borrow.Author.Rules.{rules}
 use Rattle.module_reply.proofs.put_reply.Goals as goal
 
 pub returns-then-f-s : goal.returns-then-f-s

@@ -1,14 +1,9 @@
 -- `module_reply::put_report` meets its contract. Assumes nothing.
 use mathlib.Core.Path.{◌≡◌}
 use Prim.Native.Nat.{◌<◌, ◌≤◌}
-use lib.ListN.{length, length-set}
+use lib.ListN.{length}
 use Rattle.module_rules.proofs.Items.{end_is, report_is}
 use native.Mathlib.Omega.{arith}
-use borrow.Author.Rules.{rules}
-use Rattle.module_reply.proofs.put_report.Reads as reads
-use Rattle.module_reply.proofs.put_report.Lts as lts
-use Rattle.line_receiver.proofs.sum_on.Reads as sum-on-reads
-use Rattle.module_reply.proofs.put_items.Reads as put-items-reads
 use Rattle.module_reply.proofs.put_report.Goals as goal
 use Rattle.module_reply.proofs.put_report.Goals.{After-put_items-end}
 

@@ -1,7 +1,6 @@
 -- `module_station::asked_by` meets its contract. Each code is one arm. Assumes nothing.
 use borrow.Author.Tests.{ne_eqb}
 use Rattle.module_rules.specs.Commands.{asked}
-use borrow.Author.Rules.{rules}
 use Rattle.module_station.proofs.asked_by.Goals as goal
 
 pub returns-then-alone : goal.returns-then-alone

@@ -1,8 +1,5 @@
 -- `monitor_file::begun` meets its contract. Assumes nothing.
-use mathlib.Core.Path.{refl}
 use native.Mathlib.Omega.{arith}
-use borrow.Author.Rules.{rules}
-use borrow.Author.Tests.{eq-eqb, ne_eqb, le-leb, lt-leb}
 use Rattle.replay_file.proofs.Turning.{body_short}
 use Rattle.monitor_file.proofs.begun.Goals as goal
 

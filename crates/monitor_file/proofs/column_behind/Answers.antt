@@ -1,13 +1,11 @@
 -- `monitor_file::column_behind` meets its contract. The invariant: no newline stands from the place on. Assumes nothing.
 use mathlib.Core.Path.{◌≡◌, sym, ap, ◌∙◌}
-use Prim.Native.Nat.{ℕ, ◌-◌, ◌≤◌}
+use Prim.Native.Nat.{ℕ, ◌-◌}
 use native.Mathlib.Omega.{arith}
-use borrow.Author.Tests.{ne_eqb}
-use lib.ListN.{length, drop}
-use lib.Seq.{drop-length}
+use lib.ListN.{drop}
 use Rattle.base_text.specs.Digits.{newline}
 use Rattle.text_rules.specs.Promises.{occurs}
-use Rattle.monitor_file.proofs.Spotted.{spot_none, occurs_turn, spot_found}
+use Rattle.monitor_file.proofs.Spotted.{spot_none, spot_found}
 use Rattle.monitor_file.proofs.column_behind.Goals as goal
 
 pub returns-then-text-i-eq10 : goal.returns-then-text-i-eq10

@@ -1,7 +1,6 @@
 -- `monitor_file::spot_after` meets its contract: the line fits, since the place that it belongs to is near. Assumes nothing.
 use mathlib.Core.Path.{sym}
 use native.Mathlib.Omega.{arith}
-use borrow.Author.Rules.{rules}
 use Rattle.monitor_file.specs.Spots.{spot_after}
 use Rattle.monitor_file.proofs.Spotted.{spot_put, near_after, spot_offset, spot_line}
 use Rattle.monitor_file.proofs.spot_after.Goals as goal

@@ -1,8 +1,7 @@
 -- `monitor_file::step` meets its contract: a line for each part. Assumes nothing.
-use mathlib.Core.Path.{sym, ap, subst, ◌∙◌}
-use borrow.Author.Rules.{rules}
+use mathlib.Core.Path.{sym, ap, ◌∙◌}
 use Rattle.monitor_file.specs.declared.Part.{Part}
-use Rattle.monitor_file.specs.Looking.{step, Fit}
+use Rattle.monitor_file.specs.Looking.{step}
 use Rattle.monitor_file.proofs.step.Goals as goal
 
 pub returns-in-Kind : goal.returns-in-Kind

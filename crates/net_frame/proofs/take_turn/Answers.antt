@@ -1,11 +1,7 @@
 -- `net_frame::take_turn` meets its contract. Assumes nothing.
 use Rattle.net_rules.proofs.OneTurn.{touched_turn, passed_turn}
 use Rattle.module_rules.specs.Touch.{frame_of}
-use Rattle.module_rules.specs.Slots.{slot_size}
-use Prim.Native.Nat.{◌+◌, ◌-◌}
-use mathlib.Core.Path.{◌≡◌}
-use native.Mathlib.Omega.{arith}
-use borrow.Author.Rules.{rules}
+use Prim.Native.Nat.{◌-◌}
 use Rattle.net_frame.proofs.take_turn.Goals as goal
 
 pub returns-then-enabled-is_named : goal.returns-then-enabled-is_named

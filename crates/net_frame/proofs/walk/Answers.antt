@@ -1,25 +1,16 @@
 -- `net_frame::walk` meets its contract. The invariant: the rest of the walk, from the record as it is, gives the whole. Assumes nothing.
-use mathlib.Core.Path.{◌≡◌, refl, ap, ap₂, ◌∙◌}
+use mathlib.Core.Path.{◌≡◌, ap, ap₂, ◌∙◌}
 use mathlib.Core.List.{List}
-use mathlib.Core.Bool.{true}
-use Prim.Native.Nat.{ℕ, ◌+◌, ◌*◌, ◌≤◌}
+use Prim.Native.Nat.{ℕ, ◌≤◌}
 use native.Mathlib.Omega.{arith}
-use lib.ListN.{length, drop, replicate}
-use Rattle.base_layout.specs.Bytes.{pasted}
+use lib.ListN.{length}
 use Rattle.module_rules.specs.Touch.{frame_of}
-use Rattle.chain_rules.specs.Chain.{join}
 use Rattle.types_rules.specs.Types.{kind, slots}
 use Rattle.types_rules.proofs.Laws.{lawful}
 use Rattle.net_rules.specs.declared.Turn.{Turn}
-use Rattle.net_rules.specs.Record.{ok_slots, slots_at, chain_most}
-use Rattle.net_rules.specs.Walk.{turned, walked, speech, words_at, turn_of, walk_of}
-use Rattle.net_rules.specs.Calls.{noted}
+use Rattle.net_rules.specs.Walk.{turned, words_at, turn_of, walk_of}
 use Rattle.net_rules.proofs.Ahead.{turn_ok, ahead_ok, turned-after}
 use Rattle.net_rules.proofs.Rounds.{Round, round, done, word_short}
-use Rattle.net_frame.proofs.walk.Reads as reads
-use Rattle.net_frame.proofs.walk.Lts as lts
-use Rattle.net_frame.proofs.take_turn.Reads as take-turn-reads
-use Rattle.module_rules.specs.Slots.{slot_size}
 use Rattle.module_rules.specs.Owes.{reply_size}
 use Rattle.net_frame.proofs.walk.Goals as goal
 use Rattle.net_frame.proofs.walk.Goals.{After-take_turn-t}

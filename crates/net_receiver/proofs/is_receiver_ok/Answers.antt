@@ -1,9 +1,7 @@
 -- `net_receiver::is_receiver_ok` meets its contract: an idle receiver is blank, another has no more bytes in than announced. Assumes nothing.
 use Rattle.net_rules.proofs.Tests.{idle_test}
-use Rattle.net_rules.specs.Record.{ok_receiver, command_at}
+use Rattle.net_rules.specs.Record.{ok_receiver}
 use borrow.Author.Tests.{ne_eqb}
-use native.Mathlib.Omega.{arith}
-use borrow.Author.Rules.{rules}
 use Rattle.net_receiver.proofs.is_receiver_ok.Goals as goal
 
 pub returns-then-s-eq0 : goal.returns-then-s-eq0

@@ -3,7 +3,6 @@ use mathlib.Core.Path.{ap}
 use native.Mathlib.Omega.{arith}
 use Rattle.module_rules.specs.declared.Station.{Station}
 use Rattle.net_rules.proofs.Calls.{Placed, placed, cause_at_lem}
-use borrow.Author.Rules.{rules}
 use Rattle.net_record.proofs.cause.Goals as goal
 use Rattle.net_record.proofs.cause.Goals.{Start}
 

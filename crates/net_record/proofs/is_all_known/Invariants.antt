@@ -1,14 +1,8 @@
 -- `net_record::is_all_known` meets its contract. The invariant: the types left are known exactly if all are. Assumes nothing.
-use mathlib.Core.Path.{◌≡◌, refl, sym, ◌∙◌}
-use mathlib.Core.List.{[]}
-use mathlib.Core.Bool.{◌&&◌}
-use Prim.Native.Nat.{◌+◌, ◌-◌, ◌≤◌}
-use native.Mathlib.Omega.{arith}
-use borrow.Author.Rules.{rules}
-use borrow.Author.Tests.{not-true, not-false}
-use lib.ListN.{length, drop, drop_of_length-le}
+use mathlib.Core.Path.{◌≡◌}
+use Prim.Native.Nat.{◌-◌, ◌≤◌}
+use lib.ListN.{length, drop}
 use Rattle.net_rules.specs.Calls.{all_known}
-use Rattle.net_rules.proofs.Tests.{known_turn}
 use Rattle.net_record.proofs.is_all_known.Given as goal
 
 abbrev pub invariant-loop-i : goal.invariant-loop-i

@@ -1,11 +1,9 @@
 -- `net_record::is_all_marks` meets its contract. The invariant: the marks looked at and those left are good exactly if all are. Assumes nothing.
-use mathlib.Core.Path.{◌≡◌, refl}
+use mathlib.Core.Path.{◌≡◌}
 use mathlib.Core.Bool.{◌&&◌}
 use Prim.Native.Nat.{◌-◌, ◌≤◌}
-use native.Mathlib.Omega.{arith}
 use lib.ListN.{length, drop}
 use Rattle.net_rules.specs.Calls.{all_marks}
-use Rattle.net_rules.proofs.Tests.{marks_turn, marks_over}
 use Rattle.net_record.proofs.is_all_marks.Given as goal
 
 abbrev pub invariant-loop-i : goal.invariant-loop-i

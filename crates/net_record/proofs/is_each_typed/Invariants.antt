@@ -1,17 +1,12 @@
 -- `net_record::is_each_typed` meets its contract. The invariant: what the places left say is what they all say. Assumes nothing.
-use mathlib.Core.Path.{◌≡◌, refl, sym, ap, ◌∙◌}
-use mathlib.Core.Bool.{Bool, true, ◌&&◌}
+use mathlib.Core.Path.{◌≡◌}
+use mathlib.Core.Bool.{true}
 use Prim.Native.Nat.{◌+◌, ◌*◌, ◌-◌}
-use native.Mathlib.Omega.{arith}
-use borrow.Author.Tests.{eq-eqb, ne_eqb}
 use lib.ListN.{drop}
 use Rattle.module_rules.specs.Slots.{slot_size, sample_size}
 use Rattle.types_rules.specs.Types.{slots}
-use Rattle.types_rules.proofs.Laws.{lawful}
 use Rattle.net_rules.specs.Record.{modules_in, ok_slots, slots_at}
 use Rattle.net_rules.specs.Calls.{all_typed}
-use Rattle.net_rules.proofs.Ahead.{ahead_ok}
-use Rattle.net_rules.proofs.Listed.{typed_turn, typed_done}
 use Rattle.net_record.proofs.is_each_typed.Given as goal
 
 abbrev pub invariant-loop-left : goal.invariant-loop-left

@@ -1,14 +1,9 @@
 -- `net_record::is_in_range` meets its contract. The invariant: what the samples left say is what they all say. Assumes nothing.
-use mathlib.Core.Path.{◌≡◌, refl, sym, ◌∙◌}
-use mathlib.Core.Bool.{◌&&◌}
+use mathlib.Core.Path.{◌≡◌}
 use Prim.Native.Nat.{◌+◌, ◌*◌, ◌-◌}
-use native.Mathlib.Omega.{arith}
-use borrow.Author.Rules.{rules}
-use borrow.Author.Tests.{not-true, not-false}
 use lib.ListN.{drop}
 use Rattle.module_rules.specs.Slots.{sample_size}
 use Rattle.net_rules.specs.Calls.{all_in_range}
-use Rattle.net_rules.proofs.Listed.{range_turn, range_done}
 use Rattle.net_record.proofs.is_in_range.Given as goal
 
 abbrev pub invariant-loop-left : goal.invariant-loop-left

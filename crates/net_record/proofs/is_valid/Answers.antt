@@ -4,11 +4,8 @@ use lib.ListN.{get_or}
 use lib.Dec.{leb}
 use mathlib.Core.Bool.{true, false, ◌&&◌}
 use Prim.Native.Nat.{ℕ}
-use Rattle.net_rules.proofs.Tests.{and-true}
 use Rattle.net_rules.specs.Record.{valid, count_at, chain_most}
-use borrow.Author.Tests.{eq-eqb, ne_eqb, leb-true, not-true, not-false}
-use native.Mathlib.Omega.{arith}
-use borrow.Author.Rules.{rules}
+use borrow.Author.Tests.{eq-eqb, ne_eqb}
 use Rattle.net_record.proofs.is_valid.Goals as goal
 use Rattle.net_record.proofs.is_valid.Goals.{Else-not-is_receiver_ok}
 

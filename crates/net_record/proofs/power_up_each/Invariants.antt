@@ -1,13 +1,10 @@
 -- `net_record::power_up_each` meets its contract. The invariant: the modules left, put into the record as it is, give the whole. Assumes nothing.
-use mathlib.Core.Path.{◌≡◌, refl, sym, ◌∙◌}
-use mathlib.Core.List.{[], map}
+use mathlib.Core.Path.{◌≡◌}
+use mathlib.Core.List.{map}
 use Prim.Native.Nat.{◌+◌, ◌*◌, ◌-◌, ◌≤◌}
-use native.Mathlib.Omega.{arith}
-use borrow.Author.Rules.{rules}
-use lib.ListN.{length, drop, drop_of_length-le}
+use lib.ListN.{length, drop}
 use Rattle.types_rules.specs.Types.{slots, powered}
 use Rattle.net_rules.specs.Record.{put_modules, slots_at}
-use Rattle.net_rules.proofs.OneTurn.{power_round, put_none}
 use Rattle.module_rules.specs.Slots.{slot_size}
 use Rattle.net_record.proofs.power_up_each.Given as goal
 

@@ -1,7 +1,6 @@
 -- `net_record::set_up` meets its contract. Assumes nothing.
 use Rattle.net_rules.proofs.Calls.{set_up_is}
 use Rattle.net_rules.specs.Record.{receiver_bytes}
-use borrow.Author.Rules.{rules}
 use Rattle.net_record.proofs.set_up.Goals as goal
 
 pub returns : goal.returns

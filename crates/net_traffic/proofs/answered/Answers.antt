@@ -1,5 +1,4 @@
 -- `net_traffic::answered` meets its contract. Assumes nothing.
-use borrow.Author.Rules.{rules}
 use Rattle.net_rules.proofs.Taking.{nothing_more, frame-ended}
 use Rattle.net_traffic.proofs.answered.Goals as goal
 

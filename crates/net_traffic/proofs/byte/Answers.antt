@@ -1,7 +1,6 @@
 -- `net_traffic::byte` meets its contract. Assumes nothing.
 use mathlib.Core.Path.{ap}
 use native.Mathlib.Omega.{arith}
-use borrow.Author.Rules.{rules}
 use lib.ListN.{length}
 use Rattle.line_receiver.specs.declared.Receiver.{Receiver}
 use Rattle.types_rules.specs.Types.{slots}
@@ -10,7 +9,7 @@ use Rattle.net_rules.specs.Calls.{byte_of}
 use Rattle.net_rules.proofs.Valid.{Valid, valid_is}
 use Rattle.net_rules.proofs.Taking.{byte_is}
 use Rattle.net_traffic.proofs.byte.Goals as goal
-use Rattle.net_traffic.proofs.byte.Goals.{After-slice_known-1, Start}
+use Rattle.net_traffic.proofs.byte.Goals.{Start}
 
 known : (c : Start) → Valid slots c.args.net.now
 known c = valid_is slots c.args.net.now c.requires.0

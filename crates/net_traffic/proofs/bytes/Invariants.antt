@@ -1,14 +1,11 @@
 -- `net_traffic::bytes` meets its contract. The invariant: the bytes still to be taken give the whole. Assumes nothing.
 use Prim.Native.Nat.{◌-◌, ◌≤◌}
-use native.Mathlib.Omega.{arith}
-use borrow.Author.Rules.{rules}
 use lib.ListN.{length, drop}
 use Rattle.chain_rules.specs.Chain.{taking}
 use Rattle.types_rules.specs.Types.{kind, slots}
 use Rattle.net_rules.specs.Record.{net_in}
 use Rattle.net_rules.specs.Calls.{bytes_of}
-use Rattle.net_rules.proofs.Valid.{Valid, valid_is}
-use Rattle.net_rules.proofs.Buffer.{Midway, onto, set_out, quiet, room_enough, within, round, set-down}
+use Rattle.net_rules.proofs.Buffer.{Midway}
 use Rattle.net_traffic.proofs.bytes.Given as goal
 
 abbrev pub invariant-loop-i : goal.invariant-loop-i

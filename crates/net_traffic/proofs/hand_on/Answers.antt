@@ -1,12 +1,7 @@
 -- `net_traffic::hand_on` meets its contract. Assumes nothing.
-use lib.Seq.{length-take-le}
-use native.Mathlib.Omega.{arith}
 use lib.ListN.{get_or}
 use Rattle.line_receiver.specs.Frames.{frame_in}
 use Rattle.net_rules.proofs.Calls.{handed_on}
-use Prim.Native.Nat.{◌/◌}
-use mathlib.Core.Path.{sym}
-use borrow.Author.Rules.{rules}
 use Rattle.net_rules.specs.Record.{count_at}
 use Rattle.net_traffic.proofs.hand_on.Goals as goal
 

@@ -10,9 +10,8 @@ use Rattle.types_rules.specs.Types.{kind, slots}
 use native.Mathlib.Omega.{arith}
 use mathlib.Core.Path.{sym, ap, ◌∙◌}
 use Prim.Native.Nat.{ℕ}
-use borrow.Author.Rules.{rules}
 use Rattle.net_traffic.proofs.tick.Goals as goal
-use Rattle.net_traffic.proofs.tick.Goals.{After-slice_known-1, Start}
+use Rattle.net_traffic.proofs.tick.Goals.{Start}
 
 known : (c : Start) → Valid slots c.args.net.now
 known c = valid_is slots c.args.net.now c.requires.0

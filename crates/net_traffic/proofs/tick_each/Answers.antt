@@ -1,18 +1,15 @@
 -- `net_traffic::tick_each` meets its contract. The invariant: the ticks left, at the record as it is, give the whole. Assumes nothing.
-use mathlib.Core.Path.{◌≡◌, refl, sym, ◌∙◌}
-use mathlib.Core.Bool.{true}
+use mathlib.Core.Path.{◌≡◌, sym, ◌∙◌}
 use mathlib.Core.List.{List}
-use Prim.Native.Nat.{ℕ, ◌+◌, ◌*◌, ◌-◌}
+use Prim.Native.Nat.{ℕ, ◌+◌, ◌-◌}
 use native.Mathlib.Omega.{arith}
 use borrow.Author.Rules.{rules}
-use lib.ListN.{length, drop}
-use Rattle.module_rules.specs.Slots.{slot_size, sample_size}
+use lib.ListN.{drop}
+use Rattle.module_rules.specs.Slots.{slot_size}
 use Rattle.types_rules.specs.Table.{measured}
 use Rattle.types_rules.specs.Types.{kind, slots}
 use Rattle.types_rules.proofs.Laws.{lawful}
-use Rattle.net_rules.specs.Record.{ok_slots, slots_at}
-use Rattle.net_rules.specs.Walk.{changed_at, ticked}
-use Rattle.net_rules.specs.Calls.{samples_in}
+use Rattle.net_rules.specs.Walk.{changed_at}
 use Rattle.net_rules.proofs.Ahead.{turn_ok, ahead_ok, changed-after}
 use Rattle.net_rules.proofs.OneTurn.{changed_turn, tick_round, tick_over}
 use Rattle.net_traffic.proofs.tick_each.Goals as goal

@@ -4,7 +4,6 @@ use Prim.Native.Nat.{ℕ}
 use lib.ListN.{take, drop, length-drop}
 use lib.Seq.{take-length}
 use Rattle.replay_file.proofs.Measured.{ten_put}
-use borrow.Author.Rules.{rules}
 use Rattle.replay_feed.proofs.measured.Goals as goal
 
 pub returns : goal.returns

@@ -16,7 +16,6 @@ use Rattle.net_rules.proofs.Exact.{length-modules}
 use Rattle.replay_file.proofs.Spoken.{lengths_small, text_is}
 use Rattle.replay_file.specs.Records.{line_byte}
 use Rattle.replay_file.specs.Turns.{turned, net_after, text_after}
-use borrow.Author.Rules.{rules}
 use Rattle.replay_feed.proofs.take_byte.Goals as goal
 use Rattle.replay_feed.proofs.take_byte.Goals.{Start}
 

@@ -14,9 +14,8 @@ use Rattle.replay_file.specs.Records.{body_length, sample_record, net_record}
 use Rattle.replay_file.specs.Turns.{turned, samples_after, net_after, text_after}
 use Rattle.replay_file.proofs.Measured.{list_same, byte_alike, byte_samples}
 use Rattle.replay_file.proofs.Fine.{sample-net}
-use borrow.Author.Rules.{rules}
 use Rattle.replay_feed.proofs.take_other.Goals as goal
-use Rattle.replay_feed.proofs.take_other.Goals.{After-slice_known-2-1, Start}
+use Rattle.replay_feed.proofs.take_other.Goals.{Start}
 
 -- the list lies within its slice
 within : (s : Start) → 10 * s.args.at.count ≤ length s.args.samples.now

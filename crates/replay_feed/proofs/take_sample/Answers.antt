@@ -15,7 +15,6 @@ use Rattle.replay_file.specs.Records.{measured, sample_record}
 use Rattle.replay_file.specs.Turns.{turned, samples_after, text_after}
 use Rattle.replay_file.proofs.Fine.{place_below}
 use Rattle.replay_file.proofs.Measured.{ten_long, list_put}
-use borrow.Author.Rules.{rules}
 use Rattle.replay_feed.proofs.take_sample.Goals as goal
 use Rattle.replay_feed.proofs.take_sample.Goals.{After-is_sample_ok, Then-is_of_type-is_sample_ok}
 

@@ -3,15 +3,13 @@ use mathlib.Core.Path.{◌≡◌, refl, sym, ap, ◌∙◌}
 use mathlib.Core.List.{[], ◌∷◌, ◌++◌}
 use mathlib.Core.Bool.{false, not, ◌||◌}
 use Prim.Native.Nat.{ℕ, ◌+◌}
-use native.Mathlib.Omega.{arith}
-use borrow.Author.Rules.{rules}
-use lib.ListN.{length, take, length-set}
+use lib.ListN.{length, take}
 use lib.Dec.{leb}
 use Rattle.types_rules.specs.Types.{known}
 use Rattle.net_rules.specs.Calls.{fresh}
 use Rattle.base_layout.proofs.Pasted.{pasted_none}
 use Rattle.replay_file.specs.Turns.{turned, types_after, samples_after, net_after, text_after}
-use Rattle.replay_file.proofs.Gathered.{module_bad, module-room, module-good, types-put, types-taken, types_more, samples-put}
+use Rattle.replay_file.proofs.Gathered.{module_bad, module-good, types-put, types-taken, types_more, samples-put}
 use Rattle.net_rules.specs.Record.{chain_most}
 use Rattle.replay_play.proofs.take_module.Goals as goal
 use Rattle.replay_play.proofs.take_module.Goals.{Else-at-n}

@@ -9,7 +9,6 @@ use Rattle.net_rules.specs.Record.{net_in}
 use Rattle.replay_file.specs.Records.{body_length, record_step}
 use Rattle.replay_file.specs.Turns.{turned, types_after, samples_after, net_after, text_after}
 use Rattle.replay_file.proofs.Fine.{stage_none, stage_some, types_kept}
-use borrow.Author.Rules.{rules}
 use Rattle.replay_play.proofs.take_record.Goals as goal
 
 pub bounds-body-0 : goal.bounds-body-0

@@ -1,8 +1,7 @@
 -- `replay_print::put_line` meets its contract. Assumes nothing.
 use Prim.Native.Nat.{◌+◌, ◌*◌, ◌≤◌}
 use native.Mathlib.Omega.{arith}
-use borrow.Author.Rules.{rules}
-use lib.ListN.{length, length-set}
+use lib.ListN.{length}
 use Rattle.base_text.specs.Digits.{decimal}
 use Rattle.replay_print.specs.Text.{hexes, line}
 use Rattle.replay_print.proofs.Text.{place_short, line-length, length-hexes, all_put}

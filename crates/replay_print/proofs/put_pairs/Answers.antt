@@ -1,12 +1,7 @@
 -- `replay_print::put_pairs` meets its contract. The invariant: the bytes left, put where the loop is, give the whole. Assumes nothing.
-use mathlib.Core.Path.{◌≡◌, refl, sym, ◌∙◌}
-use mathlib.Core.List.{[]}
-use Prim.Native.Nat.{◌+◌, ◌*◌, ◌-◌, ◌≤◌}
+use mathlib.Core.Path.{◌∙◌}
+use Prim.Native.Nat.{◌-◌}
 use native.Mathlib.Omega.{arith}
-use lib.ListN.{length, drop, drop_of_length-le}
-use Rattle.base_layout.specs.Bytes.{pasted}
-use Rattle.base_layout.proofs.Pasted.{pasted_none}
-use Rattle.replay_print.specs.Text.{hexes}
 use Rattle.replay_print.proofs.Text.{hexes_turn}
 use Rattle.replay_print.proofs.put_pairs.Goals as goal
 

@@ -1,18 +1,11 @@
 -- `replay_print::put_replies` meets its contract. The invariant: the lines of the places left, put where the loop is, give the whole. Assumes nothing.
-use mathlib.Core.Path.{◌≡◌, refl, sym, ◌∙◌}
-use Prim.Native.Nat.{◌+◌, ◌*◌, ◌-◌, ◌≤◌}
+use mathlib.Core.Path.{◌≡◌, sym, ◌∙◌}
+use Prim.Native.Nat.{◌+◌, ◌-◌}
 use native.Mathlib.Nat.{add-zero}
 use native.Mathlib.Omega.{arith}
-use lib.ListN.{length, get_or, drop, length-take}
-use Rattle.base_layout.specs.Bytes.{pasted}
+use lib.ListN.{get_or}
 use Rattle.base_layout.proofs.Pasted.{pasted_none}
-use Rattle.replay_print.specs.Text.{printed, line_size}
 use Rattle.replay_print.proofs.Replies.{Turn, print_turn, printed_none}
-use Rattle.replay_print.proofs.put_replies.Reads as reads
-use Rattle.replay_print.proofs.put_replies.Lts as lts
-use Rattle.replay_print.proofs.put_reply.Reads as put-reply-reads
-use Rattle.net_rules.specs.Record.{chain_most}
-use Rattle.module_rules.specs.Owes.{reply_size}
 use Rattle.replay_print.proofs.put_replies.Goals as goal
 use Rattle.replay_print.proofs.put_replies.Goals.{After-slice_known-in-loop-left-1}
 

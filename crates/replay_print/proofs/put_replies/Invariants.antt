@@ -1,16 +1,9 @@
 -- `replay_print::put_replies` meets its contract. The invariant: the lines of the places left, put where the loop is, give the whole. Assumes nothing.
-use mathlib.Core.Path.{◌≡◌, refl, sym, ◌∙◌}
+use mathlib.Core.Path.{◌≡◌}
 use Prim.Native.Nat.{◌+◌, ◌*◌, ◌-◌, ◌≤◌}
-use native.Mathlib.Nat.{add-zero}
-use native.Mathlib.Omega.{arith}
-use lib.ListN.{length, get_or, drop, length-take}
+use lib.ListN.{length}
 use Rattle.base_layout.specs.Bytes.{pasted}
-use Rattle.base_layout.proofs.Pasted.{pasted_none}
 use Rattle.replay_print.specs.Text.{printed, line_size}
-use Rattle.replay_print.proofs.Replies.{Turn, print_turn, printed_none}
-use Rattle.replay_print.proofs.put_replies.Reads as reads
-use Rattle.replay_print.proofs.put_replies.Lts as lts
-use Rattle.replay_print.proofs.put_reply.Reads as put-reply-reads
 use Rattle.net_rules.specs.Record.{chain_most}
 use Rattle.module_rules.specs.Owes.{reply_size}
 use Rattle.replay_print.proofs.put_replies.Given as goal

@@ -2,7 +2,6 @@
 use native.Mathlib.Omega.{arith}
 use Rattle.servo_slot_rules.specs.Slot.{decode_of}
 use Rattle.servo_slot_rules.proofs.Tested.{output_in}
-use borrow.Author.Rules.{rules}
 use Rattle.servo_calls.proofs.outputs.Goals as goal
 
 pub outputs-requires : goal.outputs-requires

@@ -1,15 +1,14 @@
 -- `servo_calls::perform` meets its contract. Assumes nothing.
 use mathlib.Core.Path.{sym, ap, ◌∙◌}
 use native.Mathlib.Omega.{arith}
-use Rattle.module_rules.proofs.Touching.{obeyed, not_now}
+use Rattle.module_rules.proofs.Touching.{not_now}
 use Rattle.servo_motion.specs.Profile.{Ranged}
 use Rattle.servo_rules.specs.declared.Servo.{Servo}
-use Rattle.servo_rules.specs.Perform.{can, perform}
+use Rattle.servo_rules.specs.Perform.{can}
 use Rattle.servo_rules.specs.Answers.{servo}
 use Rattle.servo_slot_rules.specs.Slot.{sample, decode_of, slots}
 use Rattle.servo_slot_rules.proofs.Owed.{owes}
 use Rattle.servo_slot_rules.proofs.Tested.{steady_in}
-use borrow.Author.Rules.{rules}
 use Rattle.servo_calls.proofs.perform.Goals as goal
 use Rattle.servo_calls.proofs.perform.Goals.{After-decode-before}
 

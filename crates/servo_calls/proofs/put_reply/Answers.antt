@@ -4,7 +4,6 @@ use Rattle.module_rules.specs.Touch.{frame_of}
 use Rattle.servo_slot_rules.specs.Slot.{decode_of}
 use Rattle.servo_slot_rules.proofs.Tested.{steady_in}
 use Rattle.servo_calls.proofs.Telling.{told_is}
-use borrow.Author.Rules.{rules}
 use Rattle.servo_calls.proofs.put_reply.Goals as goal
 
 pub put_reply-requires : goal.put_reply-requires

@@ -4,7 +4,6 @@ use native.Mathlib.Omega.{arith}
 use Rattle.servo_slot_rules.specs.Slot.{decode_of}
 use Rattle.servo_slot_rules.proofs.Tested.{steady_in}
 use Rattle.servo_calls.proofs.Stepping.{tick_is}
-use borrow.Author.Rules.{rules}
 use Rattle.servo_calls.proofs.tick.Goals as goal
 
 pub ran-requires : goal.ran-requires

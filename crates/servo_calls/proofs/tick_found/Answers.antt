@@ -1,12 +1,6 @@
 -- `servo_calls::tick_found` meets its contract. Assumes nothing.
-use mathlib.Core.Path.{ap, ◌∙◌}
 use native.Mathlib.Omega.{arith}
-use Rattle.base_layout.specs.Bytes.{pasted}
-use Rattle.servo_rules.specs.declared.Servo.{Servo}
-use Rattle.servo_rules.specs.Tick.{ticked}
-use Rattle.servo_slot_rules.specs.Slot.{encode_of}
 use Rattle.servo_slot_rules.proofs.Tested.{met_in}
-use borrow.Author.Rules.{rules}
 use Rattle.servo_calls.proofs.tick_found.Goals as goal
 
 pub ticked-requires : goal.ticked-requires

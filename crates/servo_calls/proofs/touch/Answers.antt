@@ -5,9 +5,7 @@ use Rattle.module_rules.proofs.Touching.{still-ok, spoken, silent}
 use Rattle.servo_rules.specs.Answers.{servo}
 use Rattle.servo_slot_rules.specs.Slot.{sample, slots}
 use Rattle.servo_slot_rules.proofs.Owed.{owes}
-use borrow.Author.Rules.{rules}
 use Rattle.servo_calls.proofs.touch.Goals as goal
-use Rattle.servo_calls.proofs.touch.Goals.{After-slice_known-1}
 
 pub put_reply-requires : goal.put_reply-requires
 put_reply-requires c =

@@ -2,15 +2,14 @@
 use mathlib.Core.Path.{◌≡◌, ◌∙◌}
 use Prim.Native.Nat.{◌≤◌}
 use native.Mathlib.Omega.{arith}
-use borrow.Author.Rules.{rules}
 use borrow.Author.Tests.{le-leb, lt-leb}
 use lib.IntN.{pos, nat_abs, ◌+ℤ◌}
 use lib.Signed.{quot_z}
 use mir.Syntax.{w64}
 use mir.Val.{SFits, to_z, of_z}
 use mir.ValLaws.{to_z-of_z}
-use Rattle.base_integers.proofs.Sizes.{abs_add, fits, fits_quot, back}
-use Rattle.servo_filter.specs.Filter.{drive, summed, driven, scaled, limited, filtered}
+use Rattle.base_integers.proofs.Sizes.{abs_add, fits, back}
+use Rattle.servo_filter.specs.Filter.{summed, driven, scaled, limited, filtered}
 use Rattle.servo_filter.proofs.Held.{held_most}
 use Rattle.servo_filter.proofs.at_error.Goals as goal
 use Rattle.servo_filter.proofs.at_error.Goals.{After-drive-u, After-hold-integral, After-limit, After-scaled, After-size, Else-g-size, Start}

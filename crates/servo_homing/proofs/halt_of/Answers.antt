@@ -1,7 +1,6 @@
 -- `servo_homing::halt_of` meets its contract. Assumes nothing.
 use mathlib.Core.Path.{sym, ◌∙◌}
 use Rattle.servo_rules.specs.Homing.{homing_halt}
-use borrow.Author.Rules.{rules}
 use Rattle.servo_homing.proofs.halt_of.Goals as goal
 
 pub returns-then-is_set : goal.returns-then-is_set

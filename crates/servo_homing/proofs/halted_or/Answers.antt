@@ -1,7 +1,6 @@
 -- `servo_homing::halted_or` meets its contract. Assumes nothing.
 use mathlib.Core.Path.{sym, ◌∙◌}
 use Rattle.servo_rules.specs.Homing.{halted_or}
-use borrow.Author.Rules.{rules}
 use Rattle.servo_homing.proofs.halted_or.Goals as goal
 
 pub returns-then-can_halt : goal.returns-then-can_halt

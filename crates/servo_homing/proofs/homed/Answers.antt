@@ -1,7 +1,6 @@
 -- `servo_homing::homed` meets its contract. Assumes nothing.
 use mathlib.Core.Path.{sym, ◌∙◌}
 use Rattle.servo_rules.specs.Homing.{homed}
-use borrow.Author.Rules.{rules}
 use Rattle.servo_homing.proofs.homed.Goals as goal
 
 pub returns-then-is_changed : goal.returns-then-is_changed

@@ -3,7 +3,6 @@ use mathlib.Core.Path.{sym}
 use native.Mathlib.Nat.{div-one}
 use Rattle.servo_rules.specs.Homing.{changed}
 use Rattle.servo_rules.proofs.FindingHome.{unchanged_same}
-use borrow.Author.Rules.{rules}
 use Rattle.servo_homing.proofs.is_changed.Goals as goal
 
 pub returns-then-before-inputs : goal.returns-then-before-inputs

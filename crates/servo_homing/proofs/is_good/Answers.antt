@@ -1,6 +1,5 @@
 -- `servo_homing::is_good` meets its contract. Assumes nothing.
 use Rattle.servo_rules.specs.Homing.{good_byte}
-use borrow.Author.Rules.{rules}
 use Rattle.servo_homing.proofs.is_good.Goals as goal
 
 pub returns : goal.returns

@@ -1,13 +1,10 @@
 -- `servo_motion::by_halves` meets its contract: the greatest of the range that is left is the greatest of the whole. What grows less is the
 -- number of halvings to come, so a profile in range has at most 27 of them (`at_most_27`). Assumes nothing.
-use mathlib.Core.Path.{◌≡◌, refl, sym, ◌∙◌}
+use mathlib.Core.Path.{◌≡◌}
 use Prim.Native.Nat.{◌-◌, ◌<◌, ◌^◌}
-use native.Mathlib.Omega.{arith}
-use borrow.Author.Tests.{le-leb, lt-leb}
 use Rattle.servo_motion.specs.Trapezoid.{greatest}
 use Rattle.servo_motion.proofs.Stopping.{within}
-use Rattle.servo_motion.proofs.Search.{greatest_low}
-use Rattle.servo_motion.proofs.Halving.{upper, lower, stopping_stays, rounds, rounds_less}
+use Rattle.servo_motion.proofs.Halving.{rounds}
 use Rattle.servo_motion.proofs.by_halves.Given as goal
 
 abbrev pub invariant-loop-low : goal.invariant-loop-low

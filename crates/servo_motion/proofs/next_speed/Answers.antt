@@ -2,7 +2,6 @@
 use mathlib.Core.Path.{◌≡◌, refl, sym, ◌∙◌, subst}
 use mathlib.Core.Logic.{inr}
 use native.Mathlib.Omega.{arith}
-use borrow.Author.Rules.{rules}
 use lib.Dec.{T}
 use Rattle.servo_motion.specs.Trapezoid.{greatest, next_speed}
 use Rattle.servo_motion.proofs.Stopping.{within}

@@ -3,7 +3,6 @@ use mathlib.Core.Path.{◌≡◌, refl}
 use Prim.Native.Nat.{ℕ, zero, suc, ◌+◌, ◌-◌, ◌*◌, ◌/◌, ◌≤◌, ◌<◌, ◌^◌}
 use native.Mathlib.Nat.{mul-le-mul, mul-suc}
 use native.Mathlib.Omega.{arith}
-use borrow.Author.Rules.{rules}
 use Rattle.servo_motion.specs.Trapezoid.{stop}
 use Rattle.servo_motion.specs.Quick.{braking_ticks}
 use Rattle.servo_motion.proofs.Closed.{closed_form, ticks_most}

@@ -3,14 +3,13 @@ use mathlib.Core.Path.{◌≡◌, refl, ap, sym, ◌∙◌}
 use mathlib.Core.Bool.{true, false, true≢false, false≢true}
 use Prim.Native.Nat.{ℕ}
 use native.Mathlib.Omega.{arith}
-use borrow.Author.Rules.{rules}
 use borrow.Author.Tests.{le-leb}
 use lib.IntN.{ℤ, pos, negsuc, neg_ℤ, nat_abs, +ℤ_idl}
 use lib.Signed.{le_z}
 use mir.Syntax.{w64}
 use mir.Val.{to_z, of_z}
 use mir.ValLaws.{to_z-of_z, to_z_pos}
-use Rattle.base_integers.proofs.Sizes.{abs_neg, fits, back}
+use Rattle.base_integers.proofs.Sizes.{abs_neg, back}
 use Rattle.servo_motion.specs.Trapezoid.{next_speed}
 use Rattle.servo_motion.specs.Profile.{trapezoid}
 use Rattle.servo_motion.proofs.trapezoid.Goals as goal

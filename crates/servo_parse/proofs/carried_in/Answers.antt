@@ -2,7 +2,6 @@
 use borrow.Author.Tests.{eq-eqb, ne_eqb}
 use native.Mathlib.Nat.{div-one}
 use Rattle.servo_rules.specs.Carried.{carried_in}
-use borrow.Author.Rules.{rules}
 use Rattle.servo_parse.proofs.carried_in.Goals as goal
 
 pub returns-then-c-eq1 : goal.returns-then-c-eq1

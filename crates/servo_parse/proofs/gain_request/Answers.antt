@@ -1,6 +1,5 @@
 -- `servo_parse::gain_request` meets its contract. Assumes nothing.
 use Rattle.servo_rules.specs.Asks.{gain_meant}
-use borrow.Author.Rules.{rules}
 use Rattle.servo_parse.proofs.gain_request.Goals as goal
 
 pub returns : goal.returns

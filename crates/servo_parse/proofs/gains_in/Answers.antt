@@ -1,6 +1,5 @@
 -- `servo_parse::gains_in` meets its contract. Assumes nothing.
 use Rattle.servo_rules.specs.Asks.{gains_in}
-use borrow.Author.Rules.{rules}
 use Rattle.servo_parse.proofs.gains_in.Goals as goal
 
 pub returns : goal.returns

@@ -1,7 +1,6 @@
 -- `servo_parse::halt_of` meets its contract. Assumes nothing.
 use mathlib.Core.Path.{sym, ◌∙◌}
 use Rattle.servo_rules.specs.Asks.{halt_of}
-use borrow.Author.Rules.{rules}
 use Rattle.servo_parse.proofs.halt_of.Goals as goal
 
 pub returns-then-is_set : goal.returns-then-is_set

@@ -1,6 +1,5 @@
 -- `servo_parse::load_request` meets its contract. Assumes nothing.
 use Rattle.servo_rules.specs.Asks.{load_meant}
-use borrow.Author.Rules.{rules}
 use Rattle.servo_parse.proofs.load_request.Goals as goal
 
 pub returns : goal.returns

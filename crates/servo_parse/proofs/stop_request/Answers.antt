@@ -1,6 +1,5 @@
 -- `servo_parse::stop_request` meets its contract. Assumes nothing.
 use Rattle.servo_rules.specs.Asks.{stop_meant}
-use borrow.Author.Rules.{rules}
 use Rattle.servo_parse.proofs.stop_request.Goals as goal
 
 pub returns : goal.returns

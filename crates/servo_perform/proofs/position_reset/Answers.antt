@@ -1,6 +1,5 @@
 -- `servo_perform::position_reset` meets its contract. Assumes nothing.
 use Rattle.servo_rules.specs.Perform.{reset_position}
-use borrow.Author.Rules.{rules}
 use Rattle.servo_perform.proofs.position_reset.Goals as goal
 
 pub returns : goal.returns

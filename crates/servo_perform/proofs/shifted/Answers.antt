@@ -1,6 +1,5 @@
 -- `servo_perform::shifted` meets its contract. Assumes nothing.
 use Rattle.servo_rules.specs.Perform.{shifted}
-use borrow.Author.Rules.{rules}
 use Rattle.servo_perform.proofs.shifted.Goals as goal
 
 pub returns : goal.returns

@@ -11,7 +11,6 @@ use Rattle.base_integers.specs.Whole.{same}
 use lib.IntN.{ℤ, pos}
 use mathlib.Core.Bool.{◌&&◌}
 use mathlib.Core.Path.{◌≡◌, sym, ap, ap₂, ◌∙◌}
-use borrow.Author.Rules.{rules}
 use Rattle.servo_reply.proofs.is_done.Goals as goal
 use Rattle.servo_reply.proofs.is_done.Goals.{After-distance, Start}
 

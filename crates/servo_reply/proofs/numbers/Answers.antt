@@ -2,7 +2,6 @@
 use mir.ValLaws.{to_z-of_z}
 use mir.Syntax.{w64}
 use Rattle.servo_rules.specs.Answers.{numbers_of}
-use borrow.Author.Rules.{rules}
 use Rattle.servo_reply.proofs.numbers.Goals as goal
 
 pub returns : goal.returns

@@ -6,7 +6,6 @@ use native.Mathlib.Omega.{arith}
 use lib.IntN.{nat_abs}
 use mathlib.Core.Path.{◌≡◌}
 use Rattle.servo_rules.specs.Answers.{outputs_from}
-use borrow.Author.Rules.{rules}
 use Rattle.servo_reply.proofs.outputs.Goals as goal
 use Rattle.servo_reply.proofs.outputs.Goals.{After-size-size, Start}
 

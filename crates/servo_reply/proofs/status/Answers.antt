@@ -1,12 +1,5 @@
 -- `servo_reply::status` meets its contract. Assumes nothing.
-use Rattle.servo_rules.proofs.Ranges.{bit_most, cause_bit_most}
-use lib.Dec.{eqb}
-use mathlib.Core.Bool.{Bool, true, false, cond}
-use Prim.Native.Nat.{ℕ, ◌+◌, ◌*◌, ◌%◌, ◌≤◌}
-use native.Mathlib.Omega.{arith}
-use Rattle.servo_rules.specs.Homing.{in_progress}
 use Rattle.servo_rules.specs.Answers.{status_of}
-use borrow.Author.Rules.{rules}
 use Rattle.servo_reply.proofs.status.Goals as goal
 
 pub returns : goal.returns

@@ -4,7 +4,6 @@ use mir.Val.{to_z, of_z}
 use mir.Syntax.{w64}
 use mathlib.Core.Path.{◌≡◌}
 use Rattle.servo_rules.specs.State.{idled}
-use borrow.Author.Rules.{rules}
 use Rattle.servo_run.proofs.idled.Goals as goal
 use Rattle.servo_run.proofs.idled.Goals.{Start}
 

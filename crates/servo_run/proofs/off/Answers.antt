@@ -1,6 +1,5 @@
 -- `servo_run::off` meets its contract. Assumes nothing.
 use Rattle.servo_rules.specs.State.{off}
-use borrow.Author.Rules.{rules}
 use Rattle.servo_run.proofs.off.Goals as goal
 
 pub returns : goal.returns

@@ -4,7 +4,6 @@ use mir.Val.{to_z, of_z}
 use mir.Syntax.{w64}
 use mathlib.Core.Path.{◌≡◌}
 use Rattle.servo_rules.specs.Loads.{to_speed}
-use borrow.Author.Rules.{rules}
 use Rattle.servo_run.proofs.to_speed.Goals as goal
 use Rattle.servo_run.proofs.to_speed.Goals.{Start}
 

@@ -1,7 +1,6 @@
 -- `servo_slot_list::does_homing_fit` meets its contract. Assumes nothing.
 use borrow.Author.Tests.{eq-eqb, ne_eqb}
 use Rattle.servo_slot_rules.specs.List.{homing_fits}
-use borrow.Author.Rules.{rules}
 use Rattle.servo_slot_list.proofs.does_homing_fit.Goals as goal
 
 pub returns-then-byte-eq0 : goal.returns-then-byte-eq0

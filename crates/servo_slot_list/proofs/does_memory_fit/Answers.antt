@@ -4,7 +4,6 @@ use mir.Syntax.{w64}
 use mathlib.Core.Bool.{◌&&◌}
 use mathlib.Core.Path.{ap₂}
 use Rattle.servo_slot_rules.specs.List.{memory_fits}
-use borrow.Author.Rules.{rules}
 use Rattle.servo_slot_list.proofs.does_memory_fit.Goals as goal
 
 pub returns : goal.returns

@@ -4,7 +4,6 @@ use mir.Syntax.{w64}
 use mathlib.Core.Bool.{◌&&◌}
 use mathlib.Core.Path.{ap₂}
 use Rattle.servo_slot_rules.specs.List.{emptied}
-use borrow.Author.Rules.{rules}
 use Rattle.servo_slot_list.proofs.is_emptied.Goals as goal
 
 pub returns : goal.returns

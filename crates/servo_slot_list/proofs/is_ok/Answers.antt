@@ -9,8 +9,6 @@ use lib.ListN.{get_or}
 use mathlib.Core.Bool.{Bool, true, ◌&&◌}
 use mathlib.Core.List.{List}
 use mathlib.Core.Path.{◌≡◌, sym, ap, ◌∙◌}
-use borrow.Author.Rules.{rules}
-use borrow.Author.Tests.{not-true, not-false}
 use Rattle.servo_slot_list.proofs.is_ok.Goals as goal
 use Rattle.servo_slot_list.proofs.is_ok.Goals.{After-is_run_ok}
 

@@ -1,6 +1,5 @@
 -- `servo_slot_list::is_sound` meets its contract. Assumes nothing.
 use Rattle.servo_slot_rules.specs.List.{sound_at}
-use borrow.Author.Rules.{rules}
 use Rattle.servo_slot_list.proofs.is_sound.Goals as goal
 
 pub returns : goal.returns

@@ -1,6 +1,5 @@
 -- `servo_slot_put::put` meets its contract. Assumes nothing.
 use Rattle.servo_slot_put.proofs.Putting.{all_put}
-use borrow.Author.Rules.{rules}
 use Rattle.servo_slot_put.proofs.put.Goals as goal
 
 pub returns : goal.returns

@@ -1,6 +1,5 @@
 -- `servo_slot_put::put_front` meets its contract. Assumes nothing.
 use Rattle.servo_slot_put.proofs.Putting.{front_put}
-use borrow.Author.Rules.{rules}
 use Rattle.servo_slot_put.proofs.put_front.Goals as goal
 
 pub returns : goal.returns

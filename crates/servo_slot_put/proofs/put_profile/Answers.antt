@@ -2,7 +2,6 @@
 use Rattle.servo_slot_put.proofs.Putting.{profile_put}
 use mir.ValLaws.{to_z-of_z}
 use mir.Syntax.{w64}
-use borrow.Author.Rules.{rules}
 use Rattle.servo_slot_put.proofs.put_profile.Goals as goal
 
 pub returns : goal.returns

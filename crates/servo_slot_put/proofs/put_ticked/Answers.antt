@@ -1,6 +1,5 @@
 -- `servo_slot_put::put_ticked` meets its contract. Assumes nothing.
 use Rattle.servo_slot_put.proofs.Putting.{ticked_put}
-use borrow.Author.Rules.{rules}
 use Rattle.servo_slot_put.proofs.put_ticked.Goals as goal
 
 pub returns : goal.returns

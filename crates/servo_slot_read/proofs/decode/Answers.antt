@@ -1,6 +1,5 @@
 -- `servo_slot_read::decode` meets its contract. Assumes nothing.
 use Rattle.servo_slot_rules.specs.Slot.{decode_of}
-use borrow.Author.Rules.{rules}
 use Rattle.servo_slot_read.proofs.decode.Goals as goal
 
 pub returns : goal.returns

@@ -1,7 +1,6 @@
 -- `servo_start::beginning_at` meets its contract. Assumes nothing.
 use mathlib.Core.Path.{sym, ◌∙◌}
 use Rattle.servo_rules.specs.Loads.{beginning_at}
-use borrow.Author.Rules.{rules}
 use Rattle.servo_start.proofs.beginning_at.Goals as goal
 
 pub returns-then-is_servo_off : goal.returns-then-is_servo_off

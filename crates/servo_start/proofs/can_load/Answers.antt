@@ -1,6 +1,5 @@
 -- `servo_start::can_load` meets its contract. Assumes nothing.
 use Rattle.servo_rules.specs.Loads.{loaded}
-use borrow.Author.Rules.{rules}
 use Rattle.servo_start.proofs.can_load.Goals as goal
 
 pub is_startable-requires : goal.is_startable-requires

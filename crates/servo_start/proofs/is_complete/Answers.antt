@@ -2,7 +2,6 @@
 use Rattle.servo_rules.specs.Loads.{complete_by, complete}
 use Rattle.servo_rules.specs.declared.Way.{Way}
 use mathlib.Core.Path.{◌≡◌, sym, ap, ◌∙◌}
-use borrow.Author.Rules.{rules}
 use Rattle.servo_start.proofs.is_complete.Goals as goal
 use Rattle.servo_start.proofs.is_complete.Goals.{Start}
 

@@ -1,7 +1,6 @@
 -- `servo_start::is_movable` meets its contract. Assumes nothing.
 use Rattle.servo_rules.proofs.Ranges.{beginning_small}
 use Rattle.servo_rules.specs.Loads.{movable}
-use borrow.Author.Rules.{rules}
 use Rattle.servo_start.proofs.is_movable.Goals as goal
 
 pub whole-whole-requires : goal.whole-whole-requires

@@ -1,6 +1,5 @@
 -- `servo_start::is_startable` meets its contract. Assumes nothing.
 use Rattle.servo_rules.specs.Loads.{startable}
-use borrow.Author.Rules.{rules}
 use Rattle.servo_start.proofs.is_startable.Goals as goal
 
 pub returns : goal.returns

@@ -1,6 +1,5 @@
 -- `servo_start::load_of` meets its contract. Assumes nothing.
 use Rattle.servo_rules.specs.Loads.{load_of}
-use borrow.Author.Rules.{rules}
 use Rattle.servo_start.proofs.load_of.Goals as goal
 
 pub returns : goal.returns

@@ -1,6 +1,5 @@
 -- `servo_start::loaded` meets its contract. Assumes nothing.
 use Rattle.servo_rules.specs.Loads.{loaded}
-use borrow.Author.Rules.{rules}
 use Rattle.servo_start.proofs.loaded.Goals as goal
 
 pub returns : goal.returns

@@ -1,6 +1,5 @@
 -- `servo_start::rates_of` meets its contract. Assumes nothing.
 use Rattle.servo_rules.specs.Loads.{rates_of}
-use borrow.Author.Rules.{rules}
 use Rattle.servo_start.proofs.rates_of.Goals as goal
 
 pub returns : goal.returns

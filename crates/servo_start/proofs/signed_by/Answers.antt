@@ -7,7 +7,6 @@ use lib.IntN.{pos, neg_ℤ, +ℤ_idl}
 use native.Mathlib.Omega.{arith}
 use mathlib.Core.Path.{◌≡◌}
 use Rattle.servo_rules.specs.Loads.{signed_by}
-use borrow.Author.Rules.{rules}
 use Rattle.servo_start.proofs.signed_by.Goals as goal
 use Rattle.servo_start.proofs.signed_by.Goals.{Start}
 

@@ -1,6 +1,5 @@
 -- `servo_start::start` meets its contract. Assumes nothing.
 use Rattle.servo_rules.specs.Loads.{start}
-use borrow.Author.Rules.{rules}
 use Rattle.servo_start.proofs.start.Goals as goal
 
 pub returns : goal.returns

@@ -1,6 +1,5 @@
 -- `servo_start::to_place` meets its contract. Assumes nothing.
 use Rattle.servo_rules.specs.Loads.{to_place}
-use borrow.Author.Rules.{rules}
 use Rattle.servo_start.proofs.to_place.Goals as goal
 
 pub returns : goal.returns

@@ -1,7 +1,6 @@
 -- `servo_start::way_of` meets its contract. Assumes nothing.
 use mathlib.Core.Path.{sym, ◌∙◌}
 use Rattle.servo_rules.specs.Loads.{way_of}
-use borrow.Author.Rules.{rules}
 use Rattle.servo_start.proofs.way_of.Goals as goal
 
 pub returns-then-is_set-2 : goal.returns-then-is_set-2

@@ -1,6 +1,5 @@
 -- `servo_stop::holding` meets its contract. Assumes nothing.
 use Rattle.servo_rules.specs.Stops.{holding}
-use borrow.Author.Rules.{rules}
 use Rattle.servo_stop.proofs.holding.Goals as goal
 
 pub returns : goal.returns

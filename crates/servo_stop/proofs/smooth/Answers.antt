@@ -1,7 +1,6 @@
 -- `servo_stop::smooth` meets its contract. Assumes nothing.
 use mathlib.Core.Path.{sym, ◌∙◌}
 use Rattle.servo_rules.specs.Stops.{smooth}
-use borrow.Author.Rules.{rules}
 use Rattle.servo_stop.proofs.smooth.Goals as goal
 
 pub returns-then-is_servo_off : goal.returns-then-is_servo_off

@@ -1,6 +1,5 @@
 -- `servo_stop::stopped` meets its contract. Assumes nothing.
 use Rattle.servo_rules.specs.Perform.{stopped}
-use borrow.Author.Rules.{rules}
 use Rattle.servo_stop.proofs.stopped.Goals as goal
 
 pub returns : goal.returns

@@ -2,7 +2,6 @@
 use Rattle.servo_rules.specs.Tick.{advanced_by, advanced}
 use Rattle.servo_rules.specs.declared.Mode.{Mode}
 use mathlib.Core.Path.{◌≡◌, sym, ap, ◌∙◌}
-use borrow.Author.Rules.{rules}
 use Rattle.servo_tick.proofs.advanced.Goals as goal
 use Rattle.servo_tick.proofs.advanced.Goals.{Start}
 

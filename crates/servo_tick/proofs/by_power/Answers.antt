@@ -1,7 +1,6 @@
 -- `servo_tick::by_power` meets its contract. Assumes nothing.
 use borrow.Author.Tests.{eq-eqb, ne_eqb}
 use Rattle.servo_rules.specs.Tick.{by_power}
-use borrow.Author.Rules.{rules}
 use Rattle.servo_tick.proofs.by_power.Goals as goal
 
 pub returns-then-power-ne0 : goal.returns-then-power-ne0

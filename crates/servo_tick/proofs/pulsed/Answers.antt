@@ -8,7 +8,6 @@ use Rattle.servo_rules.specs.Tick.{put_out}
 use Rattle.servo_filter.specs.Filter.{held}
 use mathlib.Core.Path.{◌≡◌, ◌∙◌}
 use Rattle.servo_rules.specs.Tick.{pulsed}
-use borrow.Author.Rules.{rules}
 use Rattle.servo_tick.proofs.pulsed.Goals as goal
 use Rattle.servo_tick.proofs.pulsed.Goals.{After-hold, After-put_out-u, Start}
 

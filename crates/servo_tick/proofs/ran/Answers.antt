@@ -2,7 +2,6 @@
 use borrow.Author.Tests.{eq-eqb, ne_eqb}
 use Rattle.servo_rules.specs.State.{idled, off}
 use Rattle.servo_rules.specs.Tick.{by_power}
-use borrow.Author.Rules.{rules}
 use Rattle.servo_tick.proofs.ran.Goals as goal
 
 pub returns-then-power-eq0 : goal.returns-then-power-eq0

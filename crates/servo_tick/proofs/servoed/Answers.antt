@@ -1,6 +1,5 @@
 -- `servo_tick::servoed` meets its contract: each answer of the filter, after the profile's step. Assumes nothing.
 use mathlib.Core.Path.{◌≡◌, sym, ap, ◌∙◌}
-use borrow.Author.Rules.{rules}
 use mir.Syntax.{w64}
 use native.Mathlib.Omega.{arith}
 use mir.Val.{to_z, of_z}

@@ -1,6 +1,5 @@
 -- `servo_tick::ticked` meets its contract. Assumes nothing.
 use Rattle.servo_rules.specs.Tick.{met, ticked}
-use borrow.Author.Rules.{rules}
 use Rattle.servo_tick.proofs.ticked.Goals as goal
 
 pub driven-n-requires : goal.driven-n-requires

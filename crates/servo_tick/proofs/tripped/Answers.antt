@@ -1,6 +1,5 @@
 -- `servo_tick::tripped` meets its contract. Assumes nothing.
 use Rattle.servo_rules.specs.Tick.{tripped}
-use borrow.Author.Rules.{rules}
 use Rattle.servo_tick.proofs.tripped.Goals as goal
 
 pub returns : goal.returns

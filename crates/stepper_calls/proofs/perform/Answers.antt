@@ -1,13 +1,12 @@
 -- `stepper_calls::perform` meets its contract. Assumes nothing.
 use mathlib.Core.Path.{sym, ap, ◌∙◌}
 use native.Mathlib.Omega.{arith}
-use Rattle.module_rules.proofs.Touching.{obeyed, not_now}
+use Rattle.module_rules.proofs.Touching.{not_now}
 use Rattle.stepper_rules.specs.declared.Stepper.{Stepper}
-use Rattle.stepper_rules.specs.Perform.{can, perform}
+use Rattle.stepper_rules.specs.Perform.{can}
 use Rattle.stepper_rules.specs.Answers.{stepper}
 use Rattle.stepper_slot_rules.specs.Slot.{sample, decode_of, slots}
 use Rattle.stepper_slot_rules.proofs.Owed.{owes}
-use borrow.Author.Rules.{rules}
 use Rattle.stepper_calls.proofs.perform.Goals as goal
 
 pub returns-else-can : goal.returns-else-can

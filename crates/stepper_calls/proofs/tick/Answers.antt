@@ -1,7 +1,6 @@
 -- `stepper_calls::tick` meets its contract. Assumes nothing.
 use native.Mathlib.Omega.{arith}
 use Rattle.stepper_calls.proofs.Ticking.{few_ticks, tick_is, rest_is}
-use borrow.Author.Rules.{rules}
 use Rattle.stepper_calls.proofs.tick.Goals as goal
 
 pub returns-then-before-eq0 : goal.returns-then-before-eq0

@@ -5,9 +5,7 @@ use Rattle.module_rules.proofs.Touching.{spoken, silent}
 use Rattle.stepper_rules.specs.Answers.{stepper}
 use Rattle.stepper_slot_rules.specs.Slot.{sample, slots}
 use Rattle.stepper_slot_rules.proofs.Owed.{owes}
-use borrow.Author.Rules.{rules}
 use Rattle.stepper_calls.proofs.touch.Goals as goal
-use Rattle.stepper_calls.proofs.touch.Goals.{After-slice_known-1}
 
 pub returns-then-is_speaking : goal.returns-then-is_speaking
 returns-then-is_speaking c =

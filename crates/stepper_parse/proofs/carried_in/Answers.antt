@@ -1,7 +1,6 @@
 -- `stepper_parse::carried_in` meets its contract. Assumes nothing.
 use native.Mathlib.Nat.{div-one}
 use Rattle.stepper_rules.specs.Carried.{carried_in}
-use borrow.Author.Rules.{rules}
 use Rattle.stepper_parse.proofs.carried_in.Goals as goal
 
 pub returns : goal.returns

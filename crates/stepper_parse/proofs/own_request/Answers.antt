@@ -1,7 +1,6 @@
 -- `stepper_parse::own_request` meets its contract. Each code is one arm. Assumes nothing.
 use borrow.Author.Tests.{ne_eqb}
 use Rattle.stepper_rules.specs.Asks.{own}
-use borrow.Author.Rules.{rules}
 use Rattle.stepper_parse.proofs.own_request.Goals as goal
 
 pub returns-in-4 : goal.returns-in-4

@@ -1,6 +1,5 @@
 -- `stepper_parse::parameters_request` meets its contract. Assumes nothing.
 use Rattle.stepper_rules.specs.Asks.{parameters_meant}
-use borrow.Author.Rules.{rules}
 use Rattle.stepper_parse.proofs.parameters_request.Goals as goal
 
 pub returns : goal.returns

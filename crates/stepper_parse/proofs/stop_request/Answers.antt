@@ -1,6 +1,5 @@
 -- `stepper_parse::stop_request` meets its contract. Assumes nothing.
 use Rattle.stepper_rules.specs.Asks.{stop_meant}
-use borrow.Author.Rules.{rules}
 use Rattle.stepper_parse.proofs.stop_request.Goals as goal
 
 pub returns : goal.returns

@@ -1,6 +1,5 @@
 -- `stepper_perform::begun` meets its contract. Assumes nothing.
 use Rattle.stepper_rules.specs.Perform.{begun}
-use Rattle.std.proofs.Common.{rules}
 use Rattle.stepper_perform.proofs.begun.Goals as goal
 
 pub returns : goal.returns

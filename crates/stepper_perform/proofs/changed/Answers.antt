@@ -1,6 +1,5 @@
 -- `stepper_perform::changed` meets its contract. Assumes nothing.
 use Rattle.stepper_rules.specs.Ramp.{changed}
-use Rattle.std.proofs.Common.{rules}
 use Rattle.stepper_perform.proofs.changed.Goals as goal
 
 pub returns-then-p : goal.returns-then-p

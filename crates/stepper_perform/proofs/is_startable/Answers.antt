@@ -1,6 +1,5 @@
 -- `stepper_perform::is_startable` meets its contract. Assumes nothing.
 use Rattle.stepper_rules.specs.Perform.{startable}
-use Rattle.std.proofs.Common.{rules}
 use Rattle.stepper_perform.proofs.is_startable.Goals as goal
 
 pub returns : goal.returns

@@ -1,6 +1,5 @@
 -- `stepper_perform::load_of` meets its contract. Assumes nothing.
 use Rattle.stepper_rules.specs.Perform.{load_of}
-use Rattle.std.proofs.Common.{rules}
 use Rattle.stepper_perform.proofs.load_of.Goals as goal
 
 pub returns : goal.returns

@@ -1,6 +1,5 @@
 -- `stepper_perform::loaded` meets its contract. Assumes nothing.
 use Rattle.stepper_rules.specs.Perform.{loaded}
-use Rattle.std.proofs.Common.{rules}
 use Rattle.stepper_perform.proofs.loaded.Goals as goal
 
 pub returns : goal.returns

@@ -1,6 +1,5 @@
 -- `stepper_perform::moved` meets its contract. Assumes nothing.
 use Rattle.stepper_rules.specs.Ramp.{moved}
-use Rattle.std.proofs.Common.{rules}
 use Rattle.stepper_perform.proofs.moved.Goals as goal
 
 pub returns-then-p : goal.returns-then-p

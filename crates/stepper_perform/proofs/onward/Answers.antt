@@ -1,6 +1,5 @@
 -- `stepper_perform::onward` meets its contract. Assumes nothing.
-use Rattle.std.proofs.Common.{sym, ◌∙◌, add-one, rules, eq-eqb, ne_eqb}
-use borrow.Author.Tests.{not-true, not-false}
+use Rattle.std.proofs.Common.{sym, ◌∙◌, add-one, eq-eqb, ne_eqb}
 use Rattle.stepper_rules.specs.Ramp.{onward}
 use Rattle.stepper_perform.proofs.onward.Goals as goal
 

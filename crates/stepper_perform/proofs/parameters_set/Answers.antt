@@ -1,5 +1,5 @@
 -- `stepper_perform::parameters_set` meets its contract. Assumes nothing.
-use Rattle.std.proofs.Common.{sym, ◌∙◌, rules}
+use Rattle.std.proofs.Common.{sym, ◌∙◌}
 use Rattle.stepper_rules.specs.Perform.{parameters_set}
 use Rattle.stepper_perform.proofs.parameters_set.Goals as goal
 

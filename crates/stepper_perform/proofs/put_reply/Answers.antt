@@ -1,6 +1,5 @@
 -- `stepper_perform::put_reply` meets its contract. Assumes nothing.
 use Rattle.module_rules.specs.Rules.{reply}
-use Rattle.std.proofs.Common.{rules}
 use Rattle.stepper_perform.proofs.put_reply.Goals as goal
 
 pub returns : goal.returns

@@ -1,5 +1,5 @@
 -- `stepper_perform::smooth` meets its contract. Assumes nothing.
-use Rattle.std.proofs.Common.{sym, ◌∙◌, rules}
+use Rattle.std.proofs.Common.{sym, ◌∙◌}
 use Rattle.stepper_rules.specs.Perform.{smooth}
 use Rattle.stepper_perform.proofs.smooth.Goals as goal
 

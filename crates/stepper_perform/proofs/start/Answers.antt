@@ -1,6 +1,5 @@
 -- `stepper_perform::start` meets its contract. Assumes nothing.
 use Rattle.stepper_rules.specs.Perform.{start}
-use Rattle.std.proofs.Common.{rules}
 use Rattle.stepper_perform.proofs.start.Goals as goal
 
 pub returns : goal.returns

@@ -1,6 +1,5 @@
 -- `stepper_perform::stopped` meets its contract. Assumes nothing.
 use Rattle.stepper_rules.specs.Perform.{stopped}
-use Rattle.std.proofs.Common.{rules}
 use Rattle.stepper_perform.proofs.stopped.Goals as goal
 
 pub returns : goal.returns

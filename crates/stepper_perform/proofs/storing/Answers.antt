@@ -1,6 +1,5 @@
 -- `stepper_perform::storing` meets its contract. Assumes nothing.
 use Rattle.stepper_rules.specs.Perform.{storing}
-use Rattle.std.proofs.Common.{rules}
 use Rattle.stepper_perform.proofs.storing.Goals as goal
 
 pub returns : goal.returns

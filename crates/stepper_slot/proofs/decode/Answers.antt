@@ -1,6 +1,5 @@
 -- `stepper_slot::decode` meets its contract. Assumes nothing.
 use Rattle.stepper_slot_rules.specs.Slot.{decode_of}
-use borrow.Author.Rules.{rules}
 use Rattle.stepper_slot.proofs.decode.Goals as goal
 
 pub returns : goal.returns

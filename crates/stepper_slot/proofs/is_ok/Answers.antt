@@ -4,7 +4,6 @@ use mathlib.Core.Bool.{Bool, ◌&&◌}
 use native.Mathlib.Omega.{arith}
 use Rattle.stepper_slot_rules.specs.Parts.{run_test}
 use Rattle.stepper_slot_rules.proofs.Tested.{ok_is}
-use borrow.Author.Rules.{rules}
 use Rattle.stepper_slot.proofs.is_ok.Goals as goal
 
 pub returns-then-is_front_ok : goal.returns-then-is_front_ok

@@ -1,6 +1,5 @@
 -- `stepper_slot::position_in` meets its contract. Assumes nothing.
 use Rattle.stepper_slot_rules.specs.Slot.{decode_of}
-use borrow.Author.Rules.{rules}
 use Rattle.stepper_slot.proofs.position_in.Goals as goal
 
 pub returns : goal.returns

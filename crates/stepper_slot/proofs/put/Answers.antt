@@ -1,6 +1,5 @@
 -- `stepper_slot::put` meets its contract. Its parts stand one after another. Assumes nothing.
 use Rattle.stepper_slot_rules.proofs.Putting.{put_is}
-use borrow.Author.Rules.{rules}
 use Rattle.stepper_slot.proofs.put.Goals as goal
 
 pub returns : goal.returns

@@ -1,10 +1,8 @@
 -- `text_export::measure` meets its contract. The invariant: the records left give what all of them do. Assumes nothing.
-use mathlib.Core.Path.{◌≡◌, refl, sym, ap, ◌∙◌}
-use Prim.Native.Nat.{◌+◌, ◌-◌, ◌≤◌}
+use mathlib.Core.Path.{sym}
+use Prim.Native.Nat.{◌-◌}
 use native.Mathlib.Omega.{arith}
-use borrow.Author.Rules.{rules}
-use lib.ListN.{length, get_or}
-use Rattle.text_rules.proofs.Records.{Along, along-start, along_turn, along-cut, along-kind, along_mark, along_end}
+use Rattle.text_rules.proofs.Records.{along_turn, along-cut, along-kind, along_mark, along_end}
 use Rattle.text_export.proofs.measure.Goals as goal
 
 pub returns-then-records-i-lt3 : goal.returns-then-records-i-lt3

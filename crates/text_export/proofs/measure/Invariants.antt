@@ -1,10 +1,7 @@
 -- `text_export::measure` meets its contract. The invariant: the records left give what all of them do. Assumes nothing.
-use mathlib.Core.Path.{◌≡◌, refl, sym, ap, ◌∙◌}
-use Prim.Native.Nat.{◌+◌, ◌-◌, ◌≤◌}
-use native.Mathlib.Omega.{arith}
-use borrow.Author.Rules.{rules}
-use lib.ListN.{length, get_or}
-use Rattle.text_rules.proofs.Records.{Along, along-start, along_turn, along-cut, along-kind, along_mark, along_end}
+use Prim.Native.Nat.{◌-◌, ◌≤◌}
+use lib.ListN.{length}
+use Rattle.text_rules.proofs.Records.{Along}
 use Rattle.text_export.proofs.measure.Given as goal
 
 abbrev pub invariant-loop-i : goal.invariant-loop-i

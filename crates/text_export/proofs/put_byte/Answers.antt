@@ -1,9 +1,8 @@
 -- `text_export::put_byte` meets its contract: its four parts stand one behind the other. Assumes nothing.
-use mathlib.Core.Path.{◌≡◌, refl, sym}
+use mathlib.Core.Path.{refl, sym}
 use mathlib.Core.Bool.{not}
 use Prim.Native.Nat.{◌-◌}
 use native.Mathlib.Omega.{arith}
-use borrow.Author.Rules.{rules}
 use lib.Dec.{eqb}
 use Rattle.base_layout.proofs.Pasted.{put_four}
 use Rattle.base_text.specs.Digits.{space, newline, hex_pair}

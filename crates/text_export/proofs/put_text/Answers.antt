@@ -1,8 +1,7 @@
 -- `text_export::put_text` meets its contract. The invariant: the text of the records left, put where the loop stands, gives the whole. Assumes nothing.
 use Prim.Native.Nat.{◌-◌}
 use native.Mathlib.Omega.{arith}
-use lib.ListN.{length}
-use Rattle.text_rules.proofs.Showing.{Showing, show_start, show_three, show_room, show_turn, show_closing, show_end}
+use Rattle.text_rules.proofs.Showing.{show_start, show_three, show_room, show_turn, show_closing, show_end}
 use Rattle.text_export.proofs.put_text.Goals as goal
 
 pub loop-i-init : goal.loop-i-init

@@ -1,16 +1,13 @@
 -- `text_import::put_records` meets its contract. The invariant: what the characters left come to gives the whole, and so do their records, put where
 -- the loop stands, as many as there is room for. Assumes nothing.
-use mathlib.Core.Path.{◌≡◌, refl, sym, ap, subst, ◌∙◌}
-use Prim.Native.Nat.{ℕ, ◌+◌, ◌*◌, ◌-◌, ◌/◌, ◌≤◌}
+use mathlib.Core.Path.{sym, ap, subst, ◌∙◌}
+use Prim.Native.Nat.{◌-◌, ◌/◌}
 use native.Mathlib.Omega.{arith}
-use borrow.Author.Rules.{rules}
-use lib.ListN.{length, get_or, take, drop}
-use Rattle.base_layout.specs.Bytes.{pasted}
+use lib.ListN.{length, get_or}
 use Rattle.line_receiver.specs.Frames.{Byte}
 use Rattle.text_rules.specs.declared.Brings.{Brings}
-use Rattle.text_rules.specs.Records.{records}
-use Rattle.text_rules.specs.Import.{step, read_from, Fit, stage_of, brought_by}
-use Rattle.text_rules.proofs.Folding.{Midway, midway_start, turn_more, turn_gives, still_cannot, still_end, stop-still}
+use Rattle.text_rules.specs.Import.{step, read_from, stage_of, brought_by}
+use Rattle.text_rules.proofs.Folding.{turn_more, turn_gives, still_cannot, still_end, stop-still}
 use Rattle.text_rules.proofs.Reading.{FitAfter, step_fit, came_to}
 use Rattle.text_rules.proofs.Putting.{put_more, put_gives, put_stop}
 use Rattle.text_import.proofs.Table.{table_value}

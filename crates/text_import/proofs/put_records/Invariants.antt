@@ -1,19 +1,12 @@
 -- `text_import::put_records` meets its contract. The invariant: what the characters left come to gives the whole, and so do their records, put where
 -- the loop stands, as many as there is room for. Assumes nothing.
-use mathlib.Core.Path.{◌≡◌, refl, sym, ap, subst, ◌∙◌}
-use Prim.Native.Nat.{ℕ, ◌+◌, ◌*◌, ◌-◌, ◌/◌, ◌≤◌}
-use native.Mathlib.Omega.{arith}
-use borrow.Author.Rules.{rules}
-use lib.ListN.{length, get_or, take, drop}
+use mathlib.Core.Path.{◌≡◌}
+use Prim.Native.Nat.{◌*◌, ◌-◌, ◌≤◌}
+use lib.ListN.{length, take, drop}
 use Rattle.base_layout.specs.Bytes.{pasted}
-use Rattle.line_receiver.specs.Frames.{Byte}
-use Rattle.text_rules.specs.declared.Brings.{Brings}
 use Rattle.text_rules.specs.Records.{records}
-use Rattle.text_rules.specs.Import.{step, read_from, Fit, stage_of, brought_by}
-use Rattle.text_rules.proofs.Folding.{Midway, midway_start, turn_more, turn_gives, still_cannot, still_end, stop-still}
-use Rattle.text_rules.proofs.Reading.{FitAfter, step_fit, came_to}
-use Rattle.text_rules.proofs.Putting.{put_more, put_gives, put_stop}
-use Rattle.text_import.proofs.Table.{table_value}
+use Rattle.text_rules.specs.Import.{step, read_from, Fit, stage_of}
+use Rattle.text_rules.proofs.Folding.{Midway}
 use Rattle.text_import.proofs.put_records.Given as goal
 
 abbrev pub invariant-loop-i : goal.invariant-loop-i

@@ -1,12 +1,11 @@
 -- `text_import::step` meets its contract: a line for each place. Assumes nothing.
-use mathlib.Core.Path.{◌≡◌, sym, ap, subst, ◌∙◌}
+use mathlib.Core.Path.{sym, ap, ◌∙◌}
 use mathlib.Core.Bool.{cond}
 use Prim.Native.Nat.{ℕ, ◌+◌, ◌*◌}
-use borrow.Author.Rules.{rules}
 use lib.Dec.{ltb}
 use Rattle.text_rules.specs.declared.At.{At}
 use Rattle.text_rules.specs.Fold.{more, cannot}
-use Rattle.text_rules.specs.Import.{Digit, Whole, step, stage_at, Fit}
+use Rattle.text_rules.specs.Import.{Digit, Whole, step, stage_at}
 use Rattle.text_import.proofs.step.Goals as goal
 
 pub returns-in-LineStart : goal.returns-in-LineStart

@@ -3,7 +3,6 @@ use mathlib.Core.Path.{◌≡◌, sym, ap, ◌∙◌}
 use lib.ListN.{get_or}
 use Rattle.types_rules.specs.Table.{ModuleType, servo, inout, stepper, rules_of, slots_of}
 use Rattle.types_rules.proofs.Dispatch.{type_at, no_type}
-use borrow.Author.Rules.{rules}
 use Rattle.types_dispatch.proofs.is_ok.Goals as goal
 
 pub returns-then-t-eq-TYPE : goal.returns-then-t-eq-TYPE

@@ -5,7 +5,6 @@ use Rattle.base_layout.specs.Every.{every}
 use Rattle.module_rules.specs.Slots.{measured_at}
 use Rattle.types_rules.specs.Table.{ModuleType, servo, inout, sample_of}
 use Rattle.types_rules.proofs.Dispatch.{type_at, type_last}
-use borrow.Author.Rules.{rules}
 use Rattle.types_dispatch.proofs.is_sample_ok.Goals as goal
 
 pub returns-then-s-eq-TYPE : goal.returns-then-s-eq-TYPE

@@ -5,7 +5,6 @@ use native.Mathlib.Omega.{arith}
 use lib.ListN.{get_or}
 use Rattle.types_rules.specs.Table.{ModuleType, servo, inout, rules_of, slots_of}
 use Rattle.types_rules.proofs.Dispatch.{type_at, type_last}
-use borrow.Author.Rules.{rules}
 use Rattle.types_dispatch.proofs.outputs.Goals as goal
 
 pub outputs-requires : goal.outputs-requires

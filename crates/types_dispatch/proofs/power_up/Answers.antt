@@ -3,7 +3,6 @@ use mathlib.Core.Path.{sym, ap, ◌∙◌}
 use Rattle.base_layout.specs.Bytes.{pasted}
 use Rattle.types_rules.specs.Table.{ModuleType, servo, inout, stepper, Of, rules_of, slots_of}
 use Rattle.types_rules.proofs.Dispatch.{type_at, type_last}
-use borrow.Author.Rules.{rules}
 use Rattle.types_dispatch.proofs.power_up.Goals as goal
 
 pub returns-then-t-eq-TYPE : goal.returns-then-t-eq-TYPE

@@ -6,7 +6,6 @@ use lib.ListN.{get_or}
 use Rattle.module_rules.specs.Touch.{frame_of}
 use Rattle.types_rules.specs.Table.{ModuleType, servo, inout, stepper, slots_of}
 use Rattle.types_rules.proofs.Dispatch.{type_at, type_last, touched}
-use borrow.Author.Rules.{rules}
 use Rattle.types_dispatch.proofs.touch.Goals as goal
 
 pub touch-requires : goal.touch-requires

@@ -1,6 +1,5 @@
 -- `types_table::sizes_of` meets its contract. Assumes nothing.
 use mathlib.Core.Path.{sym, ap}
-use borrow.Author.Rules.{rules}
 use Rattle.types_rules.specs.Table.{ModuleType, servo, inout, rules_of}
 use Rattle.types_rules.proofs.Dispatch.{type_at, type_last}
 use Rattle.types_table.proofs.sizes_of.Goals as goal

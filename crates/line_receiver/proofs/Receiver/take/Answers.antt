@@ -1,5 +1,5 @@
 -- `line_receiver::Receiver::take` meets its contract: the code tests how many bytes are in, where the definition goes by cases. Assumes nothing.
-use Rattle.std.proofs.Common.{◌≡◌, ℕ, suc, ◌-◌, true, false, sym, ap, ◌∙◌, arith, rules}
+use Rattle.std.proofs.Common.{◌≡◌, ℕ, suc, ◌-◌, true, false, sym, ap, ◌∙◌, arith}
 use Rattle.line_receiver.specs.Receive.{opens, step, taken}
 use Rattle.line_receiver.proofs.Receiver.take.Goals as goal
 

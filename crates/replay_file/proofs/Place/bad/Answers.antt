@@ -4,8 +4,7 @@ use mathlib.Core.List.{[], ◌∷◌}
 use mathlib.Core.Bool.{true, false}
 use Prim.Native.Nat.{ℕ, ◌≤◌}
 use native.Mathlib.Omega.{arith}
-use borrow.Author.Rules.{rules}
-use lib.ListN.{length, length-set}
+use lib.ListN.{length}
 use Rattle.base_text.specs.Digits.{decimal}
 use Rattle.replay_print.specs.Text.{bad_line}
 use Rattle.replay_file.specs.Turns.{turned}

@@ -1,6 +1,5 @@
 -- `replay_file::Place::cut` meets its contract. Assumes nothing.
 use mathlib.Core.Path.{sym}
-use borrow.Author.Rules.{rules}
 use Rattle.base_layout.proofs.Pasted.{pasted_none}
 use Rattle.replay_file.specs.Turns.{turned_by, text_by, text_after}
 use Rattle.replay_file.proofs.Place.cut.Goals as goal

@@ -1,7 +1,6 @@
 -- `servo_motion::Profile::by_trapezoid` meets its contract: the new speed is no larger than the old one and the greatest. Assumes nothing.
 use mathlib.Core.Path.{◌≡◌, ◌∙◌}
 use native.Mathlib.Omega.{arith}
-use borrow.Author.Rules.{rules}
 use mir.Syntax.{w64}
 use mir.Val.{to_z, of_z}
 use mir.ValLaws.{to_z-of_z}

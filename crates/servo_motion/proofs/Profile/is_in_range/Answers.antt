@@ -1,6 +1,5 @@
 -- `servo_motion::Profile::is_in_range` meets its contract: each number has its test, and the machine holds speed and aim as they are. Assumes nothing.
 use mathlib.Core.Path.{◌≡◌, refl}
-use borrow.Author.Rules.{rules}
 use lib.Dec.{leb}
 use lib.IntN.{nat_abs}
 use mir.Syntax.{w64}

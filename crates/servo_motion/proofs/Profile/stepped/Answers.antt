@@ -1,6 +1,5 @@
 -- `servo_motion::Profile::stepped` meets its contract: the moved setpoint and the new speed take their places. Assumes nothing.
 use mathlib.Core.Path.{◌≡◌, refl}
-use native.Mathlib.Omega.{arith}
 use mir.Syntax.{w64}
 use mir.Val.{to_z, of_z}
 use mir.ValLaws.{to_z-of_z}
