@@ -25,7 +25,7 @@ use Rattle.demands_history_rules.specs.Calls.{Call, tick, Handed, leaves}
 use Rattle.demands_rules.specs.ServoPlace.{servo_sample_at, At}
 use Rattle.demands_rules.specs.Motion.{Moves, Bound, SetsOut, Begins, out, AtRest, LoadStarts, by_start, by_load, Starts, of_load, by_stop_here, CallStarts, EveryCall, Never, NeverFromSetup}
 use Rattle.demands_rules.specs.SettingOut.{SettingOut}
-use Rattle.demands_rules.proofs.SettingOut as Any
+use Rattle.demands_rules.proofs.SettingOut as AnyType
 use Rattle.demands_rules.proofs.SettingOut.{line_starts}
 use Rattle.demands_rules.proofs.Making.{same_place, fits_at, Made, same, framed, timed, made, set_up_is}
 use Rattle.demands_rules.proofs.Motion.{resting_rests, rests_resting, frame_sets_out, frame_starts, frame_rests, ticked_bound, ticked_moves, ticked_rests, nothing_begins}
@@ -104,7 +104,7 @@ sets_out = record {
     at k (inr z) = inr (resting_rests k z)
 
 pub never : Never
-never = Any.never servo AtRest LoadStarts sets_out
+never = AnyType.never servo AtRest LoadStarts sets_out
 
 pub never_from_setup : NeverFromSetup
-never_from_setup = Any.never_from_setup servo AtRest LoadStarts sets_out
+never_from_setup = AnyType.never_from_setup servo AtRest LoadStarts sets_out

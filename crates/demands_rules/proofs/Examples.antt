@@ -15,7 +15,7 @@ use Rattle.base_integers.specs.Whole.{same, signed, difference}
 use Rattle.line_receiver.specs.Receive.{taken}
 use Rattle.line_receiver.specs.Frames.{Byte, Frame, reads, clean, written, values, AreBytes}
 use Rattle.module_rules.specs.Commands.{asked}
-use Rattle.module_rules.specs.Rules as Any
+use Rattle.module_rules.specs.Rules as AnyType
 use Rattle.chain_rules.specs.Chain.{Net, addresses, touched, byte_step, Outcome}
 use Rattle.servo_motion.specs.Trapezoid.{terms, stop, pick, greatest, next_speed}
 use Rattle.servo_motion.specs.Setpoint.{distance, moved}
@@ -111,26 +111,26 @@ awake_fits =
     (kept.tick _ _ ((omega arith, omega arith), (omega arith, omega arith)) kept.power)
 
 rests : AtRest awake
-unfolding Any.execute Any.request asked own ticked by_power distance difference signed met homed changed
+unfolding AnyType.execute AnyType.request asked own ticked by_power distance difference signed met homed changed
 rests = resting_rests awake (record { speed = refl; pulse = refl; aim = λ e. refl; goal = λ e. refl })
 
 -- each of the three begins motion
 pub by_start_lem : Begins (execute pulse true awake) (execute go true (execute pulse true awake))
-unfolding Any.execute Any.request asked own ticked by_power load_meant carried_in in_range loaded load_of way_of startable complete start idled signed_by ones met homed changed
+unfolding AnyType.execute AnyType.request asked own ticked by_power load_meant carried_in in_range loaded load_of way_of startable complete start idled signed_by ones met homed changed
 by_start_lem = out (moving (still (execute pulse true awake) refl refl) (inr (some_number 99 _ refl)))
 
 pub by_load_lem : Begins awake (execute speed true awake)
-unfolding Any.execute Any.request asked own ticked load_meant carried_in in_range loaded load_of rates_of way_of startable complete start to_speed signed_by ones by_power met homed changed
+unfolding AnyType.execute AnyType.request asked own ticked load_meant carried_in in_range loaded load_of rates_of way_of startable complete start to_speed signed_by ones by_power met homed changed
 by_load_lem = out (bound rests.1 (inl (refl, some_number 99 _ refl)))
 
 pub by_stop-here : Begins awake (execute here true awake)
-unfolding Any.execute Any.request asked own ticked by_power stop_meant halt_of stopped holding difference signed ones met homed changed
+unfolding AnyType.execute AnyType.request asked own ticked by_power stop_meant halt_of stopped holding difference signed ones met homed changed
 by_stop-here =
     let e : following (execute here true awake) ≡ pos 100 = refl in
     put (some_number 99 _ e) (some_number 99 _ e)
 
 pub by_turning_on : Begins awake (execute here true awake)
-unfolding Any.execute Any.request asked own ticked by_power stop_meant halt_of stopped holding difference signed ones met homed changed
+unfolding AnyType.execute AnyType.request asked own ticked by_power stop_meant halt_of stopped holding difference signed ones met homed changed
 by_turning_on = turned_on refl refl (some_number 99 _ refl)
 
 pub starts : Starts speed true awake
@@ -138,11 +138,11 @@ starts = frame_starts speed true awake awake_fits by_load_lem
 
 -- the speed laws of both modes speak of ticks that there are
 pub climbs : ((execute speed true awake).run.drive.mode ≡ Velocity) × ((ticked (record { raw = 0; power = 1; ad = 0; inputs = 0 }) (execute speed true awake)).run.drive.mode ≡ Velocity) × Moves (ticked (record { raw = 0; power = 1; ad = 0; inputs = 0 }) (execute speed true awake))
-unfolding Any.execute Any.request asked own ticked by_power load_meant carried_in in_range loaded load_of rates_of way_of startable complete start beginning_at to_speed signed_by ones servoed advanced by_velocity stepped moved toward difference signed Filter.held Filter.drive Filter.limited Filter.filtered met homed changed
+unfolding AnyType.execute AnyType.request asked own ticked by_power load_meant carried_in in_range loaded load_of rates_of way_of startable complete start beginning_at to_speed signed_by ones servoed advanced by_velocity stepped moved toward difference signed Filter.held Filter.drive Filter.limited Filter.filtered met homed changed
 climbs = (refl, refl, inl (some_number 99 _ refl))
 
 pub travels : ((execute go true (execute move true awake)).run.drive.mode ≡ Trapezoid) × ((ticked (record { raw = 0; power = 1; ad = 0; inputs = 0 }) (execute go true (execute move true awake))).run.drive.mode ≡ Trapezoid)
-unfolding Any.execute Any.request asked own ticked by_power load_meant carried_in in_range loaded load_of rates_of way_of startable complete movable same start beginning_at to_place distance difference signed ones servoed advanced by_trapezoid trapezoid stepped moved Filter.held Filter.drive Filter.limited Filter.filtered terms stop pick greatest next_speed met homed changed
+unfolding AnyType.execute AnyType.request asked own ticked by_power load_meant carried_in in_range loaded load_of rates_of way_of startable complete movable same start beginning_at to_place distance difference signed ones servoed advanced by_trapezoid trapezoid stepped moved Filter.held Filter.drive Filter.limited Filter.filtered terms stop pick greatest next_speed met homed changed
 travels = (refl, refl)
 
 -- ---- a record of one servo
@@ -276,15 +276,15 @@ abbrev sent_off : Servo
 sent_off = execute go true (execute move true awake)
 
 pub ends_moving : At (left_by (calls pulse_orders) lent) 0 gone
-unfolding taken byte_step Any.execute Any.request asked own ticked by_power met homed changed
+unfolding taken byte_step AnyType.execute AnyType.request asked own ticked by_power met homed changed
 ends_moving = ends_in pulse_orders pulse_bytes gone refl
 
 pub ends_bound : At (left_by (calls move_orders) lent) 0 sent_off
-unfolding taken byte_step Any.execute Any.request asked own ticked load_meant ones in_range carried_in loaded by_power met homed changed
+unfolding taken byte_step AnyType.execute AnyType.request asked own ticked load_meant ones in_range carried_in loaded by_power met homed changed
 ends_bound = ends_in move_orders move_bytes sent_off refl
 
 gone_moves : Moves gone
-unfolding Any.execute Any.request asked own ticked load_meant carried_in in_range loaded load_of way_of startable complete start idled signed_by ones by_power met homed changed
+unfolding AnyType.execute AnyType.request asked own ticked load_meant carried_in in_range loaded load_of way_of startable complete start idled signed_by ones by_power met homed changed
 gone_moves = inr (some_number 99 _ refl)
 
 started_rests : AtRest started
@@ -297,7 +297,7 @@ was_started =
 
 -- and what it does was sent: the PWM byte, and the position
 gone_pulses : gone.run.drive.mode ≡ Pwm
-unfolding Any.execute Any.request asked own ticked load_meant carried_in in_range loaded load_of way_of startable complete start idled signed_by ones by_power met homed changed
+unfolding AnyType.execute AnyType.request asked own ticked load_meant carried_in in_range loaded load_of way_of startable complete start idled signed_by ones by_power met homed changed
 gone_pulses = refl
 
 pub was_sent : PulseSent lent (calls pulse_orders) 0 (length (calls pulse_orders))

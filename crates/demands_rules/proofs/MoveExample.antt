@@ -17,7 +17,7 @@ use Rattle.base_integers.specs.Whole.{same, signed, difference}
 use Rattle.line_receiver.specs.Receive.{taken}
 use Rattle.line_receiver.specs.Frames.{Byte, Frame, clean, written, values, AreBytes}
 use Rattle.module_rules.specs.Commands.{asked}
-use Rattle.module_rules.specs.Rules as Any
+use Rattle.module_rules.specs.Rules as AnyType
 use Rattle.chain_rules.specs.Chain.{Net, byte_step}
 use Rattle.servo_motion.specs.Trapezoid.{terms, stop, pick, greatest, next_speed}
 use Rattle.servo_motion.specs.Setpoint.{distance, moved}
@@ -293,7 +293,7 @@ module _ (orders : List Byte) (power x : ℕ) where
 
 -- 2, 4 and sixty-eight times 5 from 0, forth and back
 forth_computed : Facts forth 1 0x05 346 (pos 5)
-unfolding samples_in taken byte_step Any.execute Any.request asked own ticked load_meant gain_meant gains_in gains_fit stop_meant halt_of stopped ones in_range carried_in loaded load_of rates_of way_of startable complete movable same start beginning_at to_place distance difference signed servoed advanced by_trapezoid trapezoid stepped moved held drive limited filtered terms stop pick greatest next_speed by_power met homed changed
+unfolding samples_in taken byte_step AnyType.execute AnyType.request asked own ticked load_meant gain_meant gains_in gains_fit stop_meant halt_of stopped ones in_range carried_in loaded load_of rates_of way_of startable complete movable same start beginning_at to_place distance difference signed servoed advanced by_trapezoid trapezoid stepped moved held drive limited filtered terms stop pick greatest next_speed by_power met homed changed
 forth_computed = record {
   bytes = refl;
   small_byte = refl;
@@ -310,7 +310,7 @@ forth_computed = record {
 }
 
 back_computed : Facts back 2 0x6E (2 ^ 48 - 346) (negsuc 4)
-unfolding samples_in taken byte_step Any.execute Any.request asked own ticked load_meant gain_meant gains_in gains_fit stop_meant halt_of stopped ones in_range carried_in loaded load_of rates_of way_of startable complete movable same start beginning_at to_place distance difference signed servoed advanced by_trapezoid trapezoid stepped moved held drive limited filtered terms stop pick greatest next_speed by_power met homed changed
+unfolding samples_in taken byte_step AnyType.execute AnyType.request asked own ticked load_meant gain_meant gains_in gains_fit stop_meant halt_of stopped ones in_range carried_in loaded load_of rates_of way_of startable complete movable same start beginning_at to_place distance difference signed servoed advanced by_trapezoid trapezoid stepped moved held drive limited filtered terms stop pick greatest next_speed by_power met homed changed
 back_computed = record {
   bytes = refl;
   small_byte = refl;

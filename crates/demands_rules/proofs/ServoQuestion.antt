@@ -24,7 +24,7 @@ use Rattle.demands_rules.specs.Motion.{by_start, by_load, of_load, by_stop_here}
 use Rattle.demands_rules.specs.Question.{Loading}
 use Rattle.demands_rules.specs.ServoQuestion.{MissedTells, NoLoad, NoneReady, Question, QuestionOnTheLine, QuestionInTime, Twice}
 use Rattle.demands_rules.proofs.Reading.{start_asks, short_asks, not_keep}
-use Rattle.demands_rules.proofs.Question as Any
+use Rattle.demands_rules.proofs.Question as AnyType
 use Rattle.demands_rules.proofs.OnTheLine as Line
 use Rattle.demands_rules.proofs.InTime as Time
 
@@ -51,10 +51,10 @@ loads = record {
     by x m e (inr u) = ap (λ (l : Load). l.waits) ((homing_ticks x m).load u) ∙ e
 
 pub missed_tells : MissedTells
-missed_tells = Any.missed_tells servo needed NoneReady NoLoad loads
+missed_tells = AnyType.missed_tells servo needed NoneReady NoLoad loads
 
 pub question : Question
-question = Any.question servo needed NoneReady NoLoad loads
+question = AnyType.question servo needed NoneReady NoLoad loads
 
 pub question_on_the_line : QuestionOnTheLine
 question_on_the_line = Line.question_on_the_line servo needed NoneReady NoLoad loads
@@ -70,6 +70,6 @@ twice m f g alone apart (of_load (by_load c a e s)) t =
 twice m f g alone apart (by_stop_here a x h r) t =
     let k : Servo = execute f alone m in
     let e : k ≡ with_cause 0 (perform (Stop a Here x) m) = ((every_type servo).cause f alone m).executed (Stop a Here x) h.undamaged h.order ((stops_now a x m).here.1 r) in
-    Any.start_refused servo needed NoneReady NoLoad loads k k g apart (λ c. refl)
+    AnyType.start_refused servo needed NoneReady NoLoad loads k k g apart (λ c. refl)
     (inl (ap (λ (k : Servo). k.settings.load.waits) e ∙ (stops a x m).waits Here (not_keep Here refl)))
     t

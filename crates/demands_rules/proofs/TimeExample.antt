@@ -13,7 +13,7 @@ use Rattle.line_receiver.specs.declared.Answer.TheVariants.{Ended}
 use Rattle.line_receiver.specs.Receive.{taken}
 use Rattle.line_receiver.specs.Frames.{Byte, Frame, frame_in, clean, written, values}
 use Rattle.module_rules.specs.Commands.{asked}
-use Rattle.module_rules.specs.Rules as Any
+use Rattle.module_rules.specs.Rules as AnyType
 use Rattle.chain_rules.specs.Chain.{Net, addresses, touched, byte_step}
 use Rattle.servo_rules.specs.Carried.{needed}
 use Rattle.servo_rules.specs.Asks.{load_meant, own}
@@ -72,7 +72,7 @@ cs = spread 0 room line
 
 -- the Start ends with call 32, and all that ends before it is the short load
 quiet : all_pass ends 32 cs (set_up types) ≡ true
-unfolding samples_in taken byte_step Any.execute Any.request asked own load_meant ticked by_power ones met homed changed
+unfolding samples_in taken byte_step AnyType.execute AnyType.request asked own load_meant ticked by_power ones met homed changed
 quiet = refl
 
 abbrev go : Frame
@@ -86,7 +86,7 @@ before-start =
 reads_go : (frame_in (through (spread 0 room (take 16 line)) (set_up types)).receiver false ≡ go)
     × ((taken (through (spread 0 room (take 16 line)) (set_up types)).receiver 5 false).answer ≡ Ended false)
     × (touched true 0 (addresses kind (through (spread 0 room (take 16 line)) (set_up types)).modules) 0 ≡ true)
-unfolding samples_in taken byte_step Any.execute Any.request asked own load_meant ticked by_power ones met homed changed
+unfolding samples_in taken byte_step AnyType.execute AnyType.request asked own load_meant ticked by_power ones met homed changed
 reads_go = (refl, refl, refl)
 
 start_touches : Touched lent cs 0 32 go

@@ -29,7 +29,7 @@ use Rattle.api_rules.specs.Promises.{Passes, Refuses, ValidRecord}
 use Rattle.demands_history_rules.specs.Events.{run}
 use Rattle.demands_history_rules.specs.Calls.{Call, tick, Handed, AllHanded, refusals, leaves, left_by, written_by, done_by}
 use Rattle.demands_rules.specs.ServoPlace.{At, servo_sample_at}
-use Rattle.demands_rules.specs.SettingOut as Any
+use Rattle.demands_rules.specs.SettingOut as AnyType
 
 -- Setup, unless it is refused, leaves a valid record of the modules at power-up, whatever was lent.
 abbrev pub FromSetup : Type 0
@@ -109,7 +109,7 @@ StartsAreExecuted = (f : Frame) (alone : Bool) (m : Servo) → Starts f alone m 
 
 -- a call that is not refused hands over the last byte of such a start of the servo m at place i
 abbrev pub CallStarts : (Frame → Bool → Servo → Type 0) → List ℕ → ℕ → Servo → Call → Type 0
-CallStarts = Any.CallStarts servo
+CallStarts = AnyType.CallStarts servo
 
 -- Every call, with the servo m at place i before it and k after it. What begins motion is the last byte of one of the three, and what sets a
 -- servo out is that of a load's start; a tick, which is no command, only goes on toward a goal that m had, and gives none, whatever list it
@@ -125,12 +125,12 @@ pub record EveryCall : Type 0 where
 
 -- one of the calls started a load of the servo at place i
 abbrev pub StartedBy : List Call → List ℕ → ℕ → Type 0
-StartedBy = Any.StartedBy servo LoadStarts
+StartedBy = AnyType.StartedBy servo LoadStarts
 
 -- Never otherwise: a servo that was at rest and, after any calls, is not, had a load started by one of them; and so it is from setup on. (Which,
 -- Sent.antt says.)
 abbrev pub Never : Type 0
-Never = Any.Never servo AtRest LoadStarts
+Never = AnyType.Never servo AtRest LoadStarts
 
 abbrev pub NeverFromSetup : Type 0
-NeverFromSetup = Any.NeverFromSetup servo AtRest LoadStarts
+NeverFromSetup = AnyType.NeverFromSetup servo AtRest LoadStarts

@@ -16,7 +16,7 @@ use Rattle.api_rules.specs.Calls.{setup_record}
 use Rattle.api_rules.specs.Promises.{Passes}
 use Rattle.demands_history_rules.specs.Calls.{Call, AllHanded}
 use Rattle.demands_rules.specs.Motion.{Moves}
-use Rattle.demands_rules.specs.Loaded as Any
+use Rattle.demands_rules.specs.Loaded as AnyType
 use Rattle.demands_rules.specs.Loaded.{control, Has, Lacks}
 use Rattle.demands_rules.specs.ServoPlace.{Stands, Executed, Homed, None, Since}
 
@@ -38,7 +38,7 @@ signed_in f n = cond (is_set 6 (control f)) (neg_ℤ (pos n)) (pos n)
 
 -- a Load of as many data bytes as its control byte asks for; a Stop with one of bits 1 to 4
 abbrev pub WholeLoad : Frame → Type 0
-WholeLoad = Any.WholeLoad needed
+WholeLoad = AnyType.WholeLoad needed
 
 abbrev pub Halts : Frame → Type 0
 Halts f = (f.code ≡ 7) × (Has 1 f ⊎ (Has 2 f ⊎ (Has 3 f ⊎ Has 4 f)))
@@ -57,17 +57,17 @@ HeldAt m f x = (Has 2 f × (x ≡ m.latched.raw)) ⊎ (Has 4 f × (length f.cont
 module _ (net : List ℕ) (cs : List Call) (i : ℕ) where
   -- the whole Load f was executed here, and no frame such as P since; it is the last of them that carried the number of bit k
   abbrev pub Loaded : (Frame → Type 0) → Frame → ℕ → Type 0
-  Loaded = Any.Loaded servo needed net cs i
+  Loaded = AnyType.Loaded servo needed net cs i
 
   abbrev pub Given : ℕ → Frame → ℕ → Type 0
-  Given = Any.Given servo needed net cs i
+  Given = AnyType.Given servo needed net cs i
 
   -- call s started the Load f, which nothing had dropped; and since then Is holds of the servo before the start, the Load and the servo
   abbrev pub Started : Frame → ℕ → Type 0
-  Started = Any.Started servo needed Drops net cs i
+  Started = AnyType.Started servo needed Drops net cs i
 
   abbrev pub Began : ℕ → ℕ → (Frame → Type 0) → (Servo → Frame → Servo → Type 0) → Type 0
-  Began = Any.Began servo needed Drops net cs i
+  Began = AnyType.Began servo needed Drops net cs i
 
   -- with a velocity v and an acceleration a, each of the last Load up to the start that carried it
   abbrev pub Paced : ℕ → (Frame → Type 0) → (Frame → Frame → Servo → Frame → Servo → Type 0) → Type 0

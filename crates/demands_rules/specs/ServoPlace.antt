@@ -7,26 +7,26 @@ use Rattle.servo_rules.specs.declared.Servo.{Servo}
 use Rattle.servo_rules.specs.HomingPromises.{Acts}
 use Rattle.types_rules.specs.Table.{servo}
 use Rattle.demands_history_rules.specs.Calls.{Call}
-use Rattle.demands_rules.specs.Place as Any
+use Rattle.demands_rules.specs.Place as AnyType
 
 -- the servo m is at place i of the network that a record holds
 abbrev pub At : List ℕ → ℕ → Servo → Type 0
-At = Any.AtOf servo
+At = AnyType.AtOf servo
 
 -- the sample that a tick's list has for a servo at place i
 abbrev pub servo_sample_at : List ℕ → ℕ → Sample
-servo_sample_at = Any.sample_at servo
+servo_sample_at = AnyType.sample_at servo
 
 module _ (net : List ℕ) (cs : List Call) (i : ℕ) where
   -- the servo after the first n calls, the frames that it executed, the samples that ticks handed it
   abbrev pub Stands : ℕ → Servo → Type 0
-  Stands = Any.Stands servo net cs i
+  Stands = AnyType.Stands servo net cs i
 
   abbrev pub Executed : ℕ → Frame → Type 0
-  Executed = Any.Executed servo net cs i
+  Executed = AnyType.Executed servo net cs i
 
   abbrev pub Ticked : ℕ → Sample → Type 0
-  Ticked = Any.Ticked servo net cs i
+  Ticked = AnyType.Ticked servo net cs i
 
   -- 02 P8: call n was a tick in which homing's stop of this kind acted on the servo there
   pub record Homed (h : Halt) (n : ℕ) : Type 0 where
@@ -38,14 +38,14 @@ module _ (net : List ℕ) (cs : List Call) (i : ℕ) where
 
   -- no frame such as P executed between two calls; the servo such as P after each of some calls
   abbrev pub None : (Frame → Type 0) → ℕ → ℕ → Type 0
-  None = Any.None servo net cs i
+  None = AnyType.None servo net cs i
 
   abbrev pub Since : ℕ → ℕ → (Servo → Type 0) → Type 0
-  Since = Any.Since servo net cs i
+  Since = AnyType.Since servo net cs i
 
 -- what the ticks among calls make of it
 abbrev pub in_time : List ℕ → ℕ → Call → Servo → Servo
-in_time = Any.in_time servo
+in_time = AnyType.in_time servo
 
 abbrev pub through_time : List ℕ → ℕ → List Call → Servo → Servo
-through_time = Any.through_time servo
+through_time = AnyType.through_time servo

@@ -7,15 +7,15 @@ use Rattle.servo_rules.specs.Loads.{complete}
 use Rattle.servo_rules.specs.Answers.{with_cause, execute}
 use Rattle.types_rules.specs.Table.{servo}
 use Rattle.demands_rules.specs.Motion.{Starts}
-use Rattle.demands_rules.specs.Question as Any
+use Rattle.demands_rules.specs.Question as AnyType
 use Rattle.demands_rules.specs.Question.{IsStart}
 
 -- the ways that a servo misses a load, and what a missed one leaves
 abbrev pub Missed : Bool → Frame → Type 0
-Missed = Any.Missed needed
+Missed = AnyType.Missed needed
 
 abbrev pub MissedTells : Type 0
-MissedTells = Any.MissedTells servo needed
+MissedTells = AnyType.MissedTells servo needed
 
 -- no complete load waits: none at all, or one that is incomplete
 abbrev pub NoneReady : Servo → Type 0
@@ -27,13 +27,13 @@ NoLoad m = m.settings.load.waits ≡ false
 
 -- It does not go: at one servo, on the line, and in any time.
 abbrev pub Question : Type 0
-Question = Any.Question servo needed NoneReady
+Question = AnyType.Question servo needed NoneReady
 
 abbrev pub QuestionOnTheLine : Type 0
-QuestionOnTheLine = Any.QuestionOnTheLine servo needed NoneReady
+QuestionOnTheLine = AnyType.QuestionOnTheLine servo needed NoneReady
 
 abbrev pub QuestionInTime : Type 0
-QuestionInTime = Any.QuestionInTime servo needed NoLoad
+QuestionInTime = AnyType.QuestionInTime servo needed NoLoad
 
 -- Twice: after any of the three starts a Start is 3 and changes nothing else.
 abbrev pub Twice : Type 0

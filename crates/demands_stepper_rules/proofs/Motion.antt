@@ -22,7 +22,7 @@ use Rattle.demands_rules.specs.Place.{AtOf, sample_at, after}
 use Rattle.demands_rules.specs.SettingOut.{CallStarts}
 use Rattle.demands_rules.proofs.Making.{same_place, fits_at, made, was_there, set_up_is}
 use Rattle.demands_rules.proofs.Placing.{call_at, valid-after}
-use Rattle.demands_rules.proofs.SettingOut as Any
+use Rattle.demands_rules.proofs.SettingOut as AnyType
 use Rattle.demands_rules.proofs.Buffers.{never_of_any_type}
 use Rattle.demands_stepper_rules.specs.Motion.{Rests, Moves, Starts, EveryCall, Never, NeverFromSetup, NeverInBuffers, StopInputEnds}
 use Rattle.demands_stepper_rules.proofs.Starting.{sets_out}
@@ -33,7 +33,7 @@ started_or_rests : (net : List ℕ) (c : Call) (i : ℕ) (m k : Stepper) → Han
 started_or_rests net c i m k h v e q r =
     let (k', q', d) = made stepper net c i m h v e in
     subst (λ (k : Stepper). CallStarts stepper Starts net i m c ⊎ Rests k) (same_place stepper (net_in slots (leaves net c)).modules i k' k q' q)
-    (Any.stays stepper Rests Starts sets_out net c i m k' (fits_at stepper net i m v e) r d)
+    (AnyType.stays stepper Rests Starts sets_out net c i m k' (fits_at stepper net i m v e) r d)
 
 pub every_call : EveryCall
 every_call = record {
@@ -51,10 +51,10 @@ every_call = record {
     resting k (inr r) = r
 
 pub never : Never
-never = Any.never stepper Rests Starts sets_out
+never = AnyType.never stepper Rests Starts sets_out
 
 pub never_from_setup : NeverFromSetup
-never_from_setup = Any.never_from_setup stepper Rests Starts sets_out
+never_from_setup = AnyType.never_from_setup stepper Rests Starts sets_out
 
 pub never_in_buffers : NeverInBuffers
 never_in_buffers = never_of_any_type stepper Rests Starts sets_out

@@ -21,7 +21,7 @@ use Rattle.stepper_rules.specs.FramePromises.{Startable}
 use Rattle.stepper_rules.proofs.Starting.{was_startable}
 use Rattle.types_rules.specs.Table.{stepper}
 use Rattle.demands_rules.specs.Question.{Loading}
-use Rattle.demands_rules.proofs.Question as Any
+use Rattle.demands_rules.proofs.Question as AnyType
 use Rattle.demands_rules.proofs.OnTheLine as Line
 use Rattle.demands_rules.proofs.Buffers.{question_of_any_type}
 use Rattle.demands_rules.proofs.InTime as Time
@@ -64,10 +64,10 @@ loads = record {
 }
 
 pub missed_tells : MissedTells
-missed_tells = Any.missed_tells stepper needed NoneReady NoLoad loads
+missed_tells = AnyType.missed_tells stepper needed NoneReady NoLoad loads
 
 pub question : Question
-question = Any.question stepper needed NoneReady NoLoad loads
+question = AnyType.question stepper needed NoneReady NoLoad loads
 
 pub question_on_the_line : QuestionOnTheLine
 question_on_the_line = Line.question_on_the_line stepper needed NoneReady NoLoad loads
@@ -83,4 +83,4 @@ unfolding start
 twice m f g alone apart s t =
     let k : Stepper = execute f alone m in
     let (l, e) = begins f alone m s in
-    Any.start_refused stepper needed NoneReady NoLoad loads k k g apart (λ c. refl) (inl (ap (λ (k : Stepper). k.load.waits) e)) t
+    AnyType.start_refused stepper needed NoneReady NoLoad loads k k g apart (λ c. refl) (inl (ap (λ (k : Stepper). k.load.waits) e)) t

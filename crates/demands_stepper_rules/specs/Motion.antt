@@ -20,7 +20,7 @@ use Rattle.api_rules.specs.Promises.{Passes, ValidRecord}
 use Rattle.demands_history_rules.specs.Calls.{Call, tick, Handed, AllHanded, leaves, left_by}
 use Rattle.demands_rules.specs.Place.{AtOf, after, Stands, Ticked}
 use Rattle.demands_rules.specs.Loaded.{control, Has}
-use Rattle.demands_rules.specs.SettingOut as Any
+use Rattle.demands_rules.specs.SettingOut as AnyType
 use Rattle.demands_rules.specs.Buffers as Buffers
 
 -- 02 P3: motion is a speed other than 0
@@ -53,7 +53,7 @@ StartsAreExecuted = (f : Frame) (alone : Bool) (m : Stepper) → Starts f alone 
 pub record EveryCall : Type 0 where
   pub command : (net : List ℕ) (c : Call) (i : ℕ) (m k : Stepper)
       → Handed c → ValidRecord net → AtOf stepper net i m → AtOf stepper (leaves net c) i k
-      → Rests m → Moves k → Any.CallStarts stepper Starts net i m c
+      → Rests m → Moves k → AnyType.CallStarts stepper Starts net i m c
   pub tick : (net samples : List ℕ) (i : ℕ) (m k : Stepper)
       → Bytes samples → ValidRecord net → AtOf stepper net i m → AtOf stepper (leaves net (tick samples)) i k → Rests m → Rests k
   pub setup : (net types : List ℕ) (i : ℕ) (k : Stepper) → Passes (setup_table net types) → AtOf stepper (setup_record net types) i k → Rests k
@@ -61,10 +61,10 @@ pub record EveryCall : Type 0 where
 -- Never otherwise: a module that was at rest and, after any calls, moves, had a load started by one of them; and so it is from setup on. (Which,
 -- Sent.antt says.)
 abbrev pub Never : Type 0
-Never = Any.Never stepper Rests Starts
+Never = AnyType.Never stepper Rests Starts
 
 abbrev pub NeverFromSetup : Type 0
-NeverFromSetup = Any.NeverFromSetup stepper Rests Starts
+NeverFromSetup = AnyType.NeverFromSetup stepper Rests Starts
 
 -- So it is where a board hands over buffers (02 P2).
 abbrev pub NeverInBuffers : Type 0
@@ -76,4 +76,4 @@ StopInputEnds =
     (net : List ℕ) (cs : List Call) (i n : ℕ) (x : Sample) (m : Stepper)
     → ValidRecord net → AllHanded cs → Ticked stepper net cs i n x → x.stop ≡ true → Stands stepper net cs i (suc n) m
     → (m.motion ≡ rest)
-    × ((k : Stepper) → AtOf stepper (left_by cs net) i k → Moves k → Any.StartedBy stepper Starts (drop (suc n) cs) (after net cs i (suc n)) i)
+    × ((k : Stepper) → AtOf stepper (left_by cs net) i k → Moves k → AnyType.StartedBy stepper Starts (drop (suc n) cs) (after net cs i (suc n)) i)

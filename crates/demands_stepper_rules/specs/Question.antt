@@ -6,14 +6,14 @@ use Rattle.stepper_rules.specs.declared.Stepper.{Stepper}
 use Rattle.stepper_rules.specs.Carried.{needed}
 use Rattle.stepper_rules.specs.Answers.{with_cause, execute}
 use Rattle.types_rules.specs.Table.{stepper}
-use Rattle.demands_rules.specs.Question as Any
+use Rattle.demands_rules.specs.Question as AnyType
 use Rattle.demands_rules.specs.Buffers as Buffers
 use Rattle.demands_rules.specs.Question.{IsStart}
 use Rattle.demands_stepper_rules.specs.Motion.{Starts}
 
 -- what a missed load leaves
 abbrev pub MissedTells : Type 0
-MissedTells = Any.MissedTells stepper needed
+MissedTells = AnyType.MissedTells stepper needed
 
 -- 02 P3: no start can be: no load waits, or it lacks the speed or the acceleration time, or Set Parameters is not done
 abbrev pub NoneReady : Stepper → Type 0
@@ -25,16 +25,16 @@ NoLoad m = m.load.waits ≡ false
 
 -- It does not go: at one module, on the line, by the buffer (02 P2), and in any time.
 abbrev pub Question : Type 0
-Question = Any.Question stepper needed NoneReady
+Question = AnyType.Question stepper needed NoneReady
 
 abbrev pub QuestionOnTheLine : Type 0
-QuestionOnTheLine = Any.QuestionOnTheLine stepper needed NoneReady
+QuestionOnTheLine = AnyType.QuestionOnTheLine stepper needed NoneReady
 
 abbrev pub QuestionInBuffers : Type 0
 QuestionInBuffers = Buffers.QuestionInBuffers stepper needed NoneReady
 
 abbrev pub QuestionInTime : Type 0
-QuestionInTime = Any.QuestionInTime stepper needed NoLoad
+QuestionInTime = AnyType.QuestionInTime stepper needed NoLoad
 
 -- Twice: after either start a Start is 3 and changes nothing else.
 abbrev pub Twice : Type 0

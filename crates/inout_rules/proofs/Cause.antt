@@ -12,7 +12,7 @@ use Rattle.base_integers.specs.Bits.{bit}
 use Rattle.module_rules.specs.declared.Asked.{Asked}
 use Rattle.module_rules.specs.declared.Asked.TheVariants as Both
 use Rattle.module_rules.specs.Commands.{asked}
-use Rattle.module_rules.specs.Rules as Any
+use Rattle.module_rules.specs.Rules as AnyType
 use Rattle.module_rules.specs.Promises.{is_unknown, is_miscounted, is_out_of_range, is_not_now}
 use Rattle.module_rules.proofs.Tested.{cause-tested}
 use Rattle.module_rules.proofs.Replies as Every
@@ -25,12 +25,12 @@ use Rattle.inout_rules.proofs.Apart.{apart}
 use Rattle.inout_rules.proofs.Asks.{own_means}
 
 -- a meaning whose values are good, and that can be carried out now
-abbrev Fine : Io → Any.Meaning (Any.Request Command) → Type 0
+abbrev Fine : Io → AnyType.Meaning (AnyType.Request Command) → Type 0
 Fine m u = (is_out_of_range inout u ≡ false) × (is_not_now inout m u ≡ false)
 
-own_fine : (m : Io) (code : ℕ) (ds : List ℕ) → Fine m (Any.owned (own code ds))
+own_fine : (m : Io) (code : ℕ) (ds : List ℕ) → Fine m (AnyType.owned (own code ds))
 own_fine m code ds =
-    own_means (λ (u : Any.Meaning Command). Fine m (Any.owned u)) code ds (record {
+    own_means (λ (u : AnyType.Meaning Command). Fine m (AnyType.owned u)) code ds (record {
       unknown = (refl, refl);
       direction = (refl, refl);
       pwm = (refl, refl);
@@ -41,7 +41,7 @@ own_fine m code ds =
       synch_input = (refl, refl);
     })
 
-all_fine : (m : Io) (a : Asked) (code : ℕ) (ds : List ℕ) → Fine m (Any.joined inout.shows a (own code ds))
+all_fine : (m : Io) (a : Asked) (code : ℕ) (ds : List ℕ) → Fine m (AnyType.joined inout.shows a (own code ds))
 all_fine m Both.Other code ds = own_fine m code ds
 all_fine m Both.Unknown code ds = (refl, refl)
 all_fine m (Both.Wants n s) code ds = (refl, refl)
@@ -57,7 +57,7 @@ few false false false = record { most = omega arith; ever_now = λ e. omega arit
 
 pub cause_is : CauseIs
 cause_is f alone m =
-    let u : Any.Meaning (Any.Request Command) = Any.meaning inout f alone in
+    let u : AnyType.Meaning (AnyType.Request Command) = AnyType.meaning inout f alone in
     let fine = all_fine m (asked f.code alone f.content) f.code f.content in
     let rest : Bool → Bool → ℕ = λ v n. cond f.damaged 1 (cond (is_unknown inout u) 4 (cond (is_miscounted inout f.content u) 2 (cond v 5 (cond n 3 0)))) in
     subst Causes (sym ((cause-tested inout apart f alone m).first ∙ ap₂ rest fine.0 fine.1))

@@ -12,7 +12,7 @@ use Rattle.base_integers.specs.Bits.{bit}
 use Rattle.base_integers.proofs.Bits.{bit_half}
 use Rattle.module_rules.specs.declared.Fault.TheVariants.{Count}
 use Rattle.module_rules.specs.Commands.{asked}
-use Rattle.module_rules.specs.Rules as Any
+use Rattle.module_rules.specs.Rules as AnyType
 use Rattle.module_rules.specs.FramePromises.{undamaged}
 use Rattle.module_rules.proofs.Frames as Every
 use Rattle.inout_rules.specs.declared.Pins.{Pins}
@@ -27,7 +27,7 @@ use Rattle.inout_rules.proofs.Apart.{apart}
 use Rattle.inout_rules.proofs.Bits.{first, inputs_keep}
 
 pub codes : Codes
-unfolding Any.request asked own
+unfolding AnyType.request asked own
 codes to alone = record {
   direction = λ a b. refl;
   address = λ a b. refl;
@@ -46,7 +46,7 @@ codes to alone = record {
 }
 
 pub counts : Counts
-unfolding Any.request asked own
+unfolding AnyType.request asked own
 counts = record {
   direction = λ alone to ds m n. Every.unread inout apart Count to 0 ds alone m (rw (ne_eqb (length ds) 2 n));
   pwm = λ alone to ds m n. Every.unread inout apart Count to 4 ds alone m (rw (ne_eqb (length ds) 2 n));
@@ -58,7 +58,7 @@ counts = record {
 }
 
 pub unknown : Unknown
-unfolding Any.request asked own
+unfolding AnyType.request asked own
 unknown f alone h =
     rw (
       ne_eqb _ _ h.0,
@@ -109,7 +109,7 @@ put_out_lem before after a b h p d =
     }
 
 pub obeys : Obeys
-unfolding Any.execute Any.request asked own
+unfolding AnyType.execute AnyType.request asked own
 obeys to alone m = record {
   directs = λ a b h. from_bytes a b h;
   direction = λ a b. refl;

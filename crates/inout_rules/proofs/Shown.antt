@@ -2,7 +2,7 @@
 use mathlib.Core.Path.{◌≡◌, refl, ap}
 use mathlib.Core.Bool.{Bool, true, false, cond}
 use Rattle.module_rules.specs.Rules.{Request, malformed, set, reset, wants, settled}
-use Rattle.module_rules.specs.Rules as Any
+use Rattle.module_rules.specs.Rules as AnyType
 use Rattle.module_rules.proofs.Replies as Every
 use Rattle.inout_rules.specs.declared.Sample.{Sample}
 use Rattle.inout_rules.specs.declared.Io.{Io}
@@ -52,7 +52,7 @@ frame_keeps true q m = refl
 frame_keeps false q m = settled_keeps q m
 
 sampling : (x : Sample) (m : Io) → Sampling x m
-unfolding Any.execute
+unfolding AnyType.execute
 sampling x m = record {
   latched = refl;
   kept = λ f alone. frame_keeps f.damaged (request f alone) m;

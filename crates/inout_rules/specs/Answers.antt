@@ -2,7 +2,7 @@
 use Rattle.std.specs.Prelude.{ℕ, ◌%◌, ◌/◌, List, [], ◌∷◌, Bool, true}
 use Rattle.line_receiver.specs.Frames.{Frame}
 use Rattle.module_rules.specs.Report.{cause_bit}
-use Rattle.module_rules.specs.Rules as Any
+use Rattle.module_rules.specs.Rules as AnyType
 use Rattle.inout_rules.specs.declared.Sample.{Sample}
 use Rattle.inout_rules.specs.declared.Io.{Io}
 use Rattle.inout_rules.specs.declared.Command.{Command}
@@ -51,7 +51,7 @@ outputs_of m =
     ∷ []
 
 -- the I/O module as a module type
-abbrev pub inout : Any.Rules Io Sample Command
+abbrev pub inout : AnyType.Rules Io Sample Command
 inout = record {
   number = type_number;
   station = λ m. m.station;
@@ -70,14 +70,14 @@ inout = record {
 }
 
 -- what follows for it as for every type
-abbrev pub request : Frame → Bool → Any.Request Command
-request = Any.request inout
+abbrev pub request : Frame → Bool → AnyType.Request Command
+request = AnyType.request inout
 
 abbrev pub with_cause : ℕ → Io → Io
-with_cause = Any.with_cause inout
+with_cause = AnyType.with_cause inout
 
 abbrev pub execute : Frame → Bool → Io → Io
-execute = Any.execute inout
+execute = AnyType.execute inout
 
 abbrev pub reply : Frame → Io → List ℕ
-reply = Any.reply inout
+reply = AnyType.reply inout

@@ -9,7 +9,7 @@ use Rattle.module_rules.specs.declared.Station.{Station}
 use Rattle.module_rules.specs.Report.{reply_of}
 use Rattle.module_rules.specs.Slot.{station}
 use Rattle.module_rules.specs.Slots.{station_at}
-use Rattle.module_rules.specs.Rules as Any
+use Rattle.module_rules.specs.Rules as AnyType
 use Rattle.servo_rules.specs.declared.Sample.{Sample}
 use Rattle.servo_rules.specs.declared.Counts.{Counts}
 use Rattle.servo_rules.specs.declared.Run.{Run}
@@ -26,7 +26,7 @@ pub told_is : (f : Frame) (s room : List ℕ) (from : ℕ) {x : Station} {latche
     → (n ≡ length (reply_of f x (status_of x.cause latched r h) sizes (numbers_of latched k r.memory h)))
     × (room' ≡ pasted from (reply_of f x (status_of x.cause latched r h) sizes (numbers_of latched k r.memory h)) room)
     → (n ≡ length (reply f (decode_of s))) × (room' ≡ pasted from (reply f (decode_of s)) room)
-unfolding decode_of Any.reply
+unfolding decode_of AnyType.reply
 told_is f s room from {x} {latched} {k} {r} {h} ex el ek er eh p =
     let e : reply_of f x (status_of x.cause latched r h) sizes (numbers_of latched k r.memory h) ≡ reply f (decode_of s) = rw (ex, el, ek, er, eh) in
     (p.0 ∙ ap length e, p.1 ∙ ap (λ (l : List ℕ). pasted from l room) e)

@@ -5,7 +5,7 @@ use Prim.Native.Nat.{ℕ}
 use borrow.Author.Tests.{eq-eqb, ne_eqb}
 use Rattle.line_receiver.specs.Frames.{Frame}
 use Rattle.module_rules.specs.Commands.{asked}
-use Rattle.module_rules.specs.Rules as Any
+use Rattle.module_rules.specs.Rules as AnyType
 use Rattle.module_rules.specs.Rules.{Request, counted}
 use Rattle.servo_rules.specs.declared.Order.{Order}
 use Rattle.servo_rules.specs.Asks.{own}
@@ -22,7 +22,7 @@ own_line f alone n q e = (
 )
 
 pub codes : Codes
-unfolding Any.request asked own
+unfolding AnyType.request asked own
 codes f alone = record {
   reset_position = λ c. own_line f alone 0 _ (rw c refl);
   load = λ c. rw c refl;

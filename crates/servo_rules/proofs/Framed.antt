@@ -4,7 +4,7 @@ use mathlib.Core.Bool.{Bool, true, false}
 use Rattle.line_receiver.specs.Frames.{Frame}
 use Rattle.module_rules.specs.declared.Station.{Station}
 use Rattle.module_rules.specs.Commands.{applied, caused}
-use Rattle.module_rules.specs.Rules as Any
+use Rattle.module_rules.specs.Rules as AnyType
 use Rattle.module_rules.specs.Rules.{Request, malformed, set, reset, wants, fault_cause, settled}
 use Rattle.servo_rules.specs.declared.Order.{Order}
 use Rattle.servo_rules.specs.declared.Servo.{Servo}
@@ -20,7 +20,7 @@ pub record Leaves (P : Servo → Type 0) (f : Frame) (alone : Bool) (m : Servo) 
   pub performed : (c : Order) → f.damaged ≡ false → request f alone ≡ wants c → can c m ≡ true → P (with_cause 0 (perform c m))
 
 pub leaves : (P : Servo → Type 0) (f : Frame) (alone : Bool) (m : Servo) → Leaves P f alone m → P (execute f alone m)
-unfolding Any.execute
+unfolding AnyType.execute
 leaves P f alone m e =
     by_test P f.damaged (with_cause 1 m) (settled servo (request f alone) m)
     (λ d. e.kept (caused 1 m.station))

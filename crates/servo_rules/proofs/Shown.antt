@@ -11,7 +11,7 @@ use Rattle.base_integers.specs.Whole.{less}
 use Rattle.base_integers.specs.Bits.{bit}
 use Rattle.line_receiver.specs.Frames.{Frame}
 use Rattle.module_rules.specs.Commands.{asked}
-use Rattle.module_rules.specs.Rules as Any
+use Rattle.module_rules.specs.Rules as AnyType
 use Rattle.module_rules.specs.declared.Fault.{Fault}
 use Rattle.module_rules.specs.declared.Fault.TheVariants.{Count, Value}
 use Rattle.module_rules.specs.Rules.{malformed, fault_cause, asking}
@@ -75,7 +75,7 @@ enabled m = record {
 
 -- code 6 is Set Gain
 asks_gain : (f : Frame) (alone : Bool) → f.code ≡ 6 → request f alone ≡ asking f.content (gain_meant f.content)
-unfolding Any.request asked own
+unfolding AnyType.request asked own
 asks_gain f alone c = rw c refl
 
 pub gains : Gains

@@ -3,7 +3,7 @@ use Rattle.std.specs.Prelude.{ℕ, ◌+◌, ◌%◌, List, [], ◌∷◌, Bool, 
 use Rattle.std.specs.Int.Signed.{lt_z}
 use Rattle.line_receiver.specs.Frames.{Frame}
 use Rattle.module_rules.specs.Report.{cause_bit}
-use Rattle.module_rules.specs.Rules as Any
+use Rattle.module_rules.specs.Rules as AnyType
 use Rattle.base_integers.specs.Whole.{same, less, word}
 use Rattle.servo_motion.specs.Profile.{left}
 use Rattle.servo_rules.specs.declared.Sample.{Sample}
@@ -101,7 +101,7 @@ abbrev pub enable_line : Servo → ℕ
 enable_line m = get_or (outputs_of m) 2 0
 
 -- the servo as a module type
-abbrev pub servo : Any.Rules Servo Sample Order
+abbrev pub servo : AnyType.Rules Servo Sample Order
 servo = record {
   number = type_number;
   station = λ m. m.station;
@@ -120,14 +120,14 @@ servo = record {
 }
 
 -- what follows for it as for every type
-abbrev pub request : Frame → Bool → Any.Request Order
-request = Any.request servo
+abbrev pub request : Frame → Bool → AnyType.Request Order
+request = AnyType.request servo
 
 abbrev pub with_cause : ℕ → Servo → Servo
-with_cause = Any.with_cause servo
+with_cause = AnyType.with_cause servo
 
 abbrev pub execute : Frame → Bool → Servo → Servo
-execute = Any.execute servo
+execute = AnyType.execute servo
 
 abbrev pub reply : Frame → Servo → List ℕ
-reply = Any.reply servo
+reply = AnyType.reply servo

@@ -3,7 +3,7 @@ use mathlib.Core.Path.{◌≡◌, refl, ap, ◌∙◌}
 use mathlib.Core.List.{List, [], ◌∷◌}
 use mathlib.Core.Bool.{Bool, true, false, cond}
 use Prim.Native.Nat.{ℕ, ◌<◌}
-use Rattle.module_rules.specs.Rules as Any
+use Rattle.module_rules.specs.Rules as AnyType
 use Rattle.module_rules.specs.FramePromises.{undamaged}
 use Rattle.module_rules.proofs.Settled.{settles}
 use Rattle.stepper_rules.specs.declared.Halt.TheVariants.{Keep, Abrupt, Smooth}
@@ -38,18 +38,18 @@ start_moving m h = rw (moves m.motion h) refl
 
 -- ---- an order that can be carried out, and one that cannot
 
-pub executed : (to code : ℕ) (ds : List ℕ) (alone : Bool) (m : Stepper) (c : Order) → Any.request stepper (undamaged to code ds) alone ≡ Any.wants c → can c m ≡ true
+pub executed : (to code : ℕ) (ds : List ℕ) (alone : Bool) (m : Stepper) (c : Order) → AnyType.request stepper (undamaged to code ds) alone ≡ AnyType.wants c → can c m ≡ true
     → execute (undamaged to code ds) alone m ≡ with_cause 0 (perform c m)
 executed to code ds alone m c q e =
     settles stepper (undamaged to code ds) alone m refl q ∙ ap (λ (t : Bool). cond t (with_cause 0 (perform c m)) (with_cause 3 m)) e
 
-pub not_now : (to code : ℕ) (ds : List ℕ) (alone : Bool) (m : Stepper) (c : Order) → Any.request stepper (undamaged to code ds) alone ≡ Any.wants c → can c m ≡ false
+pub not_now : (to code : ℕ) (ds : List ℕ) (alone : Bool) (m : Stepper) (c : Order) → AnyType.request stepper (undamaged to code ds) alone ≡ AnyType.wants c → can c m ≡ false
     → execute (undamaged to code ds) alone m ≡ with_cause 3 m
 not_now to code ds alone m c q e =
     settles stepper (undamaged to code ds) alone m refl q ∙ ap (λ (t : Bool). cond t (with_cause 0 (perform c m)) (with_cause 3 m)) e
 
 pub obeys : Obeys
-unfolding parameters_set stopped smooth Any.execute
+unfolding parameters_set stopped smooth AnyType.execute
 obeys to alone m =
     let a = codes to alone in
     record {

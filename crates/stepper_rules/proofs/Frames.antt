@@ -15,7 +15,7 @@ use Rattle.base_layout.specs.Codec.{bit}
 use Rattle.module_rules.specs.declared.Fault.TheVariants.{Count}
 use Rattle.module_rules.specs.Commands.{asked}
 use Rattle.module_rules.specs.Report as Report
-use Rattle.module_rules.specs.Rules as Any
+use Rattle.module_rules.specs.Rules as AnyType
 use Rattle.module_rules.specs.FramePromises.{undamaged}
 use Rattle.module_rules.proofs.Frames as Every
 use Rattle.stepper_rules.specs.declared.Halt.{Halt}
@@ -100,7 +100,7 @@ no_stop c n = at (one_halt c) refl
 -- ---- codes, counts, values
 
 pub codes : Codes
-unfolding Any.request asked own parameters_meant stop_meant
+unfolding AnyType.request asked own parameters_meant stop_meant
 codes to alone = record {
   address = λ a b. refl;
   defines = λ b e. rw e refl;
@@ -118,7 +118,7 @@ codes to alone = record {
   hard_reset = refl;
 }
   where
-    stops : (a : Bool) (h : Halt) → request (undamaged to 7 (stop_byte a h ∷ [])) alone ≡ Any.wants (Stop a h)
+    stops : (a : Bool) (h : Halt) → request (undamaged to 7 (stop_byte a h ∷ [])) alone ≡ AnyType.wants (Stop a h)
     stops true Keep = refl
     stops true Abrupt = refl
     stops true Smooth = refl
@@ -127,7 +127,7 @@ codes to alone = record {
     stops false Smooth = refl
 
 pub counts : Counts
-unfolding Any.request asked own load_meant parameters_meant stop_meant
+unfolding AnyType.request asked own load_meant parameters_meant stop_meant
 counts = record {
   load = λ alone to ds n. rw (ne_eqb (length ds) (needed (get_or ds 0 0)) n);
   start = λ alone to ds m n. Every.unread stepper apart Count to 5 ds alone m (rw (ne_eqb (length ds) 0 n));
@@ -136,7 +136,7 @@ counts = record {
 }
 
 pub unknown : Unknown
-unfolding Any.request asked own
+unfolding AnyType.request asked own
 unknown f alone h =
     rw (
       ne_eqb _ _ h.0,

@@ -11,7 +11,7 @@ use Rattle.base_layout.specs.Bytes.{of_le}
 use Rattle.base_layout.proofs.Every.{hold_every}
 use Rattle.module_rules.specs.declared.Fault.TheVariants.{Count, Value}
 use Rattle.module_rules.specs.Commands.{asked}
-use Rattle.module_rules.specs.Rules as Any
+use Rattle.module_rules.specs.Rules as AnyType
 use Rattle.module_rules.specs.FramePromises.{undamaged}
 use Rattle.stepper_rules.specs.declared.Carried.{Carried}
 use Rattle.stepper_rules.specs.declared.Order.TheVariants.{LoadTrajectory}
@@ -92,13 +92,13 @@ module _ (control : ℕ) (s : Sent) where
 
   -- what they ask
   pub load_asks : (to : ℕ) (alone t : Bool) → in_range carried ≡ t
-      → Any.request stepper (undamaged to 4 (load_bytes control s)) alone ≡ cond t (Any.wants (LoadTrajectory carried)) (Any.malformed Value)
-  unfolding Any.request asked own load_meant
+      → AnyType.request stepper (undamaged to 4 (load_bytes control s)) alone ≡ cond t (AnyType.wants (LoadTrajectory carried)) (AnyType.malformed Value)
+  unfolding AnyType.request asked own load_meant
   load_asks to alone t e =
       let ds : List ℕ = load_bytes control s in
-      ap (λ (b : Bool). cond b (cond (in_range (carried_in ds)) (Any.wants (LoadTrajectory (carried_in ds))) (Any.malformed Value)) (Any.malformed Count)) (eq-eqb (length ds) (needed control) (load_count control s).0)
-      ∙ ap (λ (c : Carried). cond (in_range c) (Any.wants (LoadTrajectory c)) (Any.malformed Value)) (carried_is control s)
-      ∙ ap (λ (b : Bool). cond b (Any.wants (LoadTrajectory carried)) (Any.malformed Value)) e
+      ap (λ (b : Bool). cond b (cond (in_range (carried_in ds)) (AnyType.wants (LoadTrajectory (carried_in ds))) (AnyType.malformed Value)) (AnyType.malformed Count)) (eq-eqb (length ds) (needed control) (load_count control s).0)
+      ∙ ap (λ (c : Carried). cond (in_range c) (AnyType.wants (LoadTrajectory c)) (AnyType.malformed Value)) (carried_is control s)
+      ∙ ap (λ (b : Bool). cond b (AnyType.wants (LoadTrajectory carried)) (AnyType.malformed Value)) e
 
   -- a carried number is stored, and kept if it is not carried
   kept_twice : (t : Bool) (x y : ℕ) → cond t (cond t x 0) y ≡ cond t x y

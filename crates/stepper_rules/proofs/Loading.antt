@@ -4,7 +4,7 @@ use mathlib.Core.Bool.{Bool, true, false, cond, not, ◌||◌}
 use Prim.Native.Nat.{ℕ, ◌≤◌}
 use native.Mathlib.Omega.{arith}
 use Rattle.base_integers.specs.Bits.{is_set}
-use Rattle.module_rules.specs.Rules as Any
+use Rattle.module_rules.specs.Rules as AnyType
 use Rattle.module_rules.specs.FramePromises.{undamaged}
 use Rattle.module_rules.proofs.Settled.{settles}
 use Rattle.stepper_rules.specs.declared.Order.TheVariants.{LoadTrajectory}
@@ -46,7 +46,7 @@ module _ (to : ℕ) (alone : Bool) (m : Stepper) (control : ℕ) (s : Sent) wher
   abbrev after : Stepper
   after = loaded (carried control s) m
 
-  asks : GoodLoad control s → Any.request stepper (undamaged to 4 (load_bytes control s)) alone ≡ Any.wants (LoadTrajectory (carried control s))
+  asks : GoodLoad control s → AnyType.request stepper (undamaged to 4 (load_bytes control s)) alone ≡ AnyType.wants (LoadTrajectory (carried control s))
   asks g = load_asks control s to alone true (good_range control s g)
 
   -- with start now

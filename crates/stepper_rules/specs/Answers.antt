@@ -3,7 +3,7 @@ use Rattle.std.specs.Prelude.{ℕ, ◌+◌, ◌/◌, ◌%◌, List, [], ◌∷�
 use Rattle.base_layout.specs.Codec.{bit}
 use Rattle.line_receiver.specs.Frames.{Frame}
 use Rattle.module_rules.specs.Report.{cause_bit}
-use Rattle.module_rules.specs.Rules as Any
+use Rattle.module_rules.specs.Rules as AnyType
 use Rattle.stepper_rules.specs.declared.Sample.{Sample}
 use Rattle.stepper_rules.specs.declared.Stepper.{Stepper}
 use Rattle.stepper_rules.specs.declared.Order.{Order}
@@ -39,7 +39,7 @@ abbrev pub outputs_of : Stepper → List ℕ
 outputs_of m = m.motion.speed ∷ bit m.motion.backward ∷ bit m.settings.amplifier ∷ 0 ∷ 0 ∷ 0 ∷ 0 ∷ 0 ∷ []
 
 -- the step-motor module as a module type
-abbrev pub stepper : Any.Rules Stepper Sample Order
+abbrev pub stepper : AnyType.Rules Stepper Sample Order
 stepper = record {
   number = type_number;
   station = λ m. m.station;
@@ -58,14 +58,14 @@ stepper = record {
 }
 
 -- what follows for it as for every type
-abbrev pub request : Frame → Bool → Any.Request Order
-request = Any.request stepper
+abbrev pub request : Frame → Bool → AnyType.Request Order
+request = AnyType.request stepper
 
 abbrev pub with_cause : ℕ → Stepper → Stepper
-with_cause = Any.with_cause stepper
+with_cause = AnyType.with_cause stepper
 
 abbrev pub execute : Frame → Bool → Stepper → Stepper
-execute = Any.execute stepper
+execute = AnyType.execute stepper
 
 abbrev pub reply : Frame → Stepper → List ℕ
-reply = Any.reply stepper
+reply = AnyType.reply stepper

@@ -2,7 +2,7 @@
 use mathlib.Core.Path.{◌≡◌, refl, subst}
 use Prim.Native.Nat.{ℕ}
 use Rattle.module_rules.specs.Slots.{Preserves}
-use Rattle.module_rules.proofs.Kept as Any
+use Rattle.module_rules.proofs.Kept as AnyType
 use Rattle.types_rules.specs.Table.{ModuleType, Of, rules_of, slots_of, own_of}
 use Rattle.types_rules.specs.Types.{AnySample, kind, type_in, slots, powered, given, GoodOf, Good}
 use Rattle.types_rules.proofs.Owed.{owes}
@@ -11,7 +11,7 @@ use Rattle.types_rules.proofs.Given.{by_own}
 pub preserves : Preserves kind slots Good
 preserves = record {
   execute = λ f alone m b h.
-      (Any.preserves (rules_of m.0) (slots_of m.0) (GoodOf m.0) (owes m.0)).execute f alone m.1 b h;
+      (AnyType.preserves (rules_of m.0) (slots_of m.0) (GoodOf m.0) (owes m.0)).execute f alone m.1 b h;
   tick = λ x m g h. by_own m.0 (slots_of m.0).fits x m.1 h (λ y e. (owes m.0).tick y m.1 (subst Good e g) h);
 }
 

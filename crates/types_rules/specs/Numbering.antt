@@ -1,17 +1,17 @@
 -- A chain's modules with document 01's numbering of causes, which has one number for all that can't be read (document 02, P1).
 use Rattle.std.specs.Prelude.{◌≡◌}
 use Rattle.module_rules.specs.Kind.{Kind, Along}
-use Rattle.module_rules.specs.Numbering as Any
+use Rattle.module_rules.specs.Numbering as AnyType
 use Rattle.types_rules.specs.Table.{rules_of}
 use Rattle.types_rules.specs.Types.{Module, AnySample, kind, outputs}
 
 abbrev pub as_older : Module → Module
-as_older m = (m.0, Any.as_older (rules_of m.0) m.1)
+as_older m = (m.0, AnyType.as_older (rules_of m.0) m.1)
 
 abbrev pub older_kind : Kind Module AnySample
 older_kind = record {
   address = kind.address;
-  execute = λ f alone m. (m.0, Any.older_execute (rules_of m.0) f alone m.1);
+  execute = λ f alone m. (m.0, AnyType.older_execute (rules_of m.0) f alone m.1);
   reply = kind.reply;
   tick = kind.tick;
 }
