@@ -8,7 +8,7 @@ use native.Mathlib.Omega.{arith}
 use borrow.Author.Tests.{eq-eqb, eqb-false, le-leb}
 use lib.Dec.{eqb, leb}
 use lib.IntN.{nat_abs}
-use Rattle.base_layout.proofs.Every.{Hold, hold_both, hold_every}
+use Rattle.base_layout.proofs.Every.{Hold as AllHold, hold_both, hold_every}
 use Rattle.servo_motion.specs.declared.Profile.{Profile}
 use Rattle.servo_motion.specs.Profile.{fastest, in_range}
 use Rattle.servo_rules.specs.declared.Mode.{Mode}
@@ -66,7 +66,7 @@ module _ {s : List ℕ} {m : Servo} (l : Lines s m) where
 
   -- ---- the tests of rates, load and what runs
 
-  load_holds : Hold (load_tests m.settings.rates s)
+  load_holds : AllHold (load_tests m.settings.rates s)
   load_holds =
       le-leb _ _ l.paced
       and le-leb _ _ l.ramped
@@ -85,7 +85,7 @@ module _ {s : List ℕ} {m : Servo} (l : Lines s m) where
       hold_every (leb (nat_abs p.speed) fastest ∷ leb (nat_abs p.aim) fastest ∷ leb p.acceleration fastest ∷ leb p.top fastest ∷ [])
       (le-leb _ _ l.speed and le-leb _ _ l.aim and le-leb _ _ l.running_acceleration and le-leb _ _ l.top and tt)
 
-  run_holds : Hold (run_tests m.run s)
+  run_holds : AllHold (run_tests m.run s)
   run_holds =
       range_holds
       and (memory_fits_lem m.run.memory (record { integral = l.integral; previous = l.previous })).1
@@ -99,7 +99,7 @@ module _ {s : List ℕ} {m : Servo} (l : Lines s m) where
 -- ---- the bytes up to EL
 
 module _ (s : List ℕ) (l : Lines s (decode_of s)) where
-  front_holds : Hold (front_tests s)
+  front_holds : AllHold (front_tests s)
   unfolding decode_of
   front_holds =
       let g = l.gains in
