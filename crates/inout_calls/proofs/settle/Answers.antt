@@ -9,6 +9,7 @@ use Rattle.inout_rules.specs.Answers.{inout}
 use Rattle.inout_slot_rules.specs.Slot.{sample, slots}
 use Rattle.inout_slot_rules.proofs.Owed.{owes}
 use Rattle.inout_calls.proofs.settle.Goals as goal
+use Rattle.inout_calls.proofs.settle.Goals.{After-slice_known-1}
 
 pub returns-then-f : goal.returns-then-f
 returns-then-f c = let p = c in

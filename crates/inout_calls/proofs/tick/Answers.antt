@@ -3,6 +3,7 @@ use mathlib.Core.Path.{sym, ◌∙◌}
 use native.Mathlib.Omega.{arith}
 use Rattle.inout_slot_rules.proofs.Over.{ticked_over_lem}
 use Rattle.inout_calls.proofs.tick.Goals as goal
+use Rattle.inout_calls.proofs.tick.Goals.{After-slice_known-1}
 
 pub returns : goal.returns
 returns c = let p = c in

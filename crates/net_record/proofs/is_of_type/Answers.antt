@@ -6,7 +6,7 @@ use native.Mathlib.Omega.{arith}
 use Rattle.types_rules.specs.Types.{slots}
 use Rattle.net_rules.specs.Record.{net_in}
 use Rattle.net_record.proofs.is_of_type.Goals as goal
-use Rattle.net_record.proofs.is_of_type.Goals.{Then-place-n}
+use Rattle.net_record.proofs.is_of_type.Goals.{After-shared_slice_known-1, Then-place-n}
 
 below : (c : Then-place-n) → c.args.place < length (net_in slots c.args.net.now).modules
 below c = omega (arith, c.if-place-n.true, c.chain_len-n.ensures)

@@ -9,7 +9,7 @@ use Rattle.net_rules.specs.Calls.{byte_of}
 use Rattle.net_rules.proofs.Valid.{Valid, valid_is}
 use Rattle.net_rules.proofs.Taking.{byte_is}
 use Rattle.net_traffic.proofs.byte.Goals as goal
-use Rattle.net_traffic.proofs.byte.Goals.{Start}
+use Rattle.net_traffic.proofs.byte.Goals.{After-slice_known-1, Start}
 
 known : (c : Start) → Valid slots c.args.net.now
 known c = valid_is slots c.args.net.now c.requires.0

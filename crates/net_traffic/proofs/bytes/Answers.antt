@@ -5,7 +5,7 @@ use Rattle.types_rules.specs.Types.{slots}
 use Rattle.net_rules.proofs.Valid.{Valid, valid_is}
 use Rattle.net_rules.proofs.Buffer.{onto, set_out, quiet, room_enough, within, round, set-down}
 use Rattle.net_traffic.proofs.bytes.Goals as goal
-use Rattle.net_traffic.proofs.bytes.Goals.{Start}
+use Rattle.net_traffic.proofs.bytes.Goals.{After-shared_slice_known-1, After-slice_known-1, Start}
 
 known : (c : Start) → Valid slots c.args.net.now
 known c = valid_is slots c.args.net.now c.requires.0

@@ -11,7 +11,7 @@ use native.Mathlib.Omega.{arith}
 use mathlib.Core.Path.{sym, ap, ◌∙◌}
 use Prim.Native.Nat.{ℕ}
 use Rattle.net_traffic.proofs.tick.Goals as goal
-use Rattle.net_traffic.proofs.tick.Goals.{Start}
+use Rattle.net_traffic.proofs.tick.Goals.{After-slice_known-1, Start}
 
 known : (c : Start) → Valid slots c.args.net.now
 known c = valid_is slots c.args.net.now c.requires.0

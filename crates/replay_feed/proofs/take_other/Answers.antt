@@ -15,7 +15,7 @@ use Rattle.replay_file.specs.Turns.{turned, samples_after, net_after, text_after
 use Rattle.replay_file.proofs.Measured.{list_same, byte_alike, byte_samples}
 use Rattle.replay_file.proofs.Fine.{sample-net}
 use Rattle.replay_feed.proofs.take_other.Goals as goal
-use Rattle.replay_feed.proofs.take_other.Goals.{Start}
+use Rattle.replay_feed.proofs.take_other.Goals.{After-slice_known-2-1, Start}
 
 -- the list lies within its slice
 within : (s : Start) → 10 * s.args.at.count ≤ length s.args.samples.now

@@ -9,6 +9,7 @@ use Rattle.replay_file.specs.Records.{bad, body_length, record_step}
 use Rattle.replay_file.specs.Turns.{stage_in, over, wants, judged, head_size, turned_by, types_by, samples_by, net_by, text_by}
 use Rattle.replay_file.proofs.Turning.{body_short, turn_none, turn_cut, turn_whole, idle_types, idle_samples, idle-net, idle_text, cut_types, cut_samples, cut-net, finish}
 use Rattle.replay_play.proofs.turn.Goals as goal
+use Rattle.replay_play.proofs.turn.Goals.{After-shared_slice_known-1}
 
 pub returns-then-input-eq0 : goal.returns-then-input-eq0
 returns-then-input-eq0 c =

@@ -9,6 +9,7 @@ use Rattle.servo_rules.specs.Answers.{servo}
 use Rattle.servo_slot_rules.specs.Slot.{sample, decode_of, slots}
 use Rattle.servo_slot_rules.proofs.Owed.{owes}
 use Rattle.servo_calls.proofs.settle.Goals as goal
+use Rattle.servo_calls.proofs.settle.Goals.{After-slice_known-1}
 
 pub returns-then-f : goal.returns-then-f
 returns-then-f c = let p = c in

@@ -6,6 +6,7 @@ use Rattle.servo_rules.specs.Answers.{servo}
 use Rattle.servo_slot_rules.specs.Slot.{sample, slots}
 use Rattle.servo_slot_rules.proofs.Owed.{owes}
 use Rattle.servo_calls.proofs.touch.Goals as goal
+use Rattle.servo_calls.proofs.touch.Goals.{After-slice_known-1}
 
 pub put_reply-requires : goal.put_reply-requires
 put_reply-requires c =

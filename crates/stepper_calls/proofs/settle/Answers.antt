@@ -8,6 +8,7 @@ use Rattle.stepper_rules.specs.Answers.{stepper}
 use Rattle.stepper_slot_rules.specs.Slot.{sample, slots}
 use Rattle.stepper_slot_rules.proofs.Owed.{owes}
 use Rattle.stepper_calls.proofs.settle.Goals as goal
+use Rattle.stepper_calls.proofs.settle.Goals.{After-slice_known-1}
 
 pub returns-then-f : goal.returns-then-f
 returns-then-f c =

@@ -6,6 +6,7 @@ use Rattle.stepper_rules.specs.Answers.{stepper}
 use Rattle.stepper_slot_rules.specs.Slot.{sample, slots}
 use Rattle.stepper_slot_rules.proofs.Owed.{owes}
 use Rattle.stepper_calls.proofs.touch.Goals as goal
+use Rattle.stepper_calls.proofs.touch.Goals.{After-slice_known-1}
 
 pub returns-then-is_speaking : goal.returns-then-is_speaking
 returns-then-is_speaking c =

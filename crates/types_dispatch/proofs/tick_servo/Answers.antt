@@ -6,6 +6,7 @@ use lib.ListN.{get_or}
 use Rattle.types_rules.specs.Table.{ModuleType, servo, slots_of}
 use Rattle.types_rules.proofs.Dispatch.{type_at, ticked, unticked}
 use Rattle.types_dispatch.proofs.tick_servo.Goals as goal
+use Rattle.types_dispatch.proofs.tick_servo.Goals.{After-slice_known-1}
 
 pub tick-requires : goal.tick-requires
 tick-requires c =
