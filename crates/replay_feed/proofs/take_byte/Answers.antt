@@ -41,5 +41,9 @@ returns c =
     let e = c.byte-called.ensures in
     let p = c.put_replies-wrote.ensures in
     let t = text_is (net_in slots a.net.now) (byte_of (get_or a.body.now 1 0) (eqb (get_or a.body.now 0 0) 1)) (most s) e.value (replicate room_size 0) e.room_after in
-    rw (le-leb (get_or a.body.now 0 0) 1 (omega (arith, c.if-mark-gt1.false))) record { value = c.went.ensures
-          ∙ ap (λ (k : ℕ). record { next = record { offset = a.at.offset + 3; count = a.at.count; running = true }; took = 3; wrote = k; over = false; wants = false }) (p.value ∙ ap length t); net_after = e.net_after; out_after = p.out_after ∙ ap (λ (x : List ℕ). pasted 0 x a.out.now) t }
+    rw (le-leb (get_or a.body.now 0 0) 1 (omega (arith, c.if-mark-gt1.false))) record {
+      value = c.went.ensures
+          ∙ ap (λ (k : ℕ). record { next = record { offset = a.at.offset + 3; count = a.at.count; running = true }; took = 3; wrote = k; over = false; wants = false }) (p.value ∙ ap length t);
+      net_after = e.net_after;
+      out_after = p.out_after ∙ ap (λ (x : List ℕ). pasted 0 x a.out.now) t;
+    }

@@ -50,10 +50,14 @@ returns-then-is_of_type-is_sample_ok c =
     let q = sym (test (goal.at.returns-then-is_of_type-is_sample_ok c).After-is_sample_ok) ∙ t.if-is_of_type-is_sample_ok.true in
     let e = c.measured-ten.ensures in
     let l = ten_long a.t a.body.now s.requires.in_bounds.1 s.requires.in_bounds.0 in
-    rw q (record { value = c.went.ensures; samples_after = c.put_all.ensures
-            ∙ ap (λ (x : List ℕ). pasted (10 * get_or a.body.now 0 0) x a.samples.now) e
-            ∙ sym (list_put (10 * a.at.count) (10 * get_or a.body.now 0 0) (measured a.t a.body.now) a.samples.now
-            (omega (arith, below t, l)) (omega (arith, s.requires.net_value.2, s.requires.net_value.3))); out_after = sym (pasted_none 0 a.out.now) })
+    rw q (record {
+      value = c.went.ensures;
+      samples_after = c.put_all.ensures
+          ∙ ap (λ (x : List ℕ). pasted (10 * get_or a.body.now 0 0) x a.samples.now) e
+          ∙ sym (list_put (10 * a.at.count) (10 * get_or a.body.now 0 0) (measured a.t a.body.now) a.samples.now
+          (omega (arith, below t, l)) (omega (arith, s.requires.net_value.2, s.requires.net_value.3)));
+      out_after = sym (pasted_none 0 a.out.now);
+    })
 
 pub returns : goal.returns
 unfolding sample_record turned samples_after text_after

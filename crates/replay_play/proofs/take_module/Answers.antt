@@ -45,7 +45,7 @@ returns c =
       types_after = types-put a.at a.types.now a.samples.now a.net.now a.t h.size h.most t;
       samples_after =
           c.put_unmeasured.ensures
-              ∙ samples-put a.at a.types.now a.samples.now a.net.now a.t h.size h.most t h.room h.blank;
+          ∙ samples-put a.at a.types.now a.samples.now a.net.now a.t h.size h.most t h.room h.blank;
       net_after = c.set_up.ensures ∙ ap fresh k;
       out_after = sym (pasted_none 0 a.out.now);
     })
