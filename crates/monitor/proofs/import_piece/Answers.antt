@@ -4,7 +4,7 @@ use Rattle.std.proofs.Math.Seq.{length-take-le}
 use Rattle.text_rules.specs.Import.{stage_of}
 use Rattle.monitor_file.specs.declared.Spot.{Spot}
 use Rattle.monitor_file.specs.Spots.{Near}
-use Rattle.monitor_file.proofs.Spotted.{near_after, spot_offset}
+use Rattle.monitor_file.proofs.SpotParts.{near_after, spot_offset}
 use Rattle.monitor.proofs.Pieces.{imported}
 use Rattle.monitor.proofs.import_piece.Goals as goal
 

@@ -5,7 +5,8 @@ use native.Mathlib.Omega.{arith}
 use lib.ListN.{drop}
 use Rattle.base_text.specs.Digits.{newline}
 use Rattle.text_rules.specs.Promises.{occurs}
-use Rattle.monitor_file.proofs.Spotted.{spot_none, spot_found}
+use Rattle.monitor_file.proofs.SpotParts.{spot_none}
+use Rattle.monitor_file.proofs.Spotted.{spot_found}
 use Rattle.monitor_file.proofs.column_behind.Goals as goal
 
 pub returns-then-text-i-eq10 : goal.returns-then-text-i-eq10

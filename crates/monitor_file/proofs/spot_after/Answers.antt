@@ -2,7 +2,7 @@
 use mathlib.Core.Path.{sym}
 use native.Mathlib.Omega.{arith}
 use Rattle.monitor_file.specs.Spots.{spot_after}
-use Rattle.monitor_file.proofs.Spotted.{spot_put, near_after, spot_offset, spot_line}
+use Rattle.monitor_file.proofs.SpotParts.{spot_put, near_after, spot_offset, spot_line}
 use Rattle.monitor_file.proofs.spot_after.Goals as goal
 
 pub overflow_add-result-2 : goal.overflow_add-result-2
