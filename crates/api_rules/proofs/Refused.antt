@@ -8,8 +8,10 @@ use borrow.Author.Tests.{eq-eqb, ne_eqb, eqb-true, eqb-false, ltb-true, ltb-fals
 use lib.ListN.{length}
 use lib.Dec.{eqb, ltb}
 use Rattle.base_layout.specs.Bytes.{pasted}
+use Rattle.line_receiver.specs.Receive.{number_of}
 use Rattle.chain_rules.specs.Chain.{Step, Outcome, flat}
-use Rattle.types_rules.specs.Types.{Module, slots}
+use Rattle.chain_rules.proofs.Bytes.{number_is}
+use Rattle.types_rules.specs.Types.{Module, kind, slots}
 use Rattle.net_rules.specs.declared.Called.{Called}
 use Rattle.net_rules.specs.Record.{chain_most, record_size, room_size, buffer_most, buffer_room_size, net_in, stored, valid}
 use Rattle.net_rules.specs.Calls.{byte_of, called_by, all_marks, list_size, all_typed, all_in_range, samples_for, tick_step}
@@ -166,13 +168,15 @@ module _ (net : List ℕ) (mark byte : ℕ) (room : List ℕ) {n : ℕ} (e : n �
   pub byte-done : n ≡ 0 → {c : Called} {net' room' : List ℕ}
       → (c ≡ called_by (net_in slots net) (byte_of byte (eqb mark 1)))
       × ((net' ≡ stored slots (step_of net mark byte).net net) × (room' ≡ pasted 0 (flat (step_of net mark byte).replies) room))
-      → (c.number ≡ byte_number net mark byte room)
+      → (number_of c.ended ≡ byte_number net mark byte room)
       × ((net' ≡ byte_record net mark byte room) × ((room' ≡ byte_room net mark byte room) × (c.written ≡ byte_written net mark byte room)))
   unfolding byte_number byte_record byte_room byte_written called_by
   byte-done z p =
       let ls : List Line = byte_table net mark room in
       let t : Step Module = step_of net mark byte in (
-        ap (λ (c : Called). c.number) p.0 ∙ done ls (first ls) t.number e z,
+        ap (λ (c : Called). number_of c.ended) p.0
+            ∙ sym (number_is kind (net_in slots net) (byte_of byte (eqb mark 1)))
+            ∙ done ls (first ls) t.number e z,
         (
           p.1.0 ∙ done ls net (stored slots t.net net) e z,
           (

@@ -12,8 +12,7 @@ use Rattle.base_layout.specs.Bytes.{pasted}
 use Rattle.base_layout.proofs.Pasted.{pasted_none, pasted-start, length-pasted}
 use Rattle.line_receiver.specs.declared.Receiver.{Receiver}
 use Rattle.line_receiver.specs.declared.Received.{Received}
-use Rattle.line_receiver.specs.declared.Answer.{Answer}
-use Rattle.line_receiver.specs.declared.Answer.TheVariants.{Ended, Nothing}
+use Rattle.std.specs.Prelude.{Option, Some, None}
 use Rattle.line_receiver.specs.Receive.{taken, number_of}
 use Rattle.line_receiver.specs.Frames.{Byte, ended_by, ends}
 use Rattle.line_receiver.proofs.Ending.{most_end}
@@ -23,7 +22,7 @@ use Rattle.chain_rules.proofs.Bytes.{step-on, step_end}
 use Rattle.chain_rules.proofs.FewReplies.{step-few, few-within, few_replies}
 use Rattle.types_rules.specs.Types.{Module, kind, slots}
 use Rattle.types_rules.proofs.Laws.{lawful, said_short}
-use Rattle.net_rules.specs.Record.{receiver_size, room_size, buffer_room_size, receiver_bytes, net_in, stored, valid}
+use Rattle.net_rules.specs.Record.{receiver_size, room_size, buffer_room_size, receiver_bytes, net_in, stored}
 use Rattle.net_rules.specs.Calls.{byte_of, bytes_of}
 use Rattle.net_rules.proofs.Head.{length-receiver}
 use Rattle.net_rules.proofs.Exact.{waits}
@@ -59,9 +58,9 @@ put_there ls out room fits = record {
 step_short : (n : Net Module) (b : Byte) → length (flat (byte_step kind n b).replies) ≤ reply_size * length n.modules
 step_short n b = one_at_most (taken n.receiver b.value b.mark).answer (step-few kind reply_size (reply_size * length n.modules) said_short n b (omega arith))
   where
-    one_at_most : (a : Answer) {k c : ℕ} → k ≤ c * ended_by a → k ≤ c
-    one_at_most Nothing h = omega arith
-    one_at_most (Ended d) h = omega arith
+    one_at_most : (a : Option Bool) {k c : ℕ} → k ≤ c * ended_by a → k ≤ c
+    one_at_most None h = omega arith
+    one_at_most (Some d) h = omega arith
 
 pub written_room : WrittenRoom
 unfolding byte_written byte_room
@@ -125,7 +124,7 @@ zero_passes net mark byte room e = go (eqb (first (byte_table net mark room)) 0)
     go true q = eqb-true _ _ q
     go false q = let g = (answers net mark byte room).refused.1 (eqb-false _ _ q) in absurd (omega arith)
 
-not_ended : (d : Bool) → number_of (Ended d) ≡ 0 → ⊥
+not_ended : (d : Bool) → number_of (Some d) ≡ 0 → ⊥
 not_ended true e = omega arith
 not_ended false e = omega arith
 
@@ -136,11 +135,11 @@ still n b z =
     let t : Received = taken n.receiver b.value b.mark in
     go t.answer refl
   where
-    go : (a : Answer) → taken n.receiver b.value b.mark ≡ record { next = (taken n.receiver b.value b.mark).next; answer = a }
+    go : (a : Option Bool) → taken n.receiver b.value b.mark ≡ record { next = (taken n.receiver b.value b.mark).next; answer = a }
         → byte_step kind n b
         ≡ record { number = 0; net = record { receiver = (taken n.receiver b.value b.mark).next; modules = n.modules }; replies = [] }
-    go Nothing e = step-on kind n b (taken n.receiver b.value b.mark).next e
-    go (Ended d) e =
+    go None e = step-on kind n b (taken n.receiver b.value b.mark).next e
+    go (Some d) e =
         let q = step_end kind n b (taken n.receiver b.value b.mark).next d e in
         absurd (not_ended d (sym (ap (λ (s : Step Module). s.number) q) ∙ z))
 

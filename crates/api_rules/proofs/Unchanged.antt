@@ -7,7 +7,7 @@ use native.Mathlib.Omega.{arith}
 use lib.ListN.{length}
 use Rattle.base_layout.specs.Bytes.{pasted}
 use lib.Dec.{eqb, ltb}
-use Rattle.line_receiver.specs.declared.Answer.TheVariants.{Ended}
+use Rattle.std.specs.Prelude.{Some}
 use Rattle.line_receiver.specs.Receive.{taken, number_of}
 use Rattle.line_receiver.specs.Frames.{Byte}
 use Rattle.line_receiver.specs.Promises.{Numbered}
@@ -45,7 +45,7 @@ unchanged = record {
 }
 
 -- a byte's own number
-ended_small : (d : Bool) → number_of (Ended d) ≤ 2
+ended_small : (d : Bool) → number_of (Some d) ≤ 2
 ended_small true = omega arith
 ended_small false = omega arith
 

@@ -17,8 +17,7 @@ use Rattle.types_rules.specs.Types.{Module, kind, slots, type_of_slot, sample_fo
 use Rattle.net_rules.specs.Record.{receiver_size, fill_at, command_at, marked_at, chain_most, count_at, slots_at, record_size, room_size, buffer_room_size, net_in, valid}
 use Rattle.net_rules.specs.Calls.{set_up, bytes_of, ten_at, tick_step, samples_for}
 use Rattle.net_rules.specs.Promises.{There, Back}
-use Rattle.host_rules.specs.declared.Answered.{Answered}
-use Rattle.host_rules.specs.Reading.{status_of}
+use Rattle.host_rules.specs.Reading.{Answered, status_of}
 use Rattle.host_rules.specs.Promises.{shown}
 use Rattle.api_rules.specs.Table.{setup_table, byte_table, buffer_table, tick_table, place_table, import_table, export_table}
 use Rattle.api_rules.specs.Calls.{setup_record, step_of, byte_number, byte_record, byte_room, byte_written, buffer_of, buffer_record, buffer_room, buffer_written, tick_record, outputs_bytes, cause_byte, reading_bytes, import_room, import_written, export_room, export_written}

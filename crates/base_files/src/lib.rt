@@ -8,7 +8,7 @@ use std::fmt::Write;
 use std::rt::{Env, Files};
 use std::{fs, io, str};
 
-// The longest name that the system takes, with the 0 behind it.
+// The longest name that the system takes, with the 0 behind it. Rooms have fixed sizes, here and below, since there is no heap.
 const NAME_ROOM: usize = 4096;
 
 // Room for an error's text: std's words have at most 256 bytes, and the number stands behind them.
@@ -37,42 +37,33 @@ fn not_text() -> io::Error {
     io::Error::new(io::ErrorKind::InvalidInput, "not UTF-8")
 }
 
-// Opens the file that an argument names, for reading. Where that fails, it says so and answers nothing.
-pub fn open_named<R: Env + Files + Eprint>(rt: &R, place: usize) -> Option<R::File> {
-    let mut room = [0u8; NAME_ROOM];
-    let path = match argument(rt, place, &mut room) {
-        Ok(path) => path,
+// What an attempt gave. Where it failed, it says so and answers nothing.
+fn told<T>(rt: &impl Eprint, what: &str, attempt: io::Result<T>) -> Option<T> {
+    match attempt {
+        Ok(given) => Some(given),
         Err(error) => {
-            fail(rt, "path", error);
-            return None;
-        }
-    };
-    match fs::open(rt, path) {
-        Ok(file) => Some(file),
-        Err(error) => {
-            fail(rt, path, error);
+            fail(rt, what, error);
             None
         }
     }
 }
 
-// Writes out bytes. Where that fails, as on a full disk, it says so and answers false.
+// Opens the file that an argument names, for reading. Where that fails, it says so and answers nothing.
+pub fn open_named<R: Env + Files + Eprint>(rt: &R, place: usize) -> Option<R::File> {
+    let mut room = [0u8; NAME_ROOM];
+    let path = told(rt, "path", argument(rt, place, &mut room))?;
+    told(rt, path, fs::open(rt, path))
+}
+
+// Writes out bytes. Where that fails, as on a full disk, it says so and answers false: the error is told here, so none goes up.
 pub fn put(rt: &(impl Print + Eprint), bytes: &[u8]) -> bool {
-    match rt.write_all(bytes) {
-        Ok(()) => true,
-        Err(error) => {
-            fail(rt, "write", error);
-            false
-        }
-    }
+    told(rt, "write", rt.write_all(bytes)).is_some()
 }
 
 // The system's words in an error's text, without the number that std puts behind them.
 fn words(text: &str) -> &str {
-    match text.split_once(" (os error ") {
-        Some((words, _)) => words,
-        None => text,
-    }
+    text.split_once(" (os error ")
+        .map_or(text, |(words, _)| words)
 }
 
 // Writes a line to standard error: what failed, a colon and why.

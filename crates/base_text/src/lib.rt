@@ -10,7 +10,7 @@ pub fn hex_digit(d: u8) -> u8
     requires { d < 16 }
     ensures { result ≡ hex_digit d }
 {
-    if d < 10 { 48 + d } else { 55 + d }
+    if d < 10 { b'0' + d } else { b'A' + (d - 10) }
 }
 
 // A number in decimal; how many digits it has.
@@ -20,13 +20,14 @@ pub fn put_decimal(out: &mut [u8], at: usize, n: u64) -> usize
     ensures out_after { out.new ≡ pasted at (decimal n) out.old }
 {
     let mut digits = [0u8; 20];
-    digits[19] = 48 + (n % 10) as u8;
+    digits[19] = b'0' + (n % 10) as u8;
     let mut rest = n / 10;
     let mut i: usize = 19;
+    // no loop over the places: it ends where the number does
     while 0 < rest {
         i -= 1;
-        digits[i] = 48 + (rest % 10) as u8;
-        rest = rest / 10;
+        digits[i] = b'0' + (rest % 10) as u8;
+        rest /= 10;
     }
     base_layout::put_all(out, at, &digits[i..]);
     20 - i

@@ -4,8 +4,7 @@ use mathlib.Core.List.{[]}
 use mathlib.Core.Bool.{Bool}
 use Rattle.line_receiver.specs.declared.Receiver.{Receiver}
 use Rattle.line_receiver.specs.declared.Received.{Received}
-use Rattle.line_receiver.specs.declared.Answer.{Answer}
-use Rattle.line_receiver.specs.declared.Answer.TheVariants.{Ended, Nothing}
+use Rattle.std.specs.Prelude.{Option, Some, None}
 use Rattle.line_receiver.specs.Receive.{waits, taken, number_of}
 use Rattle.line_receiver.specs.Frames.{Byte, frame_in}
 use Rattle.line_receiver.specs.Promises.{Numbered}
@@ -20,7 +19,7 @@ module _ {M S : Type 0} (K : Kind M S) where
   unfolding byte_step
   step-on n b r e = rw (e, byte_step) (rw e)
 
-  pub step_end : (n : Net M) (b : Byte) (r : Receiver) (d : Bool) → taken n.receiver b.value b.mark ≡ record { next = r; answer = Ended d }
+  pub step_end : (n : Net M) (b : Byte) (r : Receiver) (d : Bool) → taken n.receiver b.value b.mark ≡ record { next = r; answer = Some d }
       → byte_step K n b ≡ frame_step K (frame_in n.receiver d) r n.modules
   unfolding byte_step
   step_end n b r d e = rw (e, byte_step) (rw e)
@@ -32,7 +31,7 @@ module _ {M S : Type 0} (K : Kind M S) where
   pub step_either : (P : Step M → Type 0) (n : Net M) (b : Byte)
       → ((r : Receiver) → taken n.receiver b.value b.mark ≡ waits r
       → P (record { number = 0; net = record { receiver = r; modules = n.modules }; replies = [] }))
-      → ((r : Receiver) (d : Bool) → taken n.receiver b.value b.mark ≡ record { next = r; answer = Ended d }
+      → ((r : Receiver) (d : Bool) → taken n.receiver b.value b.mark ≡ record { next = r; answer = Some d }
       → P (frame_step K (frame_in n.receiver d) r n.modules))
       → P (byte_step K n b)
   step_either P n b on end = go (taken n.receiver b.value b.mark).answer refl
@@ -40,9 +39,9 @@ module _ {M S : Type 0} (K : Kind M S) where
       r : Receiver
       r = (taken n.receiver b.value b.mark).next
 
-      go : (a : Answer) → taken n.receiver b.value b.mark ≡ record { next = r; answer = a } → P (byte_step K n b)
-      go Nothing e = subst⁻¹ P (step-on n b r e) (on r e)
-      go (Ended d) e = subst⁻¹ P (step_end n b r d e) (end r d e)
+      go : (a : Option Bool) → taken n.receiver b.value b.mark ≡ record { next = r; answer = a } → P (byte_step K n b)
+      go None e = subst⁻¹ P (step-on n b r e) (on r e)
+      go (Some d) e = subst⁻¹ P (step_end n b r d e) (end r d e)
 
   -- the number and the receiver of the step, by the byte alone
   pub number_is : (n : Net M) (b : Byte) → (byte_step K n b).number ≡ number_of (taken n.receiver b.value b.mark).answer

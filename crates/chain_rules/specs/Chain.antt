@@ -1,10 +1,9 @@
 -- A chain of modules of any type behind one receiver (document 01, "What the boards do", "Who is touched").
-use Rattle.std.specs.Prelude.{ℕ, zero, suc, List, [], ◌∷◌, ◌++◌, Bool, true, false, cond, ◌&&◌, eqb}
+use Rattle.std.specs.Prelude.{ℕ, zero, suc, List, [], ◌∷◌, ◌++◌, Bool, true, false, cond, ◌&&◌, eqb, Some, None}
 use Rattle.std.proofs.Math.Option.{some, none}
 use Rattle.std.proofs.Math.ListN.{get_elem?}
 use Rattle.line_receiver.specs.declared.Receiver.{Receiver}
 use Rattle.line_receiver.specs.declared.Received.{Received}
-use Rattle.line_receiver.specs.declared.Answer.TheVariants.{Ended, Nothing}
 use Rattle.line_receiver.specs.Receive.{taken, number_of}
 use Rattle.line_receiver.specs.Frames.{Byte, Frame, frame_in}
 use Rattle.module_rules.specs.declared.Address.{Address}
@@ -84,7 +83,7 @@ replies_from i (w ∷ ws) = sent_by i w ++ replies_from (suc i) ws
 -- a byte of the line: the number given back, the network after it, the replies in chain order
 abbrev pub frame_step : {M S : Type 0} → Kind M S → Frame → Receiver → List M → Step M
 frame_step K f r ms = record {
-  number = number_of (Ended f.damaged);
+  number = number_of (Some f.damaged);
   net = record { receiver = r; modules = handed K f true ms };
   replies = replies_from 0 (said K f true ms);
 }
@@ -93,8 +92,8 @@ unfoldable pub byte_step : {M S : Type 0} → Kind M S → Net M → Byte → St
 byte_step K n b =
     let t : Received = taken n.receiver b.value b.mark in
     elim t.answer [
-      | Nothing ↦ record { number = number_of Nothing; net = record { receiver = t.next; modules = n.modules }; replies = [] }
-      | Ended d ↦ frame_step K (frame_in n.receiver d) t.next n.modules
+      | None ↦ record { number = number_of None; net = record { receiver = t.next; modules = n.modules }; replies = [] }
+      | Some d ↦ frame_step K (frame_in n.receiver d) t.next n.modules
     ]
 
 -- the network then, and all replies with their places, the earliest first

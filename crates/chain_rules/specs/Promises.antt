@@ -1,10 +1,9 @@
 -- What is promised of any chain, whatever its module type. Each is proved under its name, with small letters, in proofs/.
-use Rattle.std.specs.Prelude.{◌≡◌, ℕ, suc, ◌*◌, ◌≤◌, List, [], ◌∷◌, ◌++◌, map, Bool, true, false, cond, ◌&&◌, length}
+use Rattle.std.specs.Prelude.{◌≡◌, ℕ, suc, ◌*◌, ◌≤◌, List, [], ◌∷◌, ◌++◌, map, Bool, true, false, cond, ◌&&◌, length, Some}
 use Rattle.std.proofs.Math.Option
 use Rattle.std.proofs.Math.Option.{Option, some, none}
 use Rattle.std.proofs.Math.ListN.{get_elem?}
 use Rattle.line_receiver.specs.declared.Receiver.{Receiver}
-use Rattle.line_receiver.specs.declared.Answer.TheVariants.{Ended}
 use Rattle.line_receiver.specs.Receive.{total, waits, taken}
 use Rattle.line_receiver.specs.Frames.{Byte, Frame, frame_in, ends}
 use Rattle.line_receiver.specs.Promises.{Numbered}
@@ -116,7 +115,7 @@ ByteTaken {M} K =
     → taken n.receiver b.value b.mark ≡ waits r
     → byte_step K n b ≡ record { number = 0; net = record { receiver = r; modules = n.modules }; replies = [] })
     × ((n : Net M) (b : Byte) (r : Receiver) (d : Bool)
-    → taken n.receiver b.value b.mark ≡ record { next = r; answer = Ended d }
+    → taken n.receiver b.value b.mark ≡ record { next = r; answer = Some d }
     → byte_step K n b ≡ frame_step K (frame_in n.receiver d) r n.modules)
 
 -- The number of a byte tells what it ended: 0 nothing, 1 an undamaged frame, 2 a damaged one (01 Numbers given back).

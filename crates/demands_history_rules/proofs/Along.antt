@@ -4,8 +4,7 @@ use mathlib.Core.List.{List, [], ◌∷◌, map}
 use mathlib.Core.Bool.{Bool, true, false, cond, ◌&&◌}
 use Prim.Native.Nat.{ℕ}
 use Rattle.line_receiver.specs.declared.Receiver.{Receiver}
-use Rattle.line_receiver.specs.declared.Answer.{Answer}
-use Rattle.line_receiver.specs.declared.Answer.TheVariants.{Ended, Nothing}
+use Rattle.std.specs.Prelude.{Option, Some, None}
 use Rattle.line_receiver.specs.Receive.{taken, number_of}
 use Rattle.line_receiver.specs.Frames.{Byte, Frame, frame_in}
 use Rattle.module_rules.specs.declared.Address.{Address}
@@ -59,12 +58,12 @@ module _ {M N S T : Type 0} (K : Kind M S) (L : Kind N T) (h : M → N) (a : Lin
       r : Receiver
       r = (taken n.receiver b.value b.mark).next
 
-      go : (x : Answer) → taken n.receiver b.value b.mark ≡ record { next = r; answer = x } → byte_step L (each h n) b ≡ stepped (byte_step K n b)
-      go Nothing e = step-on L (each h n) b r e ∙ sym (ap stepped (step-on K n b r e))
-      go (Ended d) e =
+      go : (x : Option Bool) → taken n.receiver b.value b.mark ≡ record { next = r; answer = x } → byte_step L (each h n) b ≡ stepped (byte_step K n b)
+      go None e = step-on L (each h n) b r e ∙ sym (ap stepped (step-on K n b r e))
+      go (Some d) e =
           let f : Frame = frame_in n.receiver d in
           step_end L (each h n) b r d e
-          ∙ ap₂ (λ (ms : List N) (ws : List (List ℕ)). record { number = number_of (Ended d); net = record { receiver = r; modules = ms }; replies = replies_from 0 ws })
+          ∙ ap₂ (λ (ms : List N) (ws : List (List ℕ)). record { number = number_of (Some d); net = record { receiver = r; modules = ms }; replies = replies_from 0 ws })
           (handed-along f true n.modules) (said-along f true n.modules)
           ∙ sym (ap stepped (step_end K n b r d e))
 

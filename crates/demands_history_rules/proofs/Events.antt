@@ -7,8 +7,8 @@ use Prim.Native.Nat.{ℕ, zero, suc, ◌<◌}
 use native.Mathlib.Omega.{arith}
 use lib.ListN.{length, get_elem?}
 use Rattle.line_receiver.specs.declared.Receiver.{Receiver}
-use Rattle.line_receiver.specs.declared.Answer.{Answer}
-use Rattle.line_receiver.specs.declared.Answer.TheVariants.{Ended, Nothing}
+use Rattle.std.specs.Prelude as Std
+use Rattle.std.specs.Prelude.{Some, None}
 use Rattle.line_receiver.specs.Receive.{idle, taken}
 use Rattle.line_receiver.specs.Frames.{Byte, Frame, Reading, waiting, ended, reads, frame_in}
 use Rattle.line_receiver.proofs.Holding.{reads_on, reads_end}
@@ -64,11 +64,11 @@ module _ {M S : Type 0} (K : Kind M S) where
       more s = after s.replies (taking K bs s.net)
 
       go : ((n : Net M) → reads bs n.receiver ≡ ended f r [] → taking K bs n ≡ framed f r n.modules)
-          → (a : Answer) (r' : Receiver) → taken n.receiver b.value b.mark ≡ record { next = r'; answer = a }
+          → (a : Std.Option Bool) (r' : Receiver) → taken n.receiver b.value b.mark ≡ record { next = r'; answer = a }
           → taking K (b ∷ bs) n ≡ framed f r n.modules
-      go ih Nothing r' q =
+      go ih None r' q =
           ap more (step-on K n b r' q) ∙ ih (record { receiver = r'; modules = n.modules }) (sym (reads_on b bs n.receiver r' q) ∙ e)
-      go ih (Ended d) r' q =
+      go ih (Some d) r' q =
           let g : ended (frame_in n.receiver d) r' bs ≡ ended f r [] = sym (reads_end b bs n.receiver r' d q) ∙ e in
           let gf : frame_in n.receiver d ≡ f = cc in
           let gr : r' ≡ r = cc in

@@ -6,8 +6,7 @@ use mathlib.Core.List.{List, [], ◌∷◌, ◌++◌, map}
 use lib.ListN.{length, length-map}
 use mathlib.Core.Bool.{Bool, true, false, cond, ◌&&◌}
 use Rattle.line_receiver.specs.declared.Receiver.{Receiver}
-use Rattle.line_receiver.specs.declared.Answer.{Answer}
-use Rattle.line_receiver.specs.declared.Answer.TheVariants.{Ended, Nothing}
+use Rattle.std.specs.Prelude.{Option, Some, None}
 use Rattle.line_receiver.specs.Receive.{taken}
 use Rattle.line_receiver.specs.Frames.{Byte, Frame, frame_in}
 use Rattle.module_rules.specs.Touch.{named}
@@ -71,9 +70,9 @@ module _ {M S : Type 0} (K : Kind M S) where
       r : Receiver
       r = (taken n.receiver b.value b.mark).next
 
-      go : (x : Answer) → taken n.receiver b.value b.mark ≡ record { next = r; answer = x } → waiting_in (byte_step (older_kind K) n b).net ≡ waiting_in n
-      go Nothing e = ap (λ (s : Step (Beside M S)). waiting_in s.net) (step-on (older_kind K) n b r e)
-      go (Ended d) e =
+      go : (x : Option Bool) → taken n.receiver b.value b.mark ≡ record { next = r; answer = x } → waiting_in (byte_step (older_kind K) n b).net ≡ waiting_in n
+      go None e = ap (λ (s : Step (Beside M S)). waiting_in s.net) (step-on (older_kind K) n b r e)
+      go (Some d) e =
           ap (λ (s : Step (Beside M S)). waiting_in s.net) (step_end (older_kind K) n b r d e) ∙ frame-waits (frame_in n.receiver d) true n.modules
 
   bytes_wait : (bs : List Byte) (n : Net (Beside M S)) → waiting_in (taking (older_kind K) bs n).net ≡ waiting_in n

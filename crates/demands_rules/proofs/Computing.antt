@@ -11,8 +11,7 @@ use lib.ListN.{length, get_elem?, take, drop}
 use lib.Dec.{eqb, leb}
 use Rattle.base_layout.specs.Bytes.{Bytes}
 use Rattle.base_layout.proofs.First.{none_first}
-use Rattle.line_receiver.specs.declared.Answer.{Answer}
-use Rattle.line_receiver.specs.declared.Answer.TheVariants.{Ended, Nothing}
+use Rattle.std.specs.Prelude.{Option, Some, None}
 use Rattle.line_receiver.specs.Receive.{taken}
 use Rattle.line_receiver.specs.Frames.{Byte, Frame, frame_in, values, AreBytes}
 use Rattle.chain_rules.specs.Chain.{Net}
@@ -109,12 +108,12 @@ passes_at test (d ∷ cs) net (suc k) (suc j) c v one h o l e g =
 
 -- a byte ends no frame, or one such as the test takes
 abbrev pub ends_such : (Frame → Bool) → Net Module → ℕ → ℕ → Bool
-ends_such such n mark x = elim (taken n.receiver x (eqb mark 1)).answer [ Nothing ↦ true | Ended d ↦ such (frame_in n.receiver d) ]
+ends_such such n mark x = elim (taken n.receiver x (eqb mark 1)).answer [ None ↦ true | Some d ↦ such (frame_in n.receiver d) ]
 
 pub ends-such : (such : Frame → Bool) (n : Net Module) (mark x : ℕ) (f : Frame) → ends_such such n mark x ≡ true
-    → (taken n.receiver x (eqb mark 1)).answer ≡ Ended f.damaged → f ≡ frame_in n.receiver f.damaged → such f ≡ true
+    → (taken n.receiver x (eqb mark 1)).answer ≡ Some f.damaged → f ≡ frame_in n.receiver f.damaged → such f ≡ true
 ends-such such n mark x f e a q =
-    ap such q ∙ sym (ap (λ (a : Answer). elim a [ Nothing ↦ true | Ended d ↦ such (frame_in n.receiver d) ]) a) ∙ e
+    ap such q ∙ sym (ap (λ (a : Option Bool). elim a [ None ↦ true | Some d ↦ such (frame_in n.receiver d) ]) a) ∙ e
 
 -- bytes without marks, a tick at this power behind each
 abbrev pub spread : ℕ → List ℕ → List Byte → List Call

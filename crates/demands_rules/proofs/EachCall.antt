@@ -9,7 +9,7 @@ use native.Mathlib.Omega.{arith}
 use borrow.Author.Tests.{eqb-true, eqb-false}
 use lib.ListN.{get_elem?}
 use lib.Dec.{eqb}
-use Rattle.line_receiver.specs.declared.Answer.TheVariants.{Ended}
+use Rattle.std.specs.Prelude.{Some}
 use Rattle.line_receiver.specs.Receive.{taken}
 use Rattle.line_receiver.specs.Frames.{Frame, frame_in}
 use Rattle.chain_rules.specs.Chain.{addresses, touched}
@@ -52,7 +52,7 @@ module _ (net : List ℕ) (cs : List Call) (i : ℕ) (v : ValidRecord net) (h : 
     ended : (n mark value : ℕ) (room : List ℕ) (d alone : Bool) (m : Servo) → Fits m
         → get_elem? cs n ≡ some (byte mark value room) → Passes (byte_table (after net cs i n) mark room)
         → touched true (net_in slots (after net cs i n)).receiver.address (addresses kind (net_in slots (after net cs i n)).modules) i ≡ true
-        → (taken (net_in slots (after net cs i n)).receiver value (eqb mark 1)).answer ≡ Ended d
+        → (taken (net_in slots (after net cs i n)).receiver value (eqb mark 1)).answer ≡ Some d
         → Stands net cs i (suc n) (execute (ending n d) alone m)
         → Only servo net cs i (suc n) (execute (ending n d) alone m)
         → P n m → P (suc n) (execute (ending n d) alone m)
@@ -69,7 +69,7 @@ module _ (net : List ℕ) (cs : List Call) (i : ℕ) (v : ValidRecord net) (h : 
             let c = eqb-true _ 0 e in
             each.done n m (ending n d) alone fits z
             (subst (λ (d : Bool). Executed net cs i n (ending n d)) (sym z)
-            (executed-by servo net cs i n mark value room call goes t (a ∙ ap Ended z) _ o c))
+            (executed-by servo net cs i n mark value room call goes t (a ∙ ap Some z) _ o c))
             (λ g x. x.met.frame ∙ ap (ending n) (x.undamaged ∙ sym z)) c p
         whole z false e =
             let c = eqb-false _ 0 e in

@@ -8,7 +8,7 @@ use native.Mathlib.Omega.{arith}
 use lib.ListN.{length, get_elem?, take}
 use lib.Dec.{eqb}
 use Rattle.line_receiver.specs.declared.Receiver.{Receiver}
-use Rattle.line_receiver.specs.declared.Answer.TheVariants.{Ended}
+use Rattle.std.specs.Prelude.{Some}
 use Rattle.line_receiver.specs.Receive.{taken}
 use Rattle.line_receiver.specs.Frames.{Frame, frame_in}
 use Rattle.module_rules.specs.Touch.{individually}
@@ -36,7 +36,7 @@ same_answer r mark y mark' y' e =
     let q : y ≡ y' = cc in
     ap₂ (λ (m v : ℕ). (taken r v (eqb m 1)).answer) p q
 
-same_damage : (d b : Bool) → Ended d ≡ Ended b → d ≡ b
+same_damage : (d b : Bool) → Some d ≡ Some b → d ≡ b
 same_damage d b e = cc
 
 module _ (t : ModuleType) where
@@ -114,7 +114,7 @@ module _ (t : ModuleType) (needed : ℕ → ℕ) (NoneReady NoLoad : Of t → Ty
               let r : Receiver = (net_in slots (after net cs i n)).receiver in
               let alone : Bool = individually r.address ((rules_of t).station s).address in
               let g : some (byte mark y room) ≡ some (byte x.mark x.value x.room) = sym e ∙ x.call in
-              let mine : Ended d ≡ Ended start.damaged = sym a ∙ same_answer r mark y x.mark x.value g ∙ x.ended in
+              let mine : Some d ≡ Some start.damaged = sym a ∙ same_answer r mark y x.mark x.value g ∙ x.ended in
               let is-start : frame_in r d ≡ start = ap (frame_in r) (same_damage d start.damaged mine) ∙ sym x.frame in
               subst (Stands t net cs i (suc n))
               (ap (λ (f : Frame). execute (rules_of t) f alone s) is-start

@@ -10,8 +10,8 @@ use lib.ListN.{get_elem?}
 use lib.Dec.{eqb}
 use Rattle.line_receiver.specs.declared.Receiver.{Receiver}
 use Rattle.line_receiver.specs.declared.Received.{Received}
-use Rattle.line_receiver.specs.declared.Answer.{Answer}
-use Rattle.line_receiver.specs.declared.Answer.TheVariants.{Ended, Nothing}
+use Rattle.std.specs.Prelude as Std
+use Rattle.std.specs.Prelude.{Some, None}
 use Rattle.line_receiver.specs.Receive.{taken}
 use Rattle.line_receiver.specs.Frames.{Frame, frame_in}
 use Rattle.module_rules.specs.Touch.{individually}
@@ -42,7 +42,7 @@ use Rattle.demands_rules.proofs.Types.{call_types, own_same, of_type_lem}
 -- the call ends no frame that touches place i
 abbrev pub Silent : List ℕ → ℕ → Call → Type 0
 Silent net i (byte mark x room) =
-    (d : Bool) → Passes (byte_table net mark room) → (taken (net_in slots net).receiver x (eqb mark 1)).answer ≡ Ended d
+    (d : Bool) → Passes (byte_table net mark room) → (taken (net_in slots net).receiver x (eqb mark 1)).answer ≡ Some d
     → touched true (net_in slots net).receiver.address (addresses kind (net_in slots net).modules) i ≡ true → ⊥
 Silent net i (tick samples) = Unit {0}
 
@@ -75,7 +75,7 @@ module _ (t : ModuleType) where
     same : (c : Call) → Silent net i c → in_time t net i c m ≡ m → Made net i m c m
     framed : (mark x : ℕ) (room : List ℕ) (d : Bool)
         → Passes (byte_table net mark room)
-        → (taken (net_in slots net).receiver x (eqb mark 1)).answer ≡ Ended d
+        → (taken (net_in slots net).receiver x (eqb mark 1)).answer ≡ Some d
         → touched true (net_in slots net).receiver.address (addresses kind (net_in slots net).modules) i ≡ true
         → Made net i m (byte mark x room) (execute (rules_of t) (frame_in (net_in slots net).receiver d) (individually (net_in slots net).receiver.address ((rules_of t).station m).address) m)
     timed : (samples : List ℕ)
@@ -97,7 +97,7 @@ module _ (t : ModuleType) where
     n = net_in slots net
 
     -- a byte
-    after_frame : (mark x : ℕ) (room : List ℕ) → Passes (byte_table net mark room) → (d : Bool) (r : Receiver) → taken n.receiver x (eqb mark 1) ≡ record { next = r; answer = Ended d }
+    after_frame : (mark x : ℕ) (room : List ℕ) → Passes (byte_table net mark room) → (d : Bool) (r : Receiver) → taken n.receiver x (eqb mark 1) ≡ record { next = r; answer = Some d }
         → (u : Bool) → touched true n.receiver.address (addresses kind n.modules) i ≡ u
         → Makes net i m mark x room
     unfolding Makes
@@ -116,15 +116,15 @@ module _ (t : ModuleType) where
         by true q p = (_, p, framed mark x room d goes (ap (λ (r : Received). r.answer) e) q)
         by false q p = (m, p, same (byte mark x room) (λ d g a u. false≢true (sym q ∙ u)) refl)
 
-    after-byte : (mark x : ℕ) (room : List ℕ) → Passes (byte_table net mark room) → (a : Answer) (r : Receiver) → taken n.receiver x (eqb mark 1) ≡ record { next = r; answer = a }
+    after-byte : (mark x : ℕ) (room : List ℕ) → Passes (byte_table net mark room) → (a : Std.Option Bool) (r : Receiver) → taken n.receiver x (eqb mark 1) ≡ record { next = r; answer = a }
         → Makes net i m mark x room
     unfolding Makes
-    after-byte mark x room goes Nothing r e =
+    after-byte mark x room goes None r e =
         (m, ap (λ (s : Step Module). get_elem? s.net.modules i) (step-on kind n (byte_of x (eqb mark 1)) r e) ∙ before, same (byte mark x room) (λ d g a u. none d (sym (ap (λ (r : Received). r.answer) e) ∙ a)) refl)
       where
-        none : (d : Bool) → Nothing ≡ Ended d → ⊥
+        none : (d : Bool) → None ≡ Some d → ⊥
         none d q = let z : ◌≡◌ {A = Bool} true false = cc in true≢false z
-    after-byte mark x room goes (Ended d) r e = after_frame mark x room goes d r e (touched true n.receiver.address (addresses kind n.modules) i) refl
+    after-byte mark x room goes (Some d) r e = after_frame mark x room goes d r e (touched true n.receiver.address (addresses kind n.modules) i) refl
 
     makes : (c : Call) → Handed c → ValidRecord net → Passes (refusals net c) → (k : Of t) × AtOf t (leaves net c) i k × Made net i m c k
     unfolding Makes

@@ -10,7 +10,7 @@ use lib.Dec.{eqb}
 use lib.ListN.{length, get_elem?, take}
 use lib.Seq.{take-length}
 use Rattle.line_receiver.specs.declared.Receiver.{Receiver}
-use Rattle.line_receiver.specs.declared.Answer.TheVariants.{Ended}
+use Rattle.std.specs.Prelude.{Some}
 use Rattle.line_receiver.specs.Receive.{taken}
 use Rattle.line_receiver.specs.Frames.{Frame, frame_in}
 use Rattle.chain_rules.specs.Chain.{addresses, touched}
@@ -71,7 +71,7 @@ module _ (t : ModuleType) where
 
     pub executed-by : get_elem? cs n ≡ some (byte mark value room) → Passes (byte_table (after net cs i n) mark room)
         → touched true receiver.address (addresses kind (net_in slots (after net cs i n)).modules) i ≡ true
-        → (taken receiver value (eqb mark 1)).answer ≡ Ended false
+        → (taken receiver value (eqb mark 1)).answer ≡ Some false
         → (k : Of t) → Only net cs i (suc n) k → ((rules_of t).station k).cause ≡ 0 → Executed t net cs i n (frame_in receiver false)
     executed-by call goes touches e k o z = record {
       met = record { mark = mark; value = value; room = room; call = call; done = goes; ended = e; frame = refl; touches = touches };
@@ -82,7 +82,7 @@ module _ (t : ModuleType) where
     -- so where none such as Q is executed, the frame that ends here is none, if it is executed
     pub calm : (Q : Frame → Type 0) (d : Bool) (k : Of t) → get_elem? cs n ≡ some (byte mark value room) → Passes (byte_table (after net cs i n) mark room)
         → touched true receiver.address (addresses kind (net_in slots (after net cs i n)).modules) i ≡ true
-        → (taken receiver value (eqb mark 1)).answer ≡ Ended d
+        → (taken receiver value (eqb mark 1)).answer ≡ Some d
         → Only net cs i (suc n) k → ((f : Frame) → Executed t net cs i n f → Q f → ⊥)
         → d ≡ false → ((rules_of t).station k).cause ≡ 0 → Q (frame_in receiver d) → ⊥
     calm Q true k call goes touches e o u z c q = true≢false z

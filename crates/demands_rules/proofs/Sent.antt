@@ -12,7 +12,7 @@ use lib.ListN.{length, get_elem?}
 use lib.Dec.{eqb}
 use Rattle.base_integers.specs.Bits.{is_set}
 use Rattle.line_receiver.specs.declared.Receiver.{Receiver}
-use Rattle.line_receiver.specs.declared.Answer.TheVariants.{Ended}
+use Rattle.std.specs.Prelude.{Some}
 use Rattle.line_receiver.specs.Receive.{taken}
 use Rattle.line_receiver.specs.Frames.{Frame, frame_in}
 use Rattle.module_rules.specs.declared.Fault.{Fault}
@@ -341,13 +341,13 @@ module _ (net : List ℕ) (cs : List Call) (i : ℕ) where
       abbrev ending : Frame
       ending = frame_in r false
 
-      exec-by : (taken r value (eqb mark 1)).answer ≡ Ended false → (k : Servo) → Only net cs i (suc n) k → k.station.cause ≡ 0 → Executed net cs i n ending
+      exec-by : (taken r value (eqb mark 1)).answer ≡ Some false → (k : Servo) → Only net cs i (suc n) k → k.station.cause ≡ 0 → Executed net cs i n ending
       exec-by = executed-by servo net cs i n mark value room call goes touches
 
       only_one : (g : Frame) → Executed net cs i n g → g ≡ ending
       only_one g x = x.met.frame ∙ ap (frame_in r) x.undamaged
 
-      settled-told : (alone : Bool) → (taken r value (eqb mark 1)).answer ≡ Ended false → (q : Request Order) → Known ending q
+      settled-told : (alone : Bool) → (taken r value (eqb mark 1)).answer ≡ Some false → (q : Request Order) → Known ending q
           → Stands net cs i (suc n) (settled Answers.servo q m) → Only net cs i (suc n) (settled Answers.servo q m) → Told (suc n) (settled Answers.servo q m)
       settled-told alone e (malformed x) k st o = caused-told (fault_cause x) (fault-told x) st o
       settled-told alone e (set s) k st o =
@@ -360,7 +360,7 @@ module _ (net : List ℕ) (cs : List Call) (i : ℕ) where
           at true q st o = order-told ending (exec-by e _ o refl) only_one c k q refl o
           at false q st o = caused-told 3 (λ z. omega arith) st o
 
-      framed-told : (d : Bool) (alone : Bool) → (taken r value (eqb mark 1)).answer ≡ Ended d
+      framed-told : (d : Bool) (alone : Bool) → (taken r value (eqb mark 1)).answer ≡ Some d
           → Stands net cs i (suc n) (execute (frame_in r d) alone m) → Only net cs i (suc n) (execute (frame_in r d) alone m) → Told (suc n) (execute (frame_in r d) alone m)
       framed-told true alone e st o =
           let q : execute (frame_in r true) alone m ≡ with_cause 1 m = ((every_type servo).cause (frame_in r true) alone m).damaged refl in

@@ -8,7 +8,7 @@ use native.Mathlib.Nat.{le_refl}
 use lib.Dec.{eqb}
 use lib.ListN.{length}
 use lib.Seq.{take-length}
-use Rattle.line_receiver.specs.declared.Answer.TheVariants.{Ended}
+use Rattle.std.specs.Prelude.{Some}
 use Rattle.line_receiver.specs.Receive.{taken}
 use Rattle.line_receiver.specs.Frames.{Frame, frame_in}
 use Rattle.module_rules.specs.Touch.{individually}
@@ -31,14 +31,14 @@ module _ (t : ModuleType) where
   -- a frame that starts the module that it touches was undamaged
   pub line_starts : (Such : Frame → Bool → Of t → Type 0) → ((f : Frame) (alone : Bool) (m : Of t) → Such f alone m → f.damaged ≡ false)
       → (n : Net Module) (i : ℕ) (m : Of t) (mark x : ℕ) (d : Bool)
-      → (taken n.receiver x (eqb mark 1)).answer ≡ Ended d
+      → (taken n.receiver x (eqb mark 1)).answer ≡ Some d
       → touched true n.receiver.address (addresses kind n.modules) i ≡ true
       → Such (frame_in n.receiver d) (individually n.receiver.address ((rules_of t).station m).address) m
       → LineStarts t Such n (byte_of x (eqb mark 1)) i m
   line_starts Such whole n i m mark x d e u s =
       let z : d ≡ false = whole (frame_in n.receiver d) _ m s in
       record {
-        ended = e ∙ ap Ended z;
+        ended = e ∙ ap Some z;
         touches = u;
         starts = subst (λ (d : Bool). Such (frame_in n.receiver d) (individually n.receiver.address ((rules_of t).station m).address) m) z s;
       }

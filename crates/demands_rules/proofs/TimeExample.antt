@@ -9,7 +9,7 @@ use borrow.Author.Tests.{eqb-true, eqb-false}
 use lib.Count.{ones}
 use lib.ListN.{length, get_or, take}
 use lib.Dec.{eqb}
-use Rattle.line_receiver.specs.declared.Answer.TheVariants.{Ended}
+use Rattle.std.specs.Prelude.{Some}
 use Rattle.line_receiver.specs.Receive.{taken}
 use Rattle.line_receiver.specs.Frames.{Byte, Frame, frame_in, clean, written, values}
 use Rattle.module_rules.specs.Commands.{asked}
@@ -84,7 +84,7 @@ before-start =
     ∙ ap (through (spread 0 room (take 16 line))) held
 
 reads_go : (frame_in (through (spread 0 room (take 16 line)) (set_up types)).receiver false ≡ go)
-    × ((taken (through (spread 0 room (take 16 line)) (set_up types)).receiver 5 false).answer ≡ Ended false)
+    × ((taken (through (spread 0 room (take 16 line)) (set_up types)).receiver 5 false).answer ≡ Some false)
     × (touched true 0 (addresses kind (through (spread 0 room (take 16 line)) (set_up types)).modules) 0 ≡ true)
 unfolding samples_in taken byte_step AnyType.execute AnyType.request asked own load_meant ticked by_power ones met homed changed
 reads_go = (refl, refl, refl)

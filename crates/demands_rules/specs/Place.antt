@@ -1,9 +1,8 @@
 -- One place of a record through any calls, whatever module type t stands there: the module after the first n of them, the frames that it executed, the
 -- samples that ticks handed it, and what leaves it undisturbed. (Of a servo: ServoPlace.antt.)
-use Rattle.std.specs.Prelude.{◌≡◌, ℕ, suc, ◌+◌, ◌<◌, ◌≤◌, List, [], ◌∷◌, true, false, take, eqb}
+use Rattle.std.specs.Prelude.{◌≡◌, ℕ, suc, ◌+◌, ◌<◌, ◌≤◌, List, [], ◌∷◌, true, false, take, eqb, Some}
 use Rattle.std.proofs.Math.Option.{some}
 use Rattle.std.proofs.Math.ListN.{get_elem?}
-use Rattle.line_receiver.specs.declared.Answer.TheVariants.{Ended}
 use Rattle.line_receiver.specs.Receive.{taken}
 use Rattle.line_receiver.specs.Frames.{Frame, frame_in}
 use Rattle.chain_rules.specs.Chain.{addresses, touched}
@@ -37,7 +36,7 @@ module _ (net : List ℕ) (cs : List Call) (i : ℕ) where
     pub room : List ℕ
     pub call : get_elem? cs n ≡ some (byte mark value room)
     pub done : Passes (byte_table (after n) mark room)
-    pub ended : (taken (net_in slots (after n)).receiver value (eqb mark 1)).answer ≡ Ended f.damaged
+    pub ended : (taken (net_in slots (after n)).receiver value (eqb mark 1)).answer ≡ Some f.damaged
     pub frame : f ≡ frame_in (net_in slots (after n)).receiver f.damaged
     pub touches : touched true f.address (addresses kind (net_in slots (after n)).modules) i ≡ true
 

@@ -1,7 +1,6 @@
 -- Demand 1 over any module type t: a module at rest sets out by a start of a load alone. A type hands in what is at rest, what starts a load, and the
 -- laws of `SettingOut`; the rest is said and proved once, in proofs/ under each promise's name with small letters. (Of a servo: Motion.antt.)
-use Rattle.std.specs.Prelude.{◌≡◌, ◌⊎◌, ℕ, List, ◌∷◌, ◌++◌, Bool, true, false, eqb}
-use Rattle.line_receiver.specs.declared.Answer.TheVariants.{Ended}
+use Rattle.std.specs.Prelude.{◌≡◌, ◌⊎◌, ℕ, List, ◌∷◌, ◌++◌, Bool, true, false, eqb, Some}
 use Rattle.line_receiver.specs.Receive.{taken}
 use Rattle.line_receiver.specs.Frames.{Byte, Frame, frame_in}
 use Rattle.module_rules.specs.Touch.{individually}
@@ -20,7 +19,7 @@ use Rattle.demands_rules.specs.Place.{AtOf}
 module _ (t : ModuleType) where
   -- a byte ended an undamaged frame that touched place i, and at the module there it was such a start
   pub record LineStarts (Such : Frame → Bool → Of t → Type 0) (n : Net Module) (b : Byte) (i : ℕ) (m : Of t) : Type 0 where
-    pub ended : (taken n.receiver b.value b.mark).answer ≡ Ended false
+    pub ended : (taken n.receiver b.value b.mark).answer ≡ Some false
     pub touches : touched true n.receiver.address (addresses kind n.modules) i ≡ true
     pub starts : Such (frame_in n.receiver false) (individually n.receiver.address ((rules_of t).station m).address) m
 

@@ -11,7 +11,7 @@ use borrow.Author.Tests.{eqb-true, eq-eqb, not-false}
 use lib.ListN.{get_elem?}
 use lib.Dec.{eqb}
 use Rattle.line_receiver.specs.declared.Receiver.{Receiver}
-use Rattle.line_receiver.specs.declared.Answer.TheVariants.{Ended}
+use Rattle.std.specs.Prelude.{Some}
 use Rattle.line_receiver.specs.Receive.{taken}
 use Rattle.line_receiver.specs.Frames.{Frame, frame_in}
 use Rattle.module_rules.specs.declared.Fault.{Fault}
@@ -254,13 +254,13 @@ module _ (net : List ℕ) (cs : List Call) (i : ℕ) where
       abbrev ending : Frame
       ending = frame_in r false
 
-      exec-by : (taken r value (eqb mark 1)).answer ≡ Ended false → (k : Stepper) → Only stepper net cs i (suc n) k → k.station.cause ≡ 0 → Executed stepper net cs i n ending
+      exec-by : (taken r value (eqb mark 1)).answer ≡ Some false → (k : Stepper) → Only stepper net cs i (suc n) k → k.station.cause ≡ 0 → Executed stepper net cs i n ending
       exec-by = executed-by stepper net cs i n mark value room call goes touches
 
       only_one : (g : Frame) → Executed stepper net cs i n g → g ≡ ending
       only_one g x = x.met.frame ∙ ap (frame_in r) x.undamaged
 
-      settled-told : (taken r value (eqb mark 1)).answer ≡ Ended false → (q : Request Order) → Known ending q
+      settled-told : (taken r value (eqb mark 1)).answer ≡ Some false → (q : Request Order) → Known ending q
           → Stands stepper net cs i (suc n) (settled Answers.stepper q m) → Only stepper net cs i (suc n) (settled Answers.stepper q m) → Told (suc n) (settled Answers.stepper q m)
       settled-told e (malformed x) k st o = caused-told (fault_cause x) (fault-told x) st o
       settled-told e (set s) k st o =
@@ -274,7 +274,7 @@ module _ (net : List ℕ) (cs : List Call) (i : ℕ) where
           at true q st o = order-told ending (exec-by e _ o refl) only_one c k q refl o
           at false q st o = caused-told 3 (λ z. omega arith) st o
 
-      framed-told : (d : Bool) (alone : Bool) → (taken r value (eqb mark 1)).answer ≡ Ended d
+      framed-told : (d : Bool) (alone : Bool) → (taken r value (eqb mark 1)).answer ≡ Some d
           → Stands stepper net cs i (suc n) (execute (frame_in r d) alone m) → Only stepper net cs i (suc n) (execute (frame_in r d) alone m)
           → Told (suc n) (execute (frame_in r d) alone m)
       framed-told true alone e st o =

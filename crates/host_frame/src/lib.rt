@@ -5,9 +5,9 @@
 ghost use Rattle.std.specs.Prelude.{◌≡◌, ◌+◌, ◌<◌, ◌≤◌, length};
 ghost use Rattle.base_layout.specs.Bytes.{pasted};
 ghost use Rattle.line_receiver.specs.Frames.{written};
-ghost use Rattle.host_rules.specs.Writing.{written_of, room_after};
+ghost use Rattle.host_rules.specs.Writing.{reported, written_of, room_after};
 
-use host_rules::Written;
+use host_rules::Refusal;
 
 // Puts a frame at the room's start.
 fn put_frame(address: u8, code: u8, ds: &[u8], room: &mut [u8])
@@ -16,7 +16,7 @@ fn put_frame(address: u8, code: u8, ds: &[u8], room: &mut [u8])
 {
     let n = ds.len();
     let command = code + 16 * (n as u8);
-    let start = std::num::wrapping_add_u8(address, command);
+    let start = address.wrapping_add(command);
     let sum = line_receiver::sum_on(start, ds);
     room[0] = 0xAA;
     room[1] = address;
@@ -25,21 +25,18 @@ fn put_frame(address: u8, code: u8, ds: &[u8], room: &mut [u8])
     room[n + 3] = sum;
 }
 
-// Writes a frame, or says why not.
-pub fn write_frame(address: u32, code: u32, ds: &[u8], room: &mut [u8]) -> Written
-    ensures value { result ≡ written_of address code ds.now room.old }
+// Writes a frame and says how many bytes it has, or why it can't be written.
+pub fn write_frame(address: u32, code: u32, ds: &[u8], room: &mut [u8]) -> Result<usize, Refusal>
+    ensures value { reported result ≡ written_of address code ds.now room.old }
     ensures room_after { room.new ≡ room_after address code ds.now room.old }
 {
     let n = ds.len();
     if (255 < address) | (15 < code) | (15 < n) {
-        return Written { number: 17, len: 0 };
+        return Err(Refusal::BadFrame);
     }
     if room.len() < n + 4 {
-        return Written { number: 15, len: 0 };
+        return Err(Refusal::ShortRoom);
     }
     put_frame(address as u8, code as u8, ds, room);
-    Written {
-        number: 0,
-        len: n + 4,
-    }
+    Ok(n + 4)
 }

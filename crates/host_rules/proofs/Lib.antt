@@ -1,3 +1,4 @@
+pub mod Refusals
 pub mod Framed
 pub mod Turns
 pub mod Tests

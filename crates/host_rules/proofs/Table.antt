@@ -12,13 +12,11 @@ use Rattle.base_layout.specs.Bytes.{pasted}
 use Rattle.line_receiver.specs.Receive.{total}
 use Rattle.line_receiver.specs.Frames.{written}
 use Rattle.host_rules.specs.declared.Reading.{Reading}
-use Rattle.host_rules.specs.declared.Answered.{Answered}
-use Rattle.host_rules.specs.declared.Written.{Written}
 use Rattle.types_rules.specs.Types.{known, sizes_of, shows_of}
 use Rattle.types_rules.specs.Promises.{ThereIs}
 use Rattle.types_rules.proofs.Promised.{numbers}
-use Rattle.host_rules.specs.Reading.{needed_for, summed, reading_of, refusal, status_of}
-use Rattle.host_rules.specs.Writing.{unfit, cramped, written_of, room_after}
+use Rattle.host_rules.specs.Reading.{Answered, needed_for, summed, reading_of, refusal, status_of}
+use Rattle.host_rules.specs.Writing.{Written, unfit, cramped, written_of, room_after}
 use Rattle.host_rules.specs.Promises.{Exactly, Reader, Fits, Over, Writer}
 use Rattle.host_rules.proofs.Tests.{or-true, fit}
 

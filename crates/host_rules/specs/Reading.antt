@@ -1,10 +1,16 @@
 -- The host's reader of replies: which bytes a reply must have, and what they say.
-use Rattle.std.specs.Prelude.{ℕ, ◌+◌, ◌-◌, ◌/◌, ◌%◌, List, [], ◌∷◌, Bool, cond, not, ◌&&◌, length, get_or, take, drop, replicate, eqb}
+use Rattle.std.specs.Prelude.{ℕ, ◌+◌, ◌-◌, ◌/◌, ◌%◌, List, [], ◌∷◌, Bool, cond, not, ◌&&◌, length, get_or, take, drop, replicate, eqb, Result, Ok, Err}
 use Rattle.base_layout.specs.Bytes.{of_le}
 use Rattle.line_receiver.specs.Receive.{total}
 use Rattle.types_rules.specs.Types.{known, sizes_of, shows_of}
 use Rattle.host_rules.specs.declared.Reading.{Reading}
-use Rattle.host_rules.specs.declared.Answered.{Answered}
+use Rattle.host_rules.specs.declared.Refusal.{Refusal}
+use Rattle.host_rules.specs.Refusals.{number_of}
+
+-- 01 Numbers given back: what the status reader gives back, its number, and what it read.
+pub record Answered : Type 0 where
+  pub number : ℕ
+  pub reading : Reading
 
 -- 01 Commands of both types: an item of k bytes takes none of them if its bit, the lowest, is clear.
 abbrev pub one_size : ℕ → ℕ → ℕ
@@ -40,6 +46,11 @@ reading_of b ks bs = record { status = get_or bs 0 0; numbers = numbers_in b ks 
 -- 01 Numbers given back: refused, all of the reading is 0.
 abbrev pub refusal : ℕ → Answered
 refusal n = record { number = n; reading = record { status = 0; numbers = replicate 8 0 } }
+
+-- 01 Numbers given back: a reply that was read, or why not, as what is given back.
+abbrev pub answered : Result Reading Refusal → Answered
+answered (Ok r) = record { number = 0; reading = r }
+answered (Err r) = refusal (number_of r)
 
 -- 01 Numbers given back: what the status reader gives back, by the first refusal that applies.
 unfoldable pub status_of : ℕ → ℕ → List ℕ → Answered

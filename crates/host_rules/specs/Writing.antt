@@ -1,8 +1,19 @@
 -- The host's writer of frames: what it gives back and what it leaves in the room that it is lent.
-use Rattle.std.specs.Prelude.{ℕ, ◌+◌, List, Bool, cond, ◌||◌, length, ltb}
+use Rattle.std.specs.Prelude.{ℕ, ◌+◌, List, Bool, cond, ◌||◌, length, ltb, Result, Ok, Err}
 use Rattle.base_layout.specs.Bytes.{pasted}
 use Rattle.line_receiver.specs.Frames.{written}
-use Rattle.host_rules.specs.declared.Written.{Written}
+use Rattle.host_rules.specs.declared.Refusal.{Refusal}
+use Rattle.host_rules.specs.Refusals.{number_of}
+
+-- 01 Numbers given back: what the writer gives back, its number, and how many bytes it wrote.
+pub record Written : Type 0 where
+  pub number : ℕ
+  pub len : ℕ
+
+-- 01 Numbers given back: how many bytes were written, or why none, as what is given back.
+abbrev pub reported : Result ℕ Refusal → Written
+reported (Ok n) = record { number = 0; len = n }
+reported (Err r) = record { number = number_of r; len = 0 }
 
 -- 01 Numbers given back, 17: the address does not fit a byte, the code does not fit a nibble, or there are more than fifteen data bytes.
 abbrev pub unfit : ℕ → ℕ → List ℕ → Bool

@@ -3,31 +3,27 @@
 #![tactic(auto)]
 
 ghost use Rattle.std.specs.Prelude.{◌≡◌, ℕ, ◌+◌, ◌≤◌, ◌<◌, length, get_or};
-ghost use Rattle.host_rules.specs.Reading.{one_size, needed_for, summed, reading_of, refusal, status_of};
+ghost use Rattle.host_rules.specs.Reading.{one_size, needed_for, summed, reading_of, answered, status_of};
 
-use host_rules::{Answered, Reading};
+use host_rules::{Reading, Refusal};
+use types_table::ModuleType;
 
 // How many bytes an item has in a reply: its size if its bit, the lowest, is set.
 fn one_size(bits: u8, size: u8) -> usize
     ensures { (result ≡ one_size bits size) × (result ≤ 255) }
 {
-    if bits % 2 == 1 {
-        return size as usize;
-    }
-    0
+    if bits % 2 == 1 { size as usize } else { 0 }
 }
 
-// How many bytes a reply with these items has, given the items' sizes.
+// How many bytes a reply with these items has, given the items' sizes, which are a list of their own as in the specs.
 fn needed(items: u8, sizes: [u8; 8]) -> usize
     ensures { result ≡ needed_for items sizes }
 {
     let mut n: usize = 2;
     let mut left = items;
-    let mut i: usize = 0;
-    while i < 8 {
-        n += one_size(left, sizes[i]);
-        left = left / 2;
-        i += 1;
+    for size in sizes {
+        n += one_size(left, size);
+        left /= 2;
     }
     n
 }
@@ -50,13 +46,11 @@ fn read(items: u8, sizes: [u8; 8], reply: &[u8]) -> Reading
     let mut numbers = [0u32; 8];
     let mut left = items;
     let mut at: usize = 1;
-    let mut i: usize = 0;
-    while i < 8 {
+    for (i, number) in numbers.iter_mut().enumerate() {
         let k = one_size(left, sizes[i]);
-        numbers[i] = base_layout::get_number(reply, at, k);
+        *number = base_layout::get_number(reply, at, k);
         at += k;
-        left = left / 2;
-        i += 1;
+        left /= 2;
     }
     Reading {
         status: reply[0],
@@ -64,34 +58,20 @@ fn read(items: u8, sizes: [u8; 8], reply: &[u8]) -> Reading
     }
 }
 
-// Refused, the reading is all 0.
-fn refused(number: u32) -> Answered
-    ensures { result ≡ refusal number }
-{
-    Answered {
-        number,
-        reading: Reading {
-            status: 0,
-            numbers: [0u32; 8],
-        },
-    }
-}
-
 // Takes a module's reply apart, or says why not.
-pub fn take_status(kind: u32, items: u8, reply: &[u8]) -> Answered
-    ensures { result ≡ status_of kind items reply.now }
+pub fn take_status(kind: u32, items: u8, reply: &[u8]) -> Result<Reading, Refusal>
+    ensures { answered result ≡ status_of kind items reply.now }
 {
-    if !types_table::is_known(kind) {
-        return refused(12);
-    }
-    let sizes = types_table::sizes_of(kind);
+    let Ok(known) = ModuleType::try_from(kind) else {
+        return Err(Refusal::BadType);
+    };
+    let sizes = known.sizes();
     let long = reply.len() == needed(items, sizes);
-    if !(types_table::is_shown(kind, items) & long) {
-        return refused(18);
+    if !(known.is_shown(items) & long) {
+        return Err(Refusal::BadLength);
     }
     if !is_summed(reply) {
-        return refused(19);
+        return Err(Refusal::BadSum);
     }
-    let reading = read(items, sizes, reply);
-    Answered { number: 0, reading }
+    Ok(read(items, sizes, reply))
 }

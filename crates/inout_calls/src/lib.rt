@@ -6,76 +6,75 @@ ghost use Rattle.std.specs.Prelude.{◌≡◌, ◌+◌, ◌≤◌, true, length}
 ghost use Rattle.base_layout.specs.Bytes.{pasted};
 ghost use Rattle.module_rules.specs.Touch.{frame_of};
 ghost use Rattle.module_rules.specs.Kind.{executed, replied};
-ghost use Rattle.module_rules.specs.Rules.{wants, settled, kind_of};
+ghost use Rattle.module_rules.specs.Rules.{kind_of};
 ghost use Rattle.module_rules.specs.Slots.{slot_size};
 ghost use Rattle.module_rules.specs.Owes.{reply_size};
 ghost use Rattle.inout_rules.specs.State.{ticked};
-ghost use Rattle.inout_rules.specs.Answers.{outputs_of, inout, execute};
-ghost use Rattle.inout_slot_rules.specs.Slot.{encode_of, decode_of, ok_of};
+ghost use Rattle.inout_rules.specs.Answers.{outputs_of, inout};
+ghost use Rattle.inout_slot_rules.specs.Slot.{sample, encode_of, decode_of, ok_of, slots};
+ghost use Rattle.inout_slot_rules.proofs.Owed.{owes};
 
-use inout_rules::{Command, Request, Sample};
-use module_rules::Head;
+use inout_rules::{Command, Io, Sample};
+use module_calls::Calls;
+use module_rules::{Cause, Fault, Frame, Request};
 
-// An own command: the module is told from the slot, and put there with the cause 0.
-fn perform(s: &mut [u8], c: Command)
-    requires { (length s.old ≡ slot_size) × (ok_of s.old ≡ true) }
-    ensures { s.new ≡ pasted 0 (encode_of (settled inout (wants c) (decode_of s.old))) s.old }
-{
-    let before = inout_slot::decode(s);
-    let mut after = inout_perform::perform(before, c);
-    after.station.cause = 0;
-    inout_slot::put(s, after);
-}
+// The I/O module as a module type; its own commands can always be carried out.
+struct InoutType;
 
-// A frame that touches the module: of a damaged or malformed one, and of a command of every type, the station alone is put.
-fn settle(s: &mut [u8], f: Head, alone: bool, ds: &[u8])
-    requires { (length s.old ≡ slot_size) × (ok_of s.old ≡ true) }
-    ensures { s.new ≡ pasted 0 (encode_of (execute (frame_of f ds.now) alone (decode_of s.old))) s.old }
-{
-    let station = module_station::station_in(s);
-    if f.damaged {
-        module_station::put_station(s, module_station::with_cause(station, 1));
-        return;
+impl Calls for InoutType {
+    type Module = Io;
+
+    type Sample = Sample;
+
+    type Command = Command;
+
+    ghost rules = { inout };
+
+    ghost slots = { slots };
+
+    ghost good = { sample.codec.fits };
+
+    fn request_of(f: Frame<'_>, alone: bool) -> Result<Request<Command>, Fault> {
+        inout_parse::request_of(f, alone)
     }
-    let asked = inout_parse::request_of(f, alone, ds);
-    match asked {
-        Request::Malformed(fault) => {
-            let cause = module_station::fault_cause(fault);
-            module_station::put_station(s, module_station::with_cause(station, cause));
-        }
-        Request::Set(setting) => {
-            let x = module_station::with_setting(station, setting);
-            module_station::put_station(s, module_station::with_cause(x, 0));
-        }
-        Request::Reset => {
-            let latched = inout_slot::latched_in(s);
-            inout_slot::put(s, inout_perform::fresh(latched));
-        }
-        Request::Wants(c) => {
-            perform(s, c);
-        }
+
+    fn decode(s: &[u8]) -> Io {
+        inout_slot::decode(s)
     }
+
+    fn put(s: &mut [u8], m: Io) {
+        inout_slot::put(s, m);
+    }
+
+    fn renewed(s: &[u8]) -> Io {
+        inout_perform::fresh(inout_slot::latched_in(s))
+    }
+
+    fn can(_m: Io, _c: Command) -> bool {
+        true
+    }
+
+    fn perform(m: Io, c: Command) -> Io {
+        let mut after = inout_perform::perform(m, c);
+        after.station.cause = Cause::Executed as u8;
+        after
+    }
+
+    fn put_reply(s: &[u8], f: Frame<'_>, room: &mut [u8], from: usize) -> usize {
+        inout_perform::put_reply(inout_slot::decode(s), f, room, from)
+    }
+
+    ghost owes = { owes };
 }
 
 // A frame that touches the module in a slot: the module after it, and its reply in the room from place from on; how many bytes that has.
-pub fn touch(s: &mut [u8], f: Head, ds: &[u8], room: &mut [u8], from: usize) -> usize
+pub fn touch(s: &mut [u8], f: Frame<'_>, room: &mut [u8], from: usize) -> usize
     requires { (length s.old ≡ slot_size) × (ok_of s.old ≡ true) × (from + reply_size ≤ length room.old) }
-    ensures value { result ≡ length (replied (kind_of inout) (frame_of f ds.now) (decode_of s.old)) }
-    ensures s_after { s.new ≡ pasted 0 (encode_of (executed (kind_of inout) (frame_of f ds.now) (decode_of s.old))) s.old }
-    ensures room_after { room.new ≡ pasted from (replied (kind_of inout) (frame_of f ds.now) (decode_of s.old)) room.old }
+    ensures value { result ≡ length (replied (kind_of inout) (frame_of f.entry) (decode_of s.old)) }
+    ensures s_after { s.new ≡ pasted 0 (encode_of (executed (kind_of inout) (frame_of f.entry) (decode_of s.old))) s.old }
+    ensures room_after { room.new ≡ pasted from (replied (kind_of inout) (frame_of f.entry) (decode_of s.old)) room.old }
 {
-    let address = module_station::address_in(s);
-    settle(
-        s,
-        f,
-        module_station::is_individually(address, f.address),
-        ds,
-    );
-    if module_station::is_speaking(address, f.address) {
-        let after = inout_slot::decode(s);
-        return inout_perform::put_reply(after, f, ds, room, from);
-    }
-    0
+    module_calls::touch::<InoutType>(s, f, room, from)
 }
 
 // The module in a slot, after a tick, which latches this sample.

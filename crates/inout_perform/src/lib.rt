@@ -12,38 +12,35 @@ ghost use Rattle.inout_rules.specs.Perform.{directed, pulsed, output, perform};
 ghost use Rattle.inout_rules.specs.Answers.{numbers, outputs_of, reply};
 
 use inout_rules::{Capture, Command, Io, Pins, Sample, Synch};
-use module_rules::Head;
+use module_rules::Frame;
 
 // Twelve bits: those of x where the direction is input, those of y where it is output.
 fn blended(direction: u16, x: u16, y: u16) -> u16
     ensures { result ≡ blend 12 direction x y }
 {
-    let inputs = (x & direction) as u32;
-    let outputs = (y - (y & direction)) as u32;
-    ((inputs + outputs) % 4096) as u16
+    ((x & direction) | (y & !direction)) & 0x0FFF
 }
 
-fn directed(mut p: Pins, direction: u16) -> Pins
+fn directed(p: Pins, direction: u16) -> Pins
     ensures { result ≡ directed direction p }
 {
-    p.direction = direction;
-    p
+    Pins { direction, ..p }
 }
 
-fn pulsed(mut p: Pins, a: u8, b: u8) -> Pins
-    ensures { result ≡ pulsed a b p }
+fn pulsed(p: Pins, pwm1: u8, pwm2: u8) -> Pins
+    ensures { result ≡ pulsed pwm1 pwm2 p }
 {
-    p.pwm1 = a;
-    p.pwm2 = b;
-    p
+    Pins { pwm1, pwm2, ..p }
 }
 
 // Only bits directed as outputs change.
-fn output(mut p: Pins, bits: u16) -> Pins
+fn output(p: Pins, bits: u16) -> Pins
     ensures { result ≡ output bits p }
 {
-    p.register = blended(p.direction, p.register, bits);
-    p
+    Pins {
+        register: blended(p.direction, p.register, bits),
+        ..p
+    }
 }
 
 pub fn power_up() -> Io
@@ -90,60 +87,47 @@ fn read_now(m: Io) -> u16
     blended(m.pins.direction, m.latched.inputs, m.pins.register)
 }
 
-fn with_pins(mut m: Io, pins: Pins) -> Io
+fn with_pins(m: Io, pins: Pins) -> Io
     ensures { result ≡ with_pins pins m }
 {
-    m.pins = pins;
-    m
+    Io { pins, ..m }
 }
 
 // Synch Output: the stored bits and PWMs, as the directions are now.
 fn synch_output(m: Io) -> Io
     ensures { result ≡ perform Command.SynchOutput m }
 {
-    let pins = m.pins;
-    let put = output(pins, m.synch.bits);
+    let put = output(m.pins, m.synch.bits);
     with_pins(m, pulsed(put, m.synch.pwm1, m.synch.pwm2))
 }
 
-fn with_synch(mut m: Io, bits: u16, a: u8, b: u8) -> Io
-    ensures { result ≡ perform (Command.SynchStore bits a b) m }
-{
-    m.synch.bits = bits;
-    m.synch.pwm1 = a;
-    m.synch.pwm2 = b;
-    m
-}
-
-fn with_timer(mut m: Io, t: u8) -> Io
-    ensures { result ≡ perform (Command.Timer t) m }
-{
-    m.timer = t;
-    m
-}
-
-fn synch_input(mut m: Io) -> Io
+// Synch Input: the bits as they are read now, and the latched counter.
+fn synch_input(m: Io) -> Io
     ensures { result ≡ perform Command.SynchInput m }
 {
-    let inputs = read_now(m);
-    m.captured.inputs = inputs;
-    let counter = m.latched.counter;
-    m.captured.counter = counter;
-    m
+    Io {
+        captured: Capture {
+            inputs: read_now(m),
+            counter: m.latched.counter,
+        },
+        ..m
+    }
 }
 
 // What an own command makes of the module.
 pub fn perform(m: Io, c: Command) -> Io
     ensures { result ≡ perform c m }
 {
-    let pins = m.pins;
     match c {
-        Command::Direction(d) => with_pins(m, directed(pins, d)),
-        Command::Pwm(a, b) => with_pins(m, pulsed(pins, a, b)),
+        Command::Direction(direction) => with_pins(m, directed(m.pins, direction)),
+        Command::Pwm(pwm1, pwm2) => with_pins(m, pulsed(m.pins, pwm1, pwm2)),
         Command::SynchOutput => synch_output(m),
-        Command::Output(bits) => with_pins(m, output(pins, bits)),
-        Command::SynchStore(bits, a, b) => with_synch(m, bits, a, b),
-        Command::Timer(t) => with_timer(m, t),
+        Command::Output(bits) => with_pins(m, output(m.pins, bits)),
+        Command::SynchStore(bits, pwm1, pwm2) => Io {
+            synch: Synch { bits, pwm1, pwm2 },
+            ..m
+        },
+        Command::Timer(timer) => Io { timer, ..m },
         Command::SynchInput => synch_input(m),
     }
 }
@@ -164,17 +148,17 @@ fn numbers(m: Io) -> [u32; 8]
 }
 
 // Puts the reply to a frame into the room from place from on; how many bytes it has.
-pub fn put_reply(m: Io, f: Head, ds: &[u8], room: &mut [u8], from: usize) -> usize
+#[tactic(auto, unfolding(module_rules::specs::Rules::reply))]
+pub fn put_reply(m: Io, f: Frame<'_>, room: &mut [u8], from: usize) -> usize
     requires { from + reply_size ≤ length room.old }
-    ensures value { result ≡ length (reply (frame_of f ds.now) m) }
-    ensures room_after { room.new ≡ pasted from (reply (frame_of f ds.now) m) room.old }
+    ensures value { result ≡ length (reply (frame_of f.entry) m) }
+    ensures room_after { room.new ≡ pasted from (reply (frame_of f.entry) m) room.old }
 {
     let status = module_station::cause_bit(m.station.cause);
     module_reply::put_reply(
         room,
         from,
         f,
-        ds,
         m.station,
         status,
         inout_rules::SIZES,
@@ -186,14 +170,7 @@ pub fn put_reply(m: Io, f: Head, ds: &[u8], room: &mut [u8], from: usize) -> usi
 pub fn outputs(m: Io) -> [u8; 8]
     ensures { result ≡ outputs_of m }
 {
-    [
-        (m.pins.direction % 256) as u8,
-        (m.pins.direction / 256 % 256) as u8,
-        (m.pins.register % 256) as u8,
-        (m.pins.register / 256 % 256) as u8,
-        m.pins.pwm1,
-        m.pins.pwm2,
-        0,
-        0,
-    ]
+    let [a, b] = m.pins.direction.to_le_bytes();
+    let [c, d] = m.pins.register.to_le_bytes();
+    [a, b, c, d, m.pins.pwm1, m.pins.pwm2, 0, 0]
 }

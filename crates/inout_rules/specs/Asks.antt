@@ -1,18 +1,9 @@
 -- What a frame asks of an I/O module (document 01, "I/O module").
 use Rattle.std.specs.Prelude.{ℕ, List, true, cond, get_or, eqb}
-use Rattle.module_rules.specs.Rules.{Request, malformed, set, reset, wants, Meaning, unknown, takes}
+use Rattle.module_rules.specs.Rules.{Meaning, unknown, takes}
 use Rattle.inout_rules.specs.declared.Command.{Command}
 use Rattle.inout_rules.specs.declared.Command.TheVariants.{Direction, Pwm, SynchOutput, Output, SynchStore, Timer, SynchInput}
-use Rattle.inout_rules.specs.declared.Request as Code
-use Rattle.inout_rules.specs.declared.Request.TheVariants as Codes
 use Rattle.inout_rules.specs.Pins.{bits_of}
-
--- the case of the code's request in the request of any type
-abbrev pub asks_of : Code.Request → Request Command
-asks_of (Codes.Malformed x) = malformed x
-asks_of (Codes.Set s) = set s
-asks_of Codes.Reset = reset
-asks_of (Codes.Wants c) = wants c
 
 -- the type's own codes: 0 Set Direction (2), 4 Set PWM (2), 5 Synch Output (0), 6 Set Output (2), 7 Set Synch Output (4),
 -- 8 Set Timer Mode (1), 12 Synch Input (0); every value is good; any other code is unknown

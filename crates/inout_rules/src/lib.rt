@@ -2,7 +2,7 @@
 
 #![tactic(auto)]
 
-use module_rules::{Fault, Setting, Station};
+use module_rules::Station;
 
 pub const TYPE: u8 = 2;
 
@@ -66,13 +66,4 @@ pub enum Command {
     SynchStore(u16, u8, u8),
     Timer(u8),
     SynchInput,
-}
-
-// What a frame asks.
-#[derive(Clone, Copy)]
-pub enum Request {
-    Malformed(Fault),
-    Set(Setting),
-    Reset,
-    Wants(Command),
 }

@@ -10,24 +10,23 @@ ghost use Rattle.inout_slot_rules.specs.Slot.{sample, pins, synch, capture, latc
 
 use inout_rules::{Capture, Io, Pins, Sample, Synch};
 
-// The sample that stands from a place on, in a slot or in a tick's list.
+// The sample that stands from a place on, in a slot or in a tick's list. A slot is a slice, and each contract says how long: slots are lent out of the
+// record, and an array or a struct over one would be a conversion more in each public call.
 pub fn sample_in(s: &[u8], at: usize) -> Sample
     requires { at + sample.codec.size ≤ length s.now }
     ensures { result ≡ sample.codec.dec at s.now }
 {
-    let a = at + 2;
-    let b = a + 1;
-    let c = b + 1;
     Sample {
         inputs: base_layout::get2(s, at),
-        ad1: s[a],
-        ad2: s[b],
-        ad3: s[c],
-        counter: base_layout::get4(s, c + 1),
+        ad1: s[at + 2],
+        ad2: s[at + 3],
+        ad3: s[at + 4],
+        counter: base_layout::get4(s, at + 5),
     }
 }
 
 // The sample that the last tick latched.
+#[tactic(auto, unfolding(inout_slot_rules::specs::Slot::decode_of))]
 pub fn latched_in(s: &[u8]) -> Sample
     requires { pins_at ≤ length s.now }
     ensures { result ≡ (decode_of s.now).latched }
@@ -69,6 +68,7 @@ fn capture_in(s: &[u8]) -> Capture
 }
 
 // The module in a slot.
+#[tactic(auto, unfolding(inout_slot_rules::specs::Slot::decode_of))]
 pub fn decode(s: &[u8]) -> Io
     requires { io_size ≤ length s.now }
     ensures { result ≡ decode_of s.now }
@@ -86,48 +86,26 @@ pub fn decode(s: &[u8]) -> Io
 fn sample_bytes(x: Sample) -> [u8; inout_slot_rules::SAMPLE_LEN]
     ensures { result ≡ sample.codec.enc x }
 {
-    [
-        (x.inputs % 256) as u8,
-        (x.inputs / 256 % 256) as u8,
-        x.ad1,
-        x.ad2,
-        x.ad3,
-        (x.counter % 256) as u8,
-        (x.counter / 256 % 256) as u8,
-        (x.counter / 256 / 256 % 256) as u8,
-        (x.counter / 256 / 256 / 256 % 256) as u8,
-    ]
+    let [low, high] = x.inputs.to_le_bytes();
+    let [a, b, c, d] = x.counter.to_le_bytes();
+    [low, high, x.ad1, x.ad2, x.ad3, a, b, c, d]
 }
 
 fn outputs_bytes(p: Pins, y: Synch) -> [u8; inout_slot_rules::OUTPUTS_LEN]
     ensures { result ≡ pins.codec.enc p ++ synch.codec.enc y }
 {
-    [
-        (p.direction % 256) as u8,
-        (p.direction / 256 % 256) as u8,
-        (p.register % 256) as u8,
-        (p.register / 256 % 256) as u8,
-        p.pwm1,
-        p.pwm2,
-        (y.bits % 256) as u8,
-        (y.bits / 256 % 256) as u8,
-        y.pwm1,
-        y.pwm2,
-    ]
+    let [a, b] = p.direction.to_le_bytes();
+    let [c, d] = p.register.to_le_bytes();
+    let [e, f] = y.bits.to_le_bytes();
+    [a, b, c, d, p.pwm1, p.pwm2, e, f, y.pwm1, y.pwm2]
 }
 
 fn tail_bytes(timer: u8, k: Capture) -> [u8; inout_slot_rules::TAIL_LEN]
     ensures { result ≡ timer ∷ capture.codec.enc k }
 {
-    [
-        timer,
-        (k.inputs % 256) as u8,
-        (k.inputs / 256 % 256) as u8,
-        (k.counter % 256) as u8,
-        (k.counter / 256 % 256) as u8,
-        (k.counter / 256 / 256 % 256) as u8,
-        (k.counter / 256 / 256 / 256 % 256) as u8,
-    ]
+    let [low, high] = k.inputs.to_le_bytes();
+    let [a, b, c, d] = k.counter.to_le_bytes();
+    [timer, low, high, a, b, c, d]
 }
 
 // Puts the latched sample alone.
@@ -140,6 +118,7 @@ pub fn put_latched(s: &mut [u8], x: Sample)
 }
 
 // Puts a module into a slot, from the slot's start on.
+#[tactic(auto, using(inout_slot_rules::proofs::Putting::put_is))]
 pub fn put(s: &mut [u8], m: Io)
     requires { io_size ≤ length s.old }
     ensures { s.new ≡ pasted 0 (encode_of m) s.old }
@@ -154,6 +133,7 @@ pub fn put(s: &mut [u8], m: Io)
 }
 
 // Whether a slot holds a valid I/O module: its type byte, its station, and twelve-bit numbers below 4,096.
+#[tactic(auto, unfolding(inout_slot_rules::specs::Slot::ok_of))]
 pub fn is_ok(s: &[u8]) -> bool
     requires { io_size ≤ length s.now }
     ensures { result ≡ ok_of s.now }

@@ -1,9 +1,8 @@
 -- A receiver with address, command and some data bytes in, and what a byte makes of it: the laws that the promises share. Assumes nothing.
-use Rattle.std.proofs.Common.{◌≡◌, ℕ, suc, ◌+◌, ◌-◌, ◌/◌, ◌%◌, ◌<◌, ◌≤◌, Bool, not, ◌||◌, eqb, List, [], ◌∷◌, ◌++◌, length, set, replicate, sym, refl, ap, ◌∙◌, append_assoc, add-one, arith, length-append, take_at, le-ltb, lt-ltb}
+use Rattle.std.proofs.Common.{◌≡◌, ℕ, suc, ◌+◌, ◌-◌, ◌/◌, ◌%◌, ◌<◌, ◌≤◌, Bool, not, ◌||◌, eqb, List, [], ◌∷◌, ◌++◌, length, set, replicate, sym, refl, ap, ◌∙◌, append_assoc, add-one, arith, length-append, take_at, le-ltb, lt-ltb, Some, None}
 use lib.Seq.{set-append_seam}
 use Rattle.line_receiver.specs.declared.Receiver.{Receiver}
 use Rattle.line_receiver.specs.declared.Received.{Received}
-use Rattle.line_receiver.specs.declared.Answer.TheVariants.{Ended, Nothing}
 use Rattle.line_receiver.specs.Receive.{sum8, idle, waits, taken}
 use Rattle.line_receiver.specs.Frames.{Byte, header, Reading, ended, reads, frame_in}
 
@@ -39,7 +38,7 @@ holding_stores ds a c m b h k =
 
 -- it ends its frame with the last byte
 pub holding-ends : (ds : List ℕ) (a c : ℕ) (m : Bool) (b : Byte) → length ds ≡ c / 16
-    → taken (holding ds a c m) b.value b.mark ≡ record { next = idle; answer = Ended ((m || b.mark) || not (eqb b.value (sum8 a c ds))) }
+    → taken (holding ds a c m) b.value b.mark ≡ record { next = idle; answer = Some ((m || b.mark) || not (eqb b.value (sum8 a c ds))) }
 unfolding taken
 holding-ends ds a c m b h =
     rw (le-ltb (length ds) (c / 16) (omega arith), take_at ds (replicate (15 - length ds) 0) (c / 16) h)
@@ -51,14 +50,14 @@ holding-frame ds a c m d h = rw (take_at ds (replicate (15 - length ds) 0) (c / 
 
 -- what reading comes to, once the first byte is taken
 onward : Receiver → List Byte → Received → Reading
-onward r bs t = elim t.answer [ Ended d ↦ ended (frame_in r d) t.next bs | Nothing ↦ reads bs t.next ]
+onward r bs t = elim t.answer [ Some d ↦ ended (frame_in r d) t.next bs | None ↦ reads bs t.next ]
 
 -- a byte that ends nothing, and one that ends a frame
 pub reads_on : (b : Byte) (bs : List Byte) (r r' : Receiver) → taken r b.value b.mark ≡ waits r' → reads (b ∷ bs) r ≡ reads bs r'
 unfolding reads onward
 reads_on b bs r r' e = ap (onward r bs) e
 
-pub reads_end : (b : Byte) (bs : List Byte) (r r' : Receiver) (d : Bool) → taken r b.value b.mark ≡ record { next = r'; answer = Ended d }
+pub reads_end : (b : Byte) (bs : List Byte) (r r' : Receiver) (d : Bool) → taken r b.value b.mark ≡ record { next = r'; answer = Some d }
     → reads (b ∷ bs) r ≡ ended (frame_in r d) r' bs
 unfolding reads onward
 reads_end b bs r r' d e = ap (onward r bs) e

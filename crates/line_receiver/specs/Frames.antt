@@ -1,9 +1,7 @@
 -- Bytes with their marks, whole frames, and what a receiver makes of bytes that come one after another (document 01, "Frames").
-use Rattle.std.specs.Prelude.{◌≡◌, ℕ, ◌+◌, ◌*◌, ◌%◌, ◌<◌, Bool, false, ◌||◌, List, [], ◌∷◌, ◌++◌, length}
+use Rattle.std.specs.Prelude.{◌≡◌, ℕ, ◌+◌, ◌*◌, ◌%◌, ◌<◌, Bool, false, ◌||◌, List, [], ◌∷◌, ◌++◌, length, Option, Some, None}
 use Rattle.line_receiver.specs.declared.Receiver.{Receiver}
 use Rattle.line_receiver.specs.declared.Received.{Received}
-use Rattle.line_receiver.specs.declared.Answer.{Answer}
-use Rattle.line_receiver.specs.declared.Answer.TheVariants.{Ended, Nothing}
 use Rattle.line_receiver.specs.Receive.{sum8, carried, opens, taken}
 
 -- 01 Frames: a byte as the line hands it over, with its error mark.
@@ -57,7 +55,7 @@ unfoldable pub reads : List Byte → Receiver → Reading
 reads [] r = waiting r
 reads (b ∷ bs) r =
     let t : Received = taken r b.value b.mark in
-    elim t.answer [ Ended d ↦ ended (frame_in r d) t.next bs | Nothing ↦ reads bs t.next ]
+    elim t.answer [ Some d ↦ ended (frame_in r d) t.next bs | None ↦ reads bs t.next ]
 
 -- 01 Frames: the receiver when it has taken all of these bytes, whatever frames end among them.
 unfoldable pub after : List Byte → Receiver → Receiver
@@ -65,9 +63,9 @@ after [] r = r
 after (b ∷ bs) r = after bs (taken r b.value b.mark).next
 
 -- 02 P2: how many frames an answer ends: one or none.
-abbrev pub ended_by : Answer → ℕ
-ended_by Nothing = 0
-ended_by (Ended d) = 1
+abbrev pub ended_by : Option Bool → ℕ
+ended_by None = 0
+ended_by (Some d) = 1
 
 -- 02 P2: how many frames end among these bytes.
 unfoldable pub ends : List Byte → Receiver → ℕ

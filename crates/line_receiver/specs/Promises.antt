@@ -1,8 +1,6 @@
 -- What is promised of the receiver (document 01, "Frames"). Each promise is proved under its own name, with a small first letter, in proofs/.
-use Rattle.std.specs.Prelude.{◌≡◌, ℕ, ◌+◌, ◌*◌, ◌/◌, ◌%◌, ◌<◌, ◌≤◌, Bool, true, false, not, ◌||◌, ◌↔◌, List, [], ◌∷◌, ◌++◌, length, replicate, ◌==◌, slice_index}
+use Rattle.std.specs.Prelude.{◌≡◌, ℕ, ◌+◌, ◌*◌, ◌/◌, ◌%◌, ◌<◌, ◌≤◌, Bool, true, false, not, ◌||◌, ◌↔◌, List, [], ◌∷◌, ◌++◌, length, replicate, ◌==◌, slice_index, Option, Some, None}
 use Rattle.line_receiver.specs.declared.Receiver.{Receiver}
-use Rattle.line_receiver.specs.declared.Answer.{Answer}
-use Rattle.line_receiver.specs.declared.Answer.TheVariants.{Ended, Nothing}
 use Rattle.line_receiver.specs.Receive.{sum8, idle, taken, number_of}
 use Rattle.line_receiver.specs.Frames.{Byte, Frame, header, clean, values, any_mark, written, ended, reads, after, ends, Quiet, AreBytes}
 
@@ -71,10 +69,10 @@ abbrev pub Kept : Type 0
 Kept = (r : Receiver) (b : ℕ) (m : Bool) → Sound r → b < 256 → Sound (taken r b m).next
 
 -- 01 Numbers given back: 0 exactly if the byte ended no frame, 1 exactly if it ended an undamaged one, 2 exactly if it ended a damaged one.
-pub record Numbered (a : Answer) (n : ℕ) : Type 0 where
-  pub onward : (n ≡ 0) ↔ (a ≡ Nothing)
-  pub undamaged : (n ≡ 1) ↔ (a ≡ Ended false)
-  pub damaged : (n ≡ 2) ↔ (a ≡ Ended true)
+pub record Numbered (a : Option Bool) (n : ℕ) : Type 0 where
+  pub onward : (n ≡ 0) ↔ (a ≡ None)
+  pub undamaged : (n ≡ 1) ↔ (a ≡ Some false)
+  pub damaged : (n ≡ 2) ↔ (a ≡ Some true)
 
 abbrev pub Numbers : Type 0
-Numbers = (a : Answer) → Numbered a (number_of a)
+Numbers = (a : Option Bool) → Numbered a (number_of a)

@@ -1,9 +1,7 @@
 -- The receiver: what one byte makes of it. Every definition renders document 01, "Frames", but for the last, which renders "Numbers given back".
-use Rattle.std.specs.Prelude.{ℕ, zero, suc, ◌+◌, ◌/◌, ◌%◌, Bool, true, false, cond, not, ◌&&◌, ◌||◌, List, [], ◌∷◌, take, replicate, ◌==◌, nat_lt, slice_set}
+use Rattle.std.specs.Prelude.{ℕ, zero, suc, ◌+◌, ◌/◌, ◌%◌, Bool, true, false, cond, not, ◌&&◌, ◌||◌, List, [], ◌∷◌, take, replicate, ◌==◌, nat_lt, slice_set, Option, Some, None}
 use Rattle.line_receiver.specs.declared.Receiver.{Receiver}
 use Rattle.line_receiver.specs.declared.Received.{Received}
-use Rattle.line_receiver.specs.declared.Answer.{Answer}
-use Rattle.line_receiver.specs.declared.Answer.TheVariants.{Ended, Nothing}
 
 -- 01 Frames: the plain sum of some bytes, from which a checksum is cut.
 abbrev pub total : List ℕ → ℕ
@@ -20,7 +18,7 @@ idle = record { bytes = replicate 15 0; address = 0; command = 0; fill = 0; mark
 
 -- 01 Frames: the byte ends no frame, and the receiver is r from now on.
 abbrev pub waits : Receiver → Received
-waits r = record { next = r; answer = Nothing }
+waits r = record { next = r; answer = None }
 
 -- 01 Frames: a byte that opens a frame at an idle receiver is 0xAA without a mark.
 abbrev pub opens : ℕ → Bool → Bool
@@ -54,7 +52,7 @@ carried r = take (count r) r.bytes
 -- 01 Frames: the last byte came; the frame is damaged if one of its bytes was marked or this one is not the checksum.
 abbrev pub finished : Receiver → ℕ → Bool → Received
 finished r b m =
-    record { next = idle; answer = Ended ((r.marked || m) || not (b == sum8 r.address r.command (carried r))) }
+    record { next = idle; answer = Some ((r.marked || m) || not (b == sum8 r.address r.command (carried r))) }
 
 -- 01 Frames: after the command, with k data bytes in: one more of them, or else the checksum.
 abbrev pub inside : ℕ → Receiver → ℕ → Bool → Received
@@ -72,7 +70,7 @@ unfoldable pub taken : Receiver → ℕ → Bool → Received
 taken r b m = step r.fill r b m
 
 -- 01 Numbers given back: the byte call's number for each answer.
-abbrev pub number_of : Answer → ℕ
-number_of Nothing = 0
-number_of (Ended false) = 1
-number_of (Ended true) = 2
+abbrev pub number_of : Option Bool → ℕ
+number_of None = 0
+number_of (Some false) = 1
+number_of (Some true) = 2

@@ -2,8 +2,8 @@
 
 #![tactic(auto)]
 
-ghost use Rattle.std.specs.Prelude.{◌≡◌, ◌+◌, ◌-◌, ◌%◌, ◌<◌, ◌≤◌, take};
-ghost use Rattle.line_receiver.specs.Receive.{total, sum8, idle, opened, addressed, commanded, stored, finished, inside, taken};
+ghost use Rattle.std.specs.Prelude.{◌≡◌, ◌+◌, ◌-◌, ◌%◌, ◌<◌, ◌≤◌};
+ghost use Rattle.line_receiver.specs.Receive.{total, sum8, idle, waits, opened, addressed, commanded, stored, count, finished, inside, taken};
 
 // The unfinished frame: its data bytes, address and command, how many of its bytes are in (0 is idle), and whether one was marked.
 #[derive(Clone, Copy)]
@@ -15,19 +15,12 @@ pub struct Receiver {
     pub marked: bool,
 }
 
-// What a byte brings: a frame has ended, damaged or not, or nothing more.
+// The receiver after a byte, and what the byte brought: whether the frame that has ended is damaged, or nothing more.
 // The frame itself stands in the receiver that took the byte, so the answer holds no data.
-#[derive(Clone, Copy)]
-pub enum Answer {
-    Ended(bool),
-    Nothing,
-}
-
-// The receiver after a byte, and what the byte brought.
 #[derive(Clone, Copy)]
 pub struct Received {
     pub next: Receiver,
-    pub answer: Answer,
+    pub answer: Option<bool>,
 }
 
 // The sum so far, with these bytes added to it, wrapping: the one loop behind every checksum, of commands and of replies.
@@ -35,21 +28,17 @@ pub fn sum_on(start: u8, bytes: &[u8]) -> u8
     ensures { result ≡ (start + total bytes.now) % 256 }
 {
     let mut sum = start;
-    let mut i: usize = 0;
-    while i < bytes.len() {
-        sum = std::num::wrapping_add_u8(sum, bytes[i]);
-        i += 1;
+    for byte in bytes {
+        sum = sum.wrapping_add(*byte);
     }
     sum
 }
 
-// The checksum of a frame with the first n of these data bytes.
-fn checksum(address: u8, command: u8, bytes: [u8; 15], n: usize) -> u8
-    requires { n ≤ 15 }
-    ensures { result ≡ sum8 address command (take n bytes) }
+// The checksum of a frame with these data bytes.
+fn checksum(address: u8, command: u8, content: &[u8]) -> u8
+    ensures { result ≡ sum8 address command content.now }
 {
-    let start = std::num::wrapping_add_u8(address, command);
-    sum_on(start, &bytes[..n])
+    sum_on(address.wrapping_add(command), content)
 }
 
 impl Receiver {
@@ -66,16 +55,30 @@ impl Receiver {
         }
     }
 
+    // How many data bytes the command announces.
+    pub fn count(self) -> usize
+        ensures { result ≡ count self }
+    {
+        (self.command / 16) as usize
+    }
+
+    // The byte ends no frame, and this is the receiver from now on.
+    fn waits(self) -> Received
+        ensures { result ≡ waits self }
+    {
+        Received {
+            next: self,
+            answer: None,
+        }
+    }
+
     // The header is in: marks are counted from here.
     fn opened(mut self) -> Received
         ensures { result ≡ opened self }
     {
         self.fill = 1;
         self.marked = false;
-        Received {
-            next: self,
-            answer: Answer::Nothing,
-        }
+        self.waits()
     }
 
     // The address is in, also where its byte is 0xAA or marked.
@@ -84,11 +87,8 @@ impl Receiver {
     {
         self.address = byte;
         self.fill = 2;
-        self.marked = self.marked | mark;
-        Received {
-            next: self,
-            answer: Answer::Nothing,
-        }
+        self.marked |= mark;
+        self.waits()
     }
 
     // The command is in, and with it the number of data bytes to come.
@@ -97,11 +97,8 @@ impl Receiver {
     {
         self.command = byte;
         self.fill = 3;
-        self.marked = self.marked | mark;
-        Received {
-            next: self,
-            answer: Answer::Nothing,
-        }
+        self.marked |= mark;
+        self.waits()
     }
 
     // A data byte takes its place.
@@ -110,28 +107,19 @@ impl Receiver {
         ensures { result ≡ stored at self byte mark }
     {
         self.bytes[at] = byte;
-        self.fill = self.fill + 1;
-        self.marked = self.marked | mark;
-        Received {
-            next: self,
-            answer: Answer::Nothing,
-        }
+        self.fill += 1;
+        self.marked |= mark;
+        self.waits()
     }
 
     // The last byte is only compared with the sum of those before it; the next frame begins with an idle receiver.
     fn finished(self, byte: u8, mark: bool) -> Received
         ensures { result ≡ finished self byte mark }
     {
-        let bytes = self.bytes;
-        let sum = checksum(
-            self.address,
-            self.command,
-            bytes,
-            (self.command / 16) as usize,
-        );
+        let sum = checksum(self.address, self.command, &self.bytes[..self.count()]);
         Received {
             next: Receiver::idle(),
-            answer: Answer::Ended((self.marked | mark) | !(byte == sum)),
+            answer: Some(self.marked | mark | (byte != sum)),
         }
     }
 
@@ -141,7 +129,7 @@ impl Receiver {
         ensures { result ≡ inside (self.fill - 3) self byte mark }
     {
         let at = (self.fill - 3) as usize;
-        if at < (self.command / 16) as usize {
+        if at < self.count() {
             self.stored(at, byte, mark)
         } else {
             self.finished(byte, mark)
@@ -149,25 +137,18 @@ impl Receiver {
     }
 
     // One byte with its mark. Only an idle receiver looks for a header: inside a frame each byte counts as itself.
+    // Inlined, since every byte of a buffer goes through it: a call would cost some thirty instructions a byte.
+    #[inline]
+    #[tactic(auto, unfolding(crate::specs::Receive::taken))]
     pub fn take(self, byte: u8, mark: bool) -> Received
         ensures { result ≡ taken self byte mark }
     {
-        let fill = self.fill;
-        if fill == 0 {
-            if (byte == 0xAA) & !mark {
-                return self.opened();
-            }
-            return Received {
-                next: self,
-                answer: Answer::Nothing,
-            };
+        match self.fill {
+            0 if (byte == 0xAA) & !mark => self.opened(),
+            0 => self.waits(),
+            1 => self.addressed(byte, mark),
+            2 => self.commanded(byte, mark),
+            _ => self.inside(byte, mark),
         }
-        if fill == 1 {
-            return self.addressed(byte, mark);
-        }
-        if fill == 2 {
-            return self.commanded(byte, mark);
-        }
-        self.inside(byte, mark)
     }
 }

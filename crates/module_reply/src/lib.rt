@@ -8,7 +8,7 @@ ghost use Rattle.line_receiver.specs.Receive.{total};
 ghost use Rattle.module_rules.specs.Touch.{frame_of};
 ghost use Rattle.module_rules.specs.Report.{item, chosen, report, items_for, reply_of};
 
-use module_rules::{Head, Station};
+use module_rules::{Frame, Station};
 
 // Puts an item of k bytes into the room from place at on, if it is chosen; how many bytes that took.
 fn put_item(room: &mut [u8], at: usize, t: bool, k: usize, x: u32) -> usize
@@ -31,12 +31,9 @@ fn put_items(room: &mut [u8], from: usize, items: u8, sizes: [u8; 8], numbers: [
 {
     let mut at = from;
     let mut left = items;
-    let mut i: usize = 0;
-    while i < 8 {
-        let taken = put_item(room, at, left % 2 == 1, sizes[i] as usize, numbers[i]);
-        at += taken;
-        left = left / 2;
-        i += 1;
+    for (size, number) in sizes.iter().zip(&numbers) {
+        at += put_item(room, at, left % 2 == 1, *size as usize, *number);
+        left /= 2;
     }
     at
 }
@@ -62,32 +59,32 @@ fn put_report(
 }
 
 // The items that a reply to this frame has.
-fn items_for(f: Head, ds: &[u8], s: Station) -> u8
-    ensures { result ≡ items_for (frame_of f ds.now) s }
+fn items_for(f: Frame<'_>, s: Station) -> u8
+    ensures { result ≡ items_for (frame_of f.entry) s }
 {
     if (f.code == 3) & (s.cause == 0) {
-        return base_layout::byte_at(ds, 0);
+        return base_layout::byte_at(f.content, 0);
     }
     s.items
 }
 
-// Puts the reply to a frame into the room from place from on; how many bytes it has.
+// Puts the reply to a frame into the room from place from on; how many bytes it has. Sizes and numbers come as two lists, since
+// reply_of speaks of two. A room goes along with its place: a slice lent anew at each hand-over would be one more test of its bounds.
 pub fn put_reply(
     room: &mut [u8],
     from: usize,
-    f: Head,
-    ds: &[u8],
+    f: Frame<'_>,
     s: Station,
     status: u8,
     sizes: [u8; 8],
     numbers: [u32; 8],
 ) -> usize
     requires { (length sizes ≡ 8) × (length numbers ≡ 8) × (from + 2 + total sizes ≤ length room.old) }
-    ensures value { result ≡ length (reply_of (frame_of f ds.now) s status sizes numbers) }
-    ensures room_after { room.new ≡ pasted from (reply_of (frame_of f ds.now) s status sizes numbers) room.old }
+    ensures value { result ≡ length (reply_of (frame_of f.entry) s status sizes numbers) }
+    ensures room_after { room.new ≡ pasted from (reply_of (frame_of f.entry) s status sizes numbers) room.old }
 {
     if (f.code == 15) & (s.cause == 0) {
         return 0;
     }
-    put_report(room, from, status, items_for(f, ds, s), sizes, numbers)
+    put_report(room, from, status, items_for(f, s), sizes, numbers)
 }

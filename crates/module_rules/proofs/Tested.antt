@@ -10,7 +10,7 @@ use Rattle.base_layout.specs.First.{Line, first, Numbered}
 use Rattle.base_layout.proofs.First.{exactly}
 use Rattle.module_rules.specs.declared.Asked.{Asked}
 use Rattle.module_rules.specs.declared.Asked.TheVariants as Both
-use Rattle.module_rules.specs.declared.Fault.TheVariants.{Unknown, Count, Value}
+use Rattle.module_rules.specs.declared.Fault.TheVariants.{Count, Value}
 use Rattle.module_rules.specs.Commands.{asked}
 use Rattle.module_rules.specs.Rules.{Request, malformed, set, reset, wants, Meaning, unknown, takes, judged, Rules, owned, joined, with_cause, meaning, request, settled, execute}
 use Rattle.module_rules.specs.Promises.{Apart, is_unknown, is_miscounted, is_out_of_range, is_not_now, cause_table, CauseTested}

@@ -5,6 +5,7 @@ pub mod Slot
 pub mod Kind
 pub mod Slots
 pub mod Rules
+pub mod Asks
 pub mod Numbering
 pub mod Promises
 pub mod FramePromises

@@ -3,7 +3,7 @@ use Rattle.std.specs.Prelude.{ℕ, List, Bool, false, ◌||◌, eqb}
 use Rattle.line_receiver.specs.Frames.{Frame}
 use Rattle.module_rules.specs.declared.Address.{Address}
 use Rattle.module_rules.specs.declared.Station.{Station}
-use Rattle.module_rules.specs.declared.Head.{Head}
+use Rattle.module_rules.specs.declared.Frame as Code
 
 -- power-up: individual 0, group 255, not leader, ADDR_OUT high; no cause, no items, baud byte 0
 abbrev pub unassigned : Address
@@ -23,6 +23,6 @@ named a w = individually a w || eqb w.group a
 abbrev pub speaks : ℕ → Address → Bool
 speaks a w = individually a w || w.leader
 
--- the frame with a head and data bytes
-abbrev pub frame_of : Head → List ℕ → Frame
-frame_of h ds = record { address = h.address; code = h.code; content = ds; damaged = h.damaged }
+-- the frame that code holds, with the data bytes that it points at
+abbrev pub frame_of : Code.Frame → Frame
+frame_of f = record { address = f.address; code = f.code; content = f.content.now; damaged = f.damaged }

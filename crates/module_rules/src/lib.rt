@@ -3,6 +3,8 @@
 
 #![tactic(auto)]
 
+ghost use Rattle.base_layout.specs.Bytes.{Bytes};
+
 // The bytes of a slot of the record: the type byte, the station, and what the type has besides.
 pub const SLOT_LEN: usize = 128;
 
@@ -33,7 +35,7 @@ pub const OWN_AT: usize = BAUD_AT + 1;
 pub const STATION_LEN: usize = OWN_AT - STATION_AT;
 
 // The greatest cause.
-pub const CAUSE_MOST: u8 = 5;
+pub const CAUSE_MOST: u8 = Cause::Value as u8;
 
 // A reply has at most this many bytes: the status byte, the items of any type, the sum.
 pub const REPLY_LEN: usize = 19;
@@ -55,12 +57,14 @@ pub struct Station {
     pub baud: u8,
 }
 
-// What a frame says besides its data bytes.
+// A frame that has ended: its data bytes stay where they are.
 #[derive(Clone, Copy)]
-pub struct Head {
+pub struct Frame<'a> {
     pub address: u8,
     pub code: u8,
+    pub content: &'a [u8],
     pub damaged: bool,
+    ghost bytes: { Bytes content.now },
 }
 
 // What a command of every type sets: the two addresses, the items, the baud byte, or nothing.
@@ -73,7 +77,7 @@ pub enum Setting {
 }
 
 // What a code asks, as far as every type knows it: what is another's, what is unknown here, or a command with the number of its data bytes. One that
-// chooses items has one data byte, the item byte, which the type must know.
+// chooses items has one data byte, the item byte, which the type must know. An unknown code is a case and no error: `joined` of the specs goes by these cases.
 #[derive(Clone, Copy)]
 pub enum Asked {
     Other,
@@ -89,4 +93,23 @@ pub enum Fault {
     Unknown,
     Count,
     Value,
+}
+
+// What a frame asks that can be read, where the own commands of the module's type are C: a command of every type, or one of its own.
+#[derive(Clone, Copy)]
+pub enum Request<C> {
+    Set(Setting),
+    Reset,
+    Wants(C),
+}
+
+// The last cause that a station keeps: why a frame was not executed, or that it was.
+#[derive(Clone, Copy)]
+pub enum Cause {
+    Executed = 0,
+    Damaged = 1,
+    Count = 2,
+    NotNow = 3,
+    Unknown = 4,
+    Value = 5,
 }

@@ -2,16 +2,35 @@
 
 #![tactic(auto)]
 
-ghost use Rattle.std.specs.Prelude.{◌≡◌, ◌∷◌, ◌≤◌, length};
+ghost use Rattle.std.specs.Prelude.{◌≡◌, ◌∷◌, ◌≤◌, ℕ, List, Bool, cond, eqb, length, Ok, Err};
 ghost use Rattle.base_layout.specs.Bytes.{pasted};
-ghost use Rattle.module_rules.specs.Touch.{power_up, individually, named, speaks};
+ghost use Rattle.module_rules.specs.Touch.{power_up, individually, named, speaks, frame_of};
 ghost use Rattle.module_rules.specs.Slot.{address, station};
 ghost use Rattle.module_rules.specs.Slots.{station_at, own_at};
 ghost use Rattle.module_rules.specs.Commands.{asked, assigned, applied, caused};
-ghost use Rattle.module_rules.specs.Rules.{fault_cause};
+ghost use Rattle.module_rules.specs.Rules.{Meaning, fault_cause, judged, joined};
+ghost use Rattle.module_rules.specs.Asks.{asks_of, read};
 ghost use Rattle.module_rules.specs.Report.{cause_bit};
 
-use module_rules::{Address, Asked, Fault, Setting, Station};
+use module_rules::{Address, Asked, Cause, Fault, Frame, Request, Setting, Station};
+
+// The own commands of a module's type, as its own codes tell them.
+pub trait Codes {
+    type Command;
+
+    // What an own code means with its data bytes, and which item bytes there are.
+    ghost own: { ℕ → List ℕ → Meaning Self.Command };
+
+    ghost shows: { ℕ → Bool };
+
+    // What one of the own codes asks.
+    fn own_command(code: u8, ds: &[u8]) -> Result<Self::Command, Fault>
+        ensures { result ≡ read ds.now (own code ds.now) };
+
+    // Whether there are all the items that an item byte asks for.
+    fn is_shown(items: u8) -> bool
+        ensures { result ≡ shows items };
+}
 
 // Who the module in a slot is.
 pub fn address_in(s: &[u8]) -> Address
@@ -150,7 +169,9 @@ pub fn put_station(s: &mut [u8], x: Station)
     base_layout::put_all(s, module_rules::STATION_AT, &bytes);
 }
 
-// What a frame's code and data ask, with the number of data bytes that it takes; alone says that the frame was for this module individually.
+// What a frame's code and data ask, with the number of data bytes that it takes; alone says that the frame was for this module individually. A code is read
+// straight into what it asks, here and in the own codes of a type: an enum of the codes between would say the same numbers once more.
+#[tactic(auto, unfolding(module_rules::specs::Commands::asked))]
 pub fn asked_by(code: u8, alone: bool, ds: &[u8]) -> Asked
     ensures { result ≡ asked code alone ds.now }
 {
@@ -176,14 +197,57 @@ pub fn asked_by(code: u8, alone: bool, ds: &[u8]) -> Asked
     }
 }
 
-// The cause of a frame that can't be read.
+// Whether the number of data bytes is right.
+pub fn counted(n: usize, ds: &[u8]) -> Result<(), Fault>
+    ensures { result ≡ cond (eqb (length ds.now) n) (Ok tt) (Err Fault.Count) }
+{
+    if ds.len() == n {
+        return Ok(());
+    }
+    Err(Fault::Count)
+}
+
+// Whether the values of the data bytes are good.
+pub fn ranged(good: bool) -> Result<(), Fault>
+    ensures { result ≡ cond good (Ok tt) (Err Fault.Value) }
+{
+    if good {
+        return Ok(());
+    }
+    Err(Fault::Value)
+}
+
+// What a frame asks of a module whose type's own commands are T's; alone says that it was for this module individually.
+pub fn request_of<T: Codes>(f: Frame<'_>, alone: bool) -> Result<Request<T::Command>, Fault>
+    ensures { let x = frame_of f.entry in asks_of result ≡ judged x.content (joined T.shows (asked x.code alone x.content) (T.own x.code x.content)) }
+{
+    match asked_by(f.code, alone, f.content) {
+        Asked::Other => Ok(Request::Wants(T::own_command(f.code, f.content)?)),
+        Asked::Unknown => Err(Fault::Unknown),
+        Asked::Wants(n, s) => {
+            counted(n, f.content)?;
+            Ok(Request::Set(s))
+        }
+        Asked::Chooses(items, s) => {
+            counted(1, f.content)?;
+            ranged(T::is_shown(items))?;
+            Ok(Request::Set(s))
+        }
+        Asked::Reset(n) => {
+            counted(n, f.content)?;
+            Ok(Request::Reset)
+        }
+    }
+}
+
+// The cause of a frame that can't be read. A From stands with its type, and the crate of Fault has no function.
 pub fn fault_cause(fault: Fault) -> u8
     ensures { result ≡ fault_cause fault }
 {
     match fault {
-        Fault::Unknown => 4,
-        Fault::Count => 2,
-        Fault::Value => 5,
+        Fault::Unknown => Cause::Unknown as u8,
+        Fault::Count => Cause::Count as u8,
+        Fault::Value => Cause::Value as u8,
     }
 }
 

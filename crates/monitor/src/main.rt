@@ -4,7 +4,7 @@
 
 #![tactic(auto)]
 
-ghost use Rattle.std.specs.Prelude.{◌≡◌, ◌↔◌, ◌+◌, ◌*◌, ◌^◌, ◌<◌, ◌≤◌, length, IsTrue};
+ghost use Rattle.std.specs.Prelude.{◌≡◌, ◌↔◌, ℕ, ◌+◌, ◌*◌, ◌^◌, ◌<◌, ◌≤◌, length, IsTrue, IfSome};
 ghost use Rattle.text_rules.specs.Import.{Fit, stage_of};
 ghost use Rattle.monitor_file.specs.Looking.{Fit as PartFit, gone};
 ghost use Rattle.monitor_file.specs.Spots.{Near};
@@ -23,21 +23,37 @@ const BLOCK: usize = 65536;
 // How many blocks an input may have. A proved loop has to end, and nothing says that a file does: no run uses this number up.
 const BLOCKS: u64 = 140_737_488_355_328;
 
-// Where an import is: its reader, where the next character stands, and whether to stop.
+// What is made of an input, block by block: the state between two blocks, with its place in the input and the room that each byte of a block needs.
+trait Conversion: Copy {
+    ghost ready: { Self → Type 0 };
+
+    ghost offset: { Self → ℕ };
+
+    ghost room: { ℕ };
+
+    // A piece of the input; nothing where the conversion stops there.
+    fn piece<R: Print + Eprint>(self, rt: &R, bytes: &[u8], out: &mut [u8]) -> Option<Self>
+        requires { ready self × (offset self + length bytes.now + 2 < 2 ^ 64) × (room * length bytes.now ≤ length out.old) }
+        ensures { IfSome result (λ r. ready r × (offset r ≤ offset self + length bytes.now)) };
+
+    // The input's end.
+    fn end<R: Print + Eprint>(self, rt: &R)
+        requires { ready self };
+}
+
+// Where an import is: its reader, and where the next character stands.
 #[derive(Clone, Copy)]
 struct Importing {
     reader: Reader,
     spot: Spot,
-    over: bool,
 }
 
-// Where an export is: what comes next in the file, the column where the next byte goes, the offset of the file's next byte, and whether to stop.
+// Where an export is: what comes next in the file, the column where the next byte goes, and the offset of the file's next byte.
 #[derive(Clone, Copy)]
 struct Exporting {
     part: Part,
     column: u8,
     offset: u64,
-    over: bool,
 }
 
 fn tell(rt: &impl Eprint, what: &str, offset: u64) {
@@ -54,92 +70,44 @@ fn tell_record(rt: &impl Eprint, offset: u64) {
     let _ = eprintln!(rt);
 }
 
-// A piece of the text: its records are written up to a character that can't stand there, which is told.
-fn import_piece<R: Print + Eprint>(rt: &R, s: Importing, text: &[u8], out: &mut [u8]) -> Importing
-    requires { Fit (stage_of s.reader) × Near s.spot × (s.spot.offset + length text.now + 2 < 2 ^ 64) × (3 * length text.now ≤ length out.old) }
-    ensures { Fit (stage_of result.reader) × Near result.spot × (result.spot.offset ≤ s.spot.offset + length text.now) }
-{
-    let reader = s.reader;
-    let read = text_import::put_records(reader, text, out);
-    let wrote = 3 * read.bytes;
-    let is_written = base_files::put(rt, &out[..wrote]);
-    let count = read.count;
-    let from = s.spot;
-    let spot = monitor_file::spot_after(from, &text[..count]);
-    let next = read.reader;
-    let is_bad = count < text.len();
-    if is_bad {
-        tell_spot(rt, "bad text", spot);
-    }
-    Importing {
-        reader: next,
-        spot,
-        over: is_bad | !is_written,
-    }
-}
+impl Conversion for Importing {
+    ghost ready = { λ s. Fit (stage_of s.reader) × Near s.spot };
 
-// The text's end, which is told where the text may not end there.
-fn import_end(rt: &impl Eprint, s: Importing) -> Importing
-    ensures { (result.reader ≡ s.reader) × (result.spot ≡ s.spot) }
-{
-    if !text_import::may_end(s.reader) {
-        tell_spot(rt, "text breaks off", s.spot);
-    }
-    Importing { over: true, ..s }
-}
+    ghost offset = { λ s. s.spot.offset };
 
-// Reads the next block.
-fn import_block<R: Print + Eprint, F: Read>(
-    rt: &R,
-    input: &mut F,
-    s: Importing,
-    buf: &mut [u8],
-    out: &mut [u8],
-) -> Importing
-    requires { Fit (stage_of s.reader) × Near s.spot × (s.spot.offset + length buf.old + 2 < 2 ^ 64) × (3 * length buf.old ≤ length out.old) }
-    ensures { Fit (stage_of result.reader) × Near result.spot × (result.spot.offset ≤ s.spot.offset + length buf.old) }
-{
-    match input.read(buf) {
-        Ok(0) => import_end(rt, s),
-        Ok(n) => import_piece(rt, s, &buf[..n], out),
-        Err(error) => {
-            base_files::fail(rt, "read", error);
-            Importing { over: true, ..s }
+    ghost room = { 3 };
+
+    // Its records are written up to a character that can't stand there, which is told.
+    fn piece<R: Print + Eprint>(self, rt: &R, text: &[u8], out: &mut [u8]) -> Option<Importing> {
+        let read = text_import::put_records(self.reader, text, out);
+        let wrote = 3 * read.bytes;
+        let is_written = base_files::put(rt, &out[..wrote]);
+        let count = read.count;
+        let spot = monitor_file::spot_after(self.spot, &text[..count]);
+        let is_bad = count < text.len();
+        if is_bad {
+            tell_spot(rt, "bad text", spot);
+        }
+        if is_bad | !is_written {
+            return None;
+        }
+        Some(Importing {
+            reader: read.reader,
+            spot,
+        })
+    }
+
+    // It is told where the text may not end there.
+    fn end<R: Print + Eprint>(self, rt: &R) {
+        if !text_import::may_end(self.reader) {
+            tell_spot(rt, "text breaks off", self.spot);
         }
     }
-}
-
-// The blocks, until the text ends or is at fault.
-fn import_all<R: Print + Eprint, F: Read>(rt: &R, input: &mut F, buf: &mut [u8], out: &mut [u8])
-    requires { (length buf.old ≤ 65536) × (3 * length buf.old ≤ length out.old) }
-{
-    let mut s = Importing {
-        reader: text_import::begin(),
-        spot: Spot {
-            offset: 0,
-            line: 1,
-            column: 1,
-        },
-        over: false,
-    };
-    for _ in 0..BLOCKS {
-        s = import_block(rt, input, s, buf, out);
-        if s.over {
-            return;
-        }
-    }
-}
-
-fn import<R: Print + Eprint, F: Read>(rt: &R, input: &mut F) {
-    let mut buf = [0u8; BLOCK];
-    let mut out = [0u8; 3 * BLOCK];
-    import_all(rt, input, &mut buf, &mut out);
 }
 
 // Where the file ends or is at fault: the last line is ended, and a record that is bad or cut is told by where it begins.
-fn export_end<R: Print + Eprint>(rt: &R, s: Exporting, is_bad: bool) -> Exporting
+fn export_end<R: Print + Eprint>(rt: &R, s: Exporting, is_bad: bool)
     requires { PartFit s.part × (gone s.part ≤ s.offset) }
-    ensures { (result.part ≡ s.part) × (result.column ≡ s.column) × (result.offset ≡ s.offset) }
 {
     let mut end = [0u8; 1];
     let n = text_export::put_closing(&mut end, 0, s.column);
@@ -148,75 +116,107 @@ fn export_end<R: Print + Eprint>(rt: &R, s: Exporting, is_bad: bool) -> Exportin
     if is_bad | (0 < taken) {
         tell_record(rt, s.offset - taken);
     }
-    Exporting { over: true, ..s }
 }
 
-// A piece of the file: its line bytes are shown up to a byte that can't stand there.
-fn export_piece<R: Print + Eprint>(rt: &R, s: Exporting, file: &[u8], out: &mut [u8]) -> Exporting
-    requires { PartFit s.part × (s.column < 16) × (gone s.part ≤ s.offset) × (s.offset + length file.now < 2 ^ 64) × (5 * length file.now ≤ length out.old) }
-    ensures { PartFit result.part × (result.column < 16) × (gone result.part ≤ result.offset) × (result.offset ≤ s.offset + length file.now) }
-{
-    let from = s.part;
-    let looked = monitor_file::put_looked(from, s.column, file, out);
-    let wrote = looked.wrote;
-    let is_written = base_files::put(rt, &out[..wrote]);
-    let count = looked.count;
-    let part = looked.part;
-    let next = Exporting {
-        part,
-        column: looked.column,
-        offset: s.offset + count as u64,
-        over: !is_written,
-    };
-    if is_written & (count < file.len()) {
-        return export_end(rt, next, true);
+impl Conversion for Exporting {
+    ghost ready = { λ s. PartFit s.part × (s.column < 16) × (gone s.part ≤ s.offset) };
+
+    ghost offset = { λ s. s.offset };
+
+    ghost room = { 5 };
+
+    // Its line bytes are shown up to a byte that can't stand there.
+    fn piece<R: Print + Eprint>(self, rt: &R, file: &[u8], out: &mut [u8]) -> Option<Exporting> {
+        let looked = monitor_file::put_looked(self.part, self.column, file, out);
+        let wrote = looked.wrote;
+        if !base_files::put(rt, &out[..wrote]) {
+            return None;
+        }
+        let count = looked.count;
+        let next = Exporting {
+            part: looked.part,
+            column: looked.column,
+            offset: self.offset + count as u64,
+        };
+        if count < file.len() {
+            export_end(rt, next, true);
+            return None;
+        }
+        Some(next)
     }
-    next
+
+    fn end<R: Print + Eprint>(self, rt: &R) {
+        export_end(rt, self, false);
+    }
 }
 
-// Reads the next block.
-fn export_block<R: Print + Eprint, F: Read>(
+// Reads the next block; nothing where the input ends or can't be read, or where the conversion stops.
+fn block<C: Conversion, R: Print + Eprint, F: Read>(
     rt: &R,
     input: &mut F,
-    s: Exporting,
+    state: C,
     buf: &mut [u8],
     out: &mut [u8],
-) -> Exporting
-    requires { PartFit s.part × (s.column < 16) × (gone s.part ≤ s.offset) × (s.offset + length buf.old < 2 ^ 64) × (5 * length buf.old ≤ length out.old) }
-    ensures { PartFit result.part × (result.column < 16) × (gone result.part ≤ result.offset) × (result.offset ≤ s.offset + length buf.old) }
+) -> Option<C>
+    requires { C.ready state × (C.offset state + length buf.old + 2 < 2 ^ 64) × (C.room * length buf.old ≤ length out.old) }
+    ensures { IfSome result (λ r. C.ready r × (C.offset r ≤ C.offset state + length buf.old)) }
 {
     match input.read(buf) {
-        Ok(0) => export_end(rt, s, false),
-        Ok(n) => export_piece(rt, s, &buf[..n], out),
+        Ok(0) => {
+            state.end(rt);
+            None
+        }
+        Ok(n) => state.piece(rt, &buf[..n], out),
         Err(error) => {
             base_files::fail(rt, "read", error);
-            Exporting { over: true, ..s }
+            None
         }
     }
 }
 
-// The blocks, until the file ends or is at fault.
-fn export_all<R: Print + Eprint, F: Read>(rt: &R, input: &mut F, buf: &mut [u8], out: &mut [u8])
-    requires { (length buf.old ≤ 65536) × (5 * length buf.old ≤ length out.old) }
+// The blocks, until the input ends or is at fault.
+fn blocks<C: Conversion, R: Print + Eprint, F: Read>(
+    rt: &R,
+    input: &mut F,
+    start: C,
+    buf: &mut [u8],
+    out: &mut [u8],
+)
+    requires { C.ready start × (C.offset start ≡ 0) × (length buf.old ≤ 65536) × (C.room * length buf.old ≤ length out.old) }
 {
-    let mut s = Exporting {
-        part: Part::Kind,
-        column: 0,
-        offset: 0,
-        over: false,
-    };
+    let mut state = start;
     for _ in 0..BLOCKS {
-        s = export_block(rt, input, s, buf, out);
-        if s.over {
+        let Some(next) = block(rt, input, state, buf, out) else {
             return;
-        }
+        };
+        state = next;
     }
+}
+
+fn import<R: Print + Eprint, F: Read>(rt: &R, input: &mut F) {
+    let mut buf = [0u8; BLOCK];
+    let mut out = [0u8; 3 * BLOCK];
+    let spot = Spot {
+        offset: 0,
+        line: 1,
+        column: 1,
+    };
+    let start = Importing {
+        reader: text_import::begin(),
+        spot,
+    };
+    blocks(rt, input, start, &mut buf, &mut out);
 }
 
 fn export<R: Print + Eprint, F: Read>(rt: &R, input: &mut F) {
     let mut buf = [0u8; BLOCK];
     let mut out = [0u8; 5 * BLOCK];
-    export_all(rt, input, &mut buf, &mut out);
+    let start = Exporting {
+        part: Part::Kind,
+        column: 0,
+        offset: 0,
+    };
+    blocks(rt, input, start, &mut buf, &mut out);
 }
 
 fn usage(rt: &impl Eprint) {

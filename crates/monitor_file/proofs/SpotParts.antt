@@ -6,6 +6,8 @@ use Prim.Native.Nat.{ℕ, suc, ◌+◌, ◌≤◌}
 use native.Mathlib.Omega.{arith}
 use lib.ListN.{length}
 use lib.Dec.{eqb}
+use Rattle.std.proofs.Common.{◌==◌, count_by}
+use Rattle.std.proofs.lemmas.List.Recursion.{is_count_by}
 use Rattle.base_text.specs.Digits.{newline}
 use Rattle.text_rules.specs.Records.{mark_of}
 use Rattle.text_rules.specs.Promises.{occurs}
@@ -42,6 +44,14 @@ spot_line s (c ∷ cs) = spot_line (onward s c) cs ∙ go (eqb c newline)
     go : (a : Bool) → cond a (s.line + 1) s.line + occurs newline cs ≡ s.line + (mark_of a + occurs newline cs)
     go true = omega arith
     go false = omega arith
+
+-- newlines as the code counts them
+pub newlines_counted : (t : List ℕ) → occurs newline t ≡ count_by (λ c. c == newline) t
+newlines_counted = is_count_by (occurs newline) (λ c. c == newline) refl (λ c cs. go (eqb c newline) (occurs newline cs))
+  where
+    go : (a : Bool) (n : ℕ) → mark_of a + n ≡ cond a (1 + n) n
+    go true n = refl
+    go false n = omega arith
 
 -- no newline is among the characters, or one is the last
 pub spot_none : (s : Spot) (t : List ℕ) → occurs newline t ≡ 0 → (spot_after s t).column ≡ s.column + length t

@@ -3,14 +3,14 @@
 
 #![tactic(auto)]
 
-ghost use Rattle.std.specs.Prelude.{◌≡◌, ◌+◌, ◌*◌, ◌^◌, ◌<◌, ◌≤◌, length};
+ghost use Rattle.std.specs.Prelude.{◌≡◌, ◌==◌, ◌+◌, ◌*◌, ◌^◌, ◌<◌, ◌≤◌, length, count_by};
 ghost use Rattle.base_layout.specs.Bytes.{pasted};
 ghost use Rattle.base_text.specs.Digits.{newline};
 ghost use Rattle.text_rules.specs.Export.{text_from};
-ghost use Rattle.text_rules.specs.Promises.{occurs};
 ghost use Rattle.monitor_file.specs.Looking.{begun, marked, passed, step, Fit, gone, look_from, look_of};
 ghost use Rattle.monitor_file.specs.Spots.{spot_after, Near};
 
+use replay_file::Kind;
 use text_rules::{LINE_KIND, PER_LINE};
 
 // What comes next in the file: a record's kind; a line byte's mark; its value, with the mark that it had; or so many bytes more of a body of another kind.
@@ -22,7 +22,8 @@ pub enum Part {
     Rest(u8, u8),
 }
 
-// What a byte of the file brings: more of a record; a byte of the line, marked or not, with which its record ends; or no file has it there.
+// What a byte of the file brings: more of a record; a byte of the line, marked or not, with which its record ends; or no file has it there. An Option of the
+// first two would be told apart by the same three arms at its one use.
 #[derive(Clone, Copy)]
 pub enum Took {
     More(Part),
@@ -54,10 +55,10 @@ fn begun(kind: u8) -> Took
     if kind == LINE_KIND {
         return Took::More(Part::Mark);
     }
-    if replay_file::KINDS <= kind {
+    let Ok(known) = Kind::try_from(kind) else {
         return Took::Cannot;
-    }
-    let left = replay_file::body_len(kind) as u8;
+    };
+    let left = known.body_len() as u8;
     if left == 0 {
         return Took::More(Part::Kind);
     }
@@ -119,18 +120,13 @@ pub fn put_looked(from: Part, first: u8, file: &[u8], room: &mut [u8]) -> Looked
     let mut part = from;
     let mut column = first;
     let mut wrote: usize = 0;
-    let mut i: usize = 0;
-    while i < file.len() {
-        match step(part, file[i]) {
-            Took::More(next) => {
-                part = next;
-                i += 1;
-            }
+    for (i, &byte) in file.iter().enumerate() {
+        match step(part, byte) {
+            Took::More(next) => part = next,
             Took::Ended(value, mark) => {
                 wrote = text_export::put_byte(room, wrote, column, value, mark);
                 column = (column + 1) % PER_LINE;
                 part = Part::Kind;
-                i += 1;
             }
             Took::Cannot => {
                 return Looked {
@@ -144,7 +140,7 @@ pub fn put_looked(from: Part, first: u8, file: &[u8], room: &mut [u8]) -> Looked
     }
     Looked {
         part,
-        count: i,
+        count: file.len(),
         column,
         wrote,
     }
@@ -152,20 +148,13 @@ pub fn put_looked(from: Part, first: u8, file: &[u8], room: &mut [u8]) -> Looked
 
 // How many newlines stand in a text.
 fn newlines(text: &[u8]) -> usize
-    ensures { result ≡ occurs newline text.now }
+    ensures { result ≡ count_by (λ c. c == newline) text.now }
 {
-    let mut count: usize = 0;
-    let mut i: usize = 0;
-    while i < text.len() {
-        if text[i] == b'\n' {
-            count += 1;
-        }
-        i += 1;
-    }
-    count
+    text.iter().filter(|&&c| c == b'\n').count()
 }
 
-// The column behind a text's characters, by the newline that is found first from their end.
+// The column behind a text's characters, by the newline that is found first from their end. `rposition` finds it too, but what the library says of it leaves
+// the column's proof open.
 fn column_behind(from: Spot, text: &[u8]) -> u64
     requires { from.column + length text.now < 2 ^ 64 }
     ensures { result ≡ (spot_after from text.now).column }

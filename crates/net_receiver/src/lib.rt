@@ -9,6 +9,7 @@ ghost use Rattle.net_rules.specs.Record.{receiver_in, receiver_bytes, ok_receive
 
 use line_receiver::Receiver;
 
+// The fifteen stand as a list, here and below: by copies, to read, change and put a receiver compiled to 53 instructions in place of 31.
 pub fn receiver_in(s: &[u8]) -> Receiver
     requires { receiver_size ≤ length s.now }
     ensures { result ≡ receiver_in s.now }
@@ -61,30 +62,16 @@ pub fn put_receiver(net: &mut [u8], r: Receiver)
     base_layout::put_all(net, 0, &bytes);
 }
 
-// Whether the receiver's bytes are all 0. In a row they compile to one test.
+// Whether the receiver's bytes are all 0. With no early exit they compile to one test.
 fn is_blank(s: &[u8]) -> bool
     requires { receiver_size ≤ length s.now }
     ensures { result ≡ blank (read_at receiver_size 0 s.now) }
 {
-    (s[0] == 0)
-        & (s[1] == 0)
-        & (s[2] == 0)
-        & (s[3] == 0)
-        & (s[4] == 0)
-        & (s[5] == 0)
-        & (s[6] == 0)
-        & (s[7] == 0)
-        & (s[8] == 0)
-        & (s[9] == 0)
-        & (s[10] == 0)
-        & (s[11] == 0)
-        & (s[12] == 0)
-        & (s[13] == 0)
-        & (s[14] == 0)
-        & (s[net_rules::ADDRESS_AT] == 0)
-        & (s[net_rules::COMMAND_AT] == 0)
-        & (s[net_rules::FILL_AT] == 0)
-        & (s[net_rules::MARKED_AT] == 0)
+    let mut is_blank = true;
+    for byte in &s[..net_rules::RECEIVER_LEN] {
+        is_blank &= *byte == 0;
+    }
+    is_blank
 }
 
 pub fn is_receiver_ok(s: &[u8]) -> bool

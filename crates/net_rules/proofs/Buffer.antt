@@ -13,8 +13,7 @@ use Rattle.base_layout.specs.Bytes.{pasted, Bytes}
 use Rattle.base_layout.proofs.Pasted.{pasted_none, pasted_twice, length-pasted, put_part}
 use Rattle.line_receiver.specs.declared.Receiver.{Receiver}
 use Rattle.line_receiver.specs.declared.Received.{Received}
-use Rattle.line_receiver.specs.declared.Answer.{Answer}
-use Rattle.line_receiver.specs.declared.Answer.TheVariants.{Ended, Nothing}
+use Rattle.std.specs.Prelude.{Option, Some, None}
 use Rattle.line_receiver.specs.Receive.{taken}
 use Rattle.line_receiver.specs.Frames.{Byte, frame_in, ended_by, ends}
 use Rattle.line_receiver.specs.Promises.{Sound}
@@ -125,7 +124,7 @@ module _ {whole : Outcome Module} {s₀ room₀ : List ℕ} {rest : List Byte} {
   abbrev behind : ℕ
   behind = length room - w
 
-  pub room_enough : {d : Bool} → got.answer ≡ Ended d → room_size ≤ length (take behind (drop w room))
+  pub room_enough : {d : Bool} → got.answer ≡ Some d → room_size ≤ length (take behind (drop w room))
   room_enough e = let q = rw e at left_is in simp (length-take, length-drop) (omega (arith, m.enough, q))
 
   -- after the byte, where what is said to it stands behind what was written before
@@ -157,18 +156,18 @@ module _ {whole : Outcome Module} {s₀ room₀ : List ℕ} {rest : List Byte} {
   spoken : join (speech_by r got.answer s) ≡ x
   spoken = said_is r s m.bytes m.valid y eg
 
-  silent : got.answer ≡ Nothing → x ≡ []
+  silent : got.answer ≡ None → x ≡ []
   unfolding speech_by
-  silent e = sym spoken ∙ ap (λ (a : Answer). join (speech_by r a s)) e
+  silent e = sym spoken ∙ ap (λ (a : Option Bool). join (speech_by r a s)) e
 
   -- a byte that ends no frame
-  pub quiet : y.value < 256 → got.answer ≡ Nothing → Midway whole s₀ room₀ rest got.next s room w
+  pub quiet : y.value < 256 → got.answer ≡ None → Midway whole s₀ room₀ rest got.next s room w
   quiet small e =
       let z = silent e in
       onward_from small (nothing_more r s room e).1.0 (sym (pasted_none w room) ∙ ap (λ (l : List ℕ). pasted w l room) (sym z)) (omega (arith, ap length z))
 
   -- one that ends a frame, with what handing it on gives
-  module _ (small : y.value < 256) {d : Bool} (e : got.answer ≡ Ended d) {s' part : List ℕ} {c : Called}
+  module _ (small : y.value < 256) {d : Bool} (e : got.answer ≡ Some d) {s' part : List ℕ} {c : Called}
       (p : (c ≡ ended_of (frame_in r d) (get_or s count_at 0) s)
       × ((s' ≡ walked kind slots (frame_in r d) true (get_or s count_at 0) slots_at s)
       × (part ≡ pasted 0 (join (speech kind slots (frame_in r d) true (get_or s count_at 0) slots_at s)) (take behind (drop w room))))) where

@@ -1,5 +1,5 @@
 -- What the calls on a valid record give, put together. Assumes nothing.
-use mathlib.Core.Path.{◌≡◌, refl, sym, ap, ap₂, ◌∙◌}
+use mathlib.Core.Path.{◌≡◌, refl, sym, ap, ◌∙◌}
 use mathlib.Core.List.{List, [], ◌∷◌, ◌++◌, map}
 use mathlib.Core.Bool.{true, false, false≢true}
 use mathlib.Core.Option.{some, none}
@@ -9,8 +9,8 @@ use lib.Dec.{eqb}
 use lib.ListN.{length, get_or, get_elem?, take, drop, replicate, length-map}
 use Rattle.base_layout.specs.Bytes.{pasted, Bytes}
 use lib.Seq.{drop-cons}
-use Rattle.line_receiver.specs.declared.Answer.TheVariants.{Ended}
-use Rattle.line_receiver.specs.Receive.{idle, number_of}
+use Rattle.std.specs.Prelude.{Some}
+use Rattle.line_receiver.specs.Receive.{idle}
 use Rattle.line_receiver.specs.Frames.{Frame}
 use Rattle.chain_rules.specs.Chain.{Net}
 use Rattle.module_rules.specs.Slot.{station}
@@ -40,10 +40,10 @@ placed s place v h =
     record { size = w.size; most = w.most; below = l; good = place_ok lawful place (get_or s count_at 0) slots_at s l w.slots }
 
 -- what a frame that ended hands back, from the walk
-pub handed_on : (f : Frame) (n : ℕ) (s : List ℕ) {k : ℕ} {w : Walked} → k ≡ number_of (Ended f.damaged) → w ≡ walk_of f n s
-    → ◌≡◌ {A = Called} (record { number = k; written = w.written; lengths = w.lengths }) (ended_of f n s)
+pub handed_on : (f : Frame) (n : ℕ) (s : List ℕ) {w : Walked} → w ≡ walk_of f n s
+    → ◌≡◌ {A = Called} (record { ended = Some f.damaged; written = w.written; lengths = w.lengths }) (ended_of f n s)
 unfolding walk_of ended_of
-handed_on f n s {k} {w} ek ew = ap₂ (λ (k : ℕ) (w : Walked). record { number = k; written = w.written; lengths = w.lengths }) ek ew
+handed_on f n s e = ap (λ (w : Walked). record { ended = Some f.damaged; written = w.written; lengths = w.lengths }) e
 
 -- beyond the chain there is no module
 none_beyond : {A : Type 0} (xs : List A) (i : ℕ) → (i < length xs → ⊥) → get_elem? xs i ≡ none

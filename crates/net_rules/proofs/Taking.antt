@@ -8,14 +8,13 @@ use Rattle.base_layout.specs.Bytes.{pasted, Bytes}
 use Rattle.base_layout.proofs.Pasted.{pasted_none}
 use Rattle.line_receiver.specs.declared.Receiver.{Receiver}
 use Rattle.line_receiver.specs.declared.Received.{Received}
-use Rattle.line_receiver.specs.declared.Answer.{Answer}
-use Rattle.line_receiver.specs.declared.Answer.TheVariants.{Ended, Nothing}
-use Rattle.line_receiver.specs.Receive.{taken, number_of}
+use Rattle.std.specs.Prelude.{Option, Some, None}
+use Rattle.line_receiver.specs.Receive.{taken}
 use Rattle.line_receiver.specs.Frames.{Byte, frame_in}
 use Rattle.line_receiver.specs.Promises.{Sound}
 use Rattle.line_receiver.proofs.Kept.{kept}
 use Rattle.chain_rules.specs.Chain.{Net, Step, join, flat, said, byte_step}
-use Rattle.chain_rules.proofs.Bytes.{step-on, step_end, number_is, step-receiver}
+use Rattle.chain_rules.proofs.Bytes.{step-on, step_end, step-receiver}
 use Rattle.chain_rules.proofs.Replies.{flat-join}
 use Rattle.types_rules.specs.Types.{Module, kind, slots, Good}
 use Rattle.types_rules.proofs.Laws.{lawful}
@@ -39,19 +38,19 @@ net_with r s = record { receiver = r; modules = (net_in slots s).modules }
 -- ---- what places say to a byte
 
 module _ (n : Net Module) (y : Byte) (q : Receiver) where
-  spoken_on : taken n.receiver y.value y.mark ≡ record { next = q; answer = Nothing } → spoken_to kind n y ≡ []
+  spoken_on : taken n.receiver y.value y.mark ≡ record { next = q; answer = None } → spoken_to kind n y ≡ []
   unfolding spoken_to
   spoken_on e = rw (e, spoken_to)
 
-  spoken_end : (d : Bool) → taken n.receiver y.value y.mark ≡ record { next = q; answer = Ended d }
+  spoken_end : (d : Bool) → taken n.receiver y.value y.mark ≡ record { next = q; answer = Some d }
       → spoken_to kind n y ≡ said kind (frame_in n.receiver d) true n.modules
   unfolding spoken_to
   spoken_end d e = rw (e, spoken_to)
 
-  flat_spoken : (a : Answer) → taken n.receiver y.value y.mark ≡ record { next = q; answer = a }
+  flat_spoken : (a : Option Bool) → taken n.receiver y.value y.mark ≡ record { next = q; answer = a }
       → join (spoken_to kind n y) ≡ flat (byte_step kind n y).replies
-  flat_spoken Nothing e = ap join (spoken_on e) ∙ ap (λ (t : Step Module). flat t.replies) (sym (step-on kind n y q e))
-  flat_spoken (Ended d) e =
+  flat_spoken None e = ap join (spoken_on e) ∙ ap (λ (t : Step Module). flat t.replies) (sym (step-on kind n y q e))
+  flat_spoken (Some d) e =
       ap join (spoken_end d e)
       ∙ sym (flat-join 0 (said kind (frame_in n.receiver d) true n.modules))
       ∙ ap (λ (t : Step Module). flat t.replies) (sym (step_end kind n y q d e))
@@ -60,16 +59,16 @@ module _ (n : Net Module) (y : Byte) (q : Receiver) where
 
 -- by its two cases, as the code has them
 module _ (r : Receiver) (s room : List ℕ) where
-  pub nothing_more : {a : Answer} → a ≡ Nothing
-      → (◌≡◌ {A = Called} (record { number = 0; written = 0; lengths = replicate chain_most 0 }) (answered_of r a s))
+  pub nothing_more : {a : Option Bool} → a ≡ None
+      → (◌≡◌ {A = Called} (record { ended = None; written = 0; lengths = replicate chain_most 0 }) (answered_of r a s))
       × ((s ≡ walked_by r a s) × (room ≡ pasted 0 (join (speech_by r a s)) room))
   unfolding answered_of walked_by speech_by
   nothing_more e = rw e (
-    ap (λ (l : List ℕ). record { number = 0; written = 0; lengths = l }) (sym (noted_none 0 (replicate chain_most 0))),
+    ap (λ (l : List ℕ). record { ended = None; written = 0; lengths = l }) (sym (noted_none 0 (replicate chain_most 0))),
     (refl, sym (pasted_none 0 room)),
   )
 
-  pub frame-ended : {a : Answer} {d : Bool} → a ≡ Ended d → {c : Called} {s' room' : List ℕ}
+  pub frame-ended : {a : Option Bool} {d : Bool} → a ≡ Some d → {c : Called} {s' room' : List ℕ}
       → (c ≡ ended_of (frame_in r d) (get_or s count_at 0) s)
       × ((s' ≡ walked kind slots (frame_in r d) true (get_or s count_at 0) slots_at s)
       × (room' ≡ pasted 0 (join (speech kind slots (frame_in r d) true (get_or s count_at 0) slots_at s)) room))
@@ -89,20 +88,20 @@ abbrev with_modules : List Module → List ℕ → List ℕ
 with_modules ms s = stored slots (record { receiver = receiver_in s; modules = ms }) s
 
 module _ (r : Receiver) (s : List ℕ) (b : Bytes s) (v : valid slots s ≡ true) (y : Byte) where
-  speech_by_lem : (a : Answer) (q : Receiver) → taken r y.value y.mark ≡ record { next = q; answer = a } → speech_by r a s ≡ spoken_to kind (net_with r s) y
+  speech_by_lem : (a : Option Bool) (q : Receiver) → taken r y.value y.mark ≡ record { next = q; answer = a } → speech_by r a s ≡ spoken_to kind (net_with r s) y
   unfolding speech_by
-  speech_by_lem Nothing q e = sym (spoken_on (net_with r s) y q e)
-  speech_by_lem (Ended d) q e =
+  speech_by_lem None q e = sym (spoken_on (net_with r s) y q e)
+  speech_by_lem (Some d) q e =
       ap (λ (l : List ℕ). speech kind slots (frame_in r d) true (get_or s count_at 0) slots_at l) (own_head s b v)
       ∙ speech_is kind lawful s b v (receiver_in s) (frame_in r d)
       ∙ sym (spoken_end (net_with r s) y q d e)
 
-  walked_by_lem : (a : Answer) (q : Receiver) → taken r y.value y.mark ≡ record { next = q; answer = a }
+  walked_by_lem : (a : Option Bool) (q : Receiver) → taken r y.value y.mark ≡ record { next = q; answer = a }
       → walked_by r a s ≡ with_modules (byte_step kind (net_with r s) y).net.modules s
   unfolding walked_by net_in
-  walked_by_lem Nothing q e =
+  walked_by_lem None q e =
       sym (there lawful s b v) ∙ ap (λ (t : Step Module). with_modules t.net.modules s) (sym (step-on kind (net_with r s) y q e))
-  walked_by_lem (Ended d) q e =
+  walked_by_lem (Some d) q e =
       ap (λ (l : List ℕ). walked kind slots (frame_in r d) true (get_or s count_at 0) slots_at l) (own_head s b v)
       ∙ walked_is kind lawful s b v (receiver_in s) (frame_in r d)
       ∙ ap (λ (t : Step Module). with_modules t.net.modules s) (sym (step_end kind (net_with r s) y q d e))
@@ -115,11 +114,10 @@ module _ (r : Receiver) (s : List ℕ) (b : Bytes s) (v : valid slots s ≡ true
     pub called_is : answered_of r got.answer s ≡ called_by (net_with r s) y
     unfolding answered_of called_by
     called_is =
-        let number = ap number_of (ap (λ (g : Received). g.answer) eg) ∙ sym (number_is kind (net_with r s) y) in
-        ap₂ (λ (k : ℕ) (ws : List (List ℕ)). record { number = k; written = length (join ws); lengths = noted ws 0 (replicate chain_most 0) })
-        number (speech_by_lem got.answer got.next (sym eg))
+        ap₂ (λ (a : Option Bool) (ws : List (List ℕ)). record { ended = a; written = length (join ws); lengths = noted ws 0 (replicate chain_most 0) })
+        (ap (λ (g : Received). g.answer) eg) (speech_by_lem got.answer got.next (sym eg))
         ∙ ap (λ (x : List ℕ). record {
-          number = (byte_step kind (net_with r s) y).number;
+          ended = (taken r y.value y.mark).answer;
           written = length x;
           lengths = noted (spoken_to kind (net_with r s) y) 0 (replicate chain_most 0);
         }) (flat_spoken (net_with r s) y got.next got.answer (sym eg))

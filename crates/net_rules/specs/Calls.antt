@@ -1,9 +1,8 @@
 -- What the calls on a network mean, before their refusals (document 01, "What the boards do", "Numbers given back").
-use Rattle.std.specs.Prelude.{ℕ, zero, suc, ◌+◌, ◌*◌, List, [], ◌∷◌, map, Bool, true, false, ◌&&◌, length, replicate, set, get_or, take, drop, eqb, leb}
+use Rattle.std.specs.Prelude.{ℕ, zero, suc, ◌+◌, ◌*◌, List, [], ◌∷◌, map, Bool, true, false, ◌&&◌, length, replicate, set, get_or, take, drop, eqb, leb, Some, None}
 use Rattle.std.proofs.Math.Option.{Option, some, none}
 use Rattle.std.proofs.Math.ListN.{get_elem?}
 use Rattle.line_receiver.specs.declared.Received.{Received}
-use Rattle.line_receiver.specs.declared.Answer.TheVariants.{Ended, Nothing}
 use Rattle.line_receiver.specs.Receive.{idle, taken}
 use Rattle.line_receiver.specs.Frames.{Byte, frame_in}
 use Rattle.module_rules.specs.Kind.{Kind}
@@ -99,17 +98,17 @@ cause_at n place = cause_in (get_elem? n.modules place)
 unfoldable pub spoken_to : {M S : Type 0} → Kind M S → Net M → Byte → List (List ℕ)
 spoken_to K n b =
     let t : Received = taken n.receiver b.value b.mark in
-    elim t.answer [ Nothing ↦ [] | Ended d ↦ said K (frame_in n.receiver d) true n.modules ]
+    elim t.answer [ None ↦ [] | Some d ↦ said K (frame_in n.receiver d) true n.modules ]
 
 -- the lengths of what is said, put into a list from place i on
 unfoldable pub noted : List (List ℕ) → ℕ → List ℕ → List ℕ
 noted [] i l = l
 noted (w ∷ ws) i l = noted ws (i + 1) (set l i (length w))
 
--- what the byte call hands back: its number, the length of all replies, and of each place's
+-- what the byte call hands back: the receiver's answer, the length of all replies, and of each place's
 unfoldable pub called_by : Net Module → Byte → Called
 called_by n b = record {
-  number = (byte_step kind n b).number;
+  ended = (taken n.receiver b.value b.mark).answer;
   written = length (flat (byte_step kind n b).replies);
   lengths = noted (spoken_to kind n b) 0 (replicate chain_most 0);
 }

@@ -1,11 +1,8 @@
 -- A reader of the meaning may skip this file: the walk along the slots of a record in the order in which the code goes, one module after another, each
 -- from its own slot. That it is the chain's own definition is a theorem (proofs/Exact.antt).
-use Rattle.std.specs.Prelude.{ℕ, zero, suc, ◌+◌, List, [], ◌∷◌, Bool, true, cond, ◌&&◌, take, drop, length, replicate, get_or}
+use Rattle.std.specs.Prelude.{ℕ, zero, suc, ◌+◌, List, [], ◌∷◌, Bool, true, cond, ◌&&◌, take, drop, length, replicate, get_or, Option, Some, None}
 use Rattle.base_layout.specs.Bytes.{pasted}
 use Rattle.line_receiver.specs.declared.Receiver.{Receiver}
-use Rattle.line_receiver.specs.declared.Answer.{Answer}
-use Rattle.line_receiver.specs.declared.Answer.TheVariants.{Ended, Nothing}
-use Rattle.line_receiver.specs.Receive.{number_of}
 use Rattle.line_receiver.specs.Frames.{Frame, frame_in}
 use Rattle.module_rules.specs.Touch.{named}
 use Rattle.module_rules.specs.Kind.{Kind, executed, replied}
@@ -65,23 +62,23 @@ walk_of f n s = record {
 -- what the code hands back where a frame ended, by the frame
 unfoldable pub ended_of : Frame → ℕ → List ℕ → Called
 ended_of f n s = record {
-  number = number_of (Ended f.damaged);
+  ended = Some f.damaged;
   written = length (join (speech kind slots f true n slots_at s));
   lengths = noted (speech kind slots f true n slots_at s) 0 (replicate chain_most 0);
 }
 
 -- by the receiver's answer: what is said, the record after it, and what the code hands back
-unfoldable pub speech_by : Receiver → Answer → List ℕ → List (List ℕ)
-speech_by r Nothing s = []
-speech_by r (Ended d) s = speech kind slots (frame_in r d) true (get_or s count_at 0) slots_at s
+unfoldable pub speech_by : Receiver → Option Bool → List ℕ → List (List ℕ)
+speech_by r None s = []
+speech_by r (Some d) s = speech kind slots (frame_in r d) true (get_or s count_at 0) slots_at s
 
-unfoldable pub walked_by : Receiver → Answer → List ℕ → List ℕ
-walked_by r Nothing s = s
-walked_by r (Ended d) s = walked kind slots (frame_in r d) true (get_or s count_at 0) slots_at s
+unfoldable pub walked_by : Receiver → Option Bool → List ℕ → List ℕ
+walked_by r None s = s
+walked_by r (Some d) s = walked kind slots (frame_in r d) true (get_or s count_at 0) slots_at s
 
-unfoldable pub answered_of : Receiver → Answer → List ℕ → Called
+unfoldable pub answered_of : Receiver → Option Bool → List ℕ → Called
 answered_of r a s = record {
-  number = number_of a;
+  ended = a;
   written = length (join (speech_by r a s));
   lengths = noted (speech_by r a s) 0 (replicate chain_most 0);
 }

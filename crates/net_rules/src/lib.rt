@@ -32,10 +32,10 @@ pub const BUFFER_ENDS: usize = 16;
 
 pub const BUFFER_ROOM_LEN: usize = BUFFER_ENDS * ROOM_LEN;
 
-// What a byte call hands back: its number, the length of all replies, and of the reply of each place.
+// What a byte call hands back: whether the frame that ended is damaged, where one did, the length of all replies, and of the reply of each place.
 #[derive(Clone, Copy)]
 pub struct Called {
-    pub number: u32,
+    pub ended: Option<bool>,
     pub written: usize,
     pub lengths: [u8; CHAIN_MOST],
 }

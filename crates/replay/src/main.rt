@@ -3,14 +3,14 @@
 
 #![tactic(auto)]
 
-ghost use Rattle.std.specs.Prelude.{◌≡◌, ◌+◌, ◌-◌, ◌^◌, ◌<◌, ◌≤◌, length, drop};
+ghost use Rattle.std.specs.Prelude.{◌≡◌, ◌+◌, ◌-◌, ◌^◌, ◌<◌, ◌≤◌, length, drop, IfSome};
 ghost use Rattle.std.proofs.Math.Seq.{paste};
 ghost use Rattle.replay_file.specs.Turns.{Held};
 ghost use Rattle.net_rules.specs.Record.{chain_most, record_size};
 ghost use Rattle.net_rules.specs.Calls.{list_size};
 ghost use Rattle.replay_print.specs.Text.{text_size};
 
-use replay_file::Place;
+use replay_file::{Course, Place};
 use std::io::Read;
 use std::rt::{Env, Files};
 
@@ -20,14 +20,14 @@ const BLOCK: usize = 65536;
 // How many turns a replay may have. A proved loop has to end, and nothing says that a file does: no run uses this number up.
 const TURNS: u64 = 1_152_921_504_606_846_976;
 
-// Where the program is: the replay's place, the bytes of the buffer that are not taken yet, whether the file has no more, and whether to stop.
+// Where the program is: the replay's place, the bytes of the buffer that are not taken yet, and whether the file has no more. The buffer has a fixed
+// size, since there is no heap, so these bytes are told by where they begin and end.
 #[derive(Clone, Copy)]
 struct State {
     at: Place,
     start: usize,
     end: usize,
     last: bool,
-    over: bool,
 }
 
 // Moves the bytes from start to end to the front.
@@ -38,7 +38,7 @@ fn keep(buf: &mut [u8], start: usize, end: usize)
     buf.copy_within(start..end, 0);
 }
 
-// Reads more behind the bytes that are not taken yet.
+// Reads more behind the bytes that are not taken yet; nothing where that fails.
 fn refill<F: Read>(
     rt: &impl Eprint,
     input: &mut F,
@@ -46,34 +46,27 @@ fn refill<F: Read>(
     start: usize,
     end: usize,
     buf: &mut [u8],
-) -> State
+) -> Option<State>
     requires { (start ≤ end) × (end ≤ length buf.old) }
-    ensures { (result.at ≡ at) × (result.start ≤ result.end) × (result.end ≤ length buf.old) }
+    ensures { IfSome result (λ s. (s.at ≡ at) × (s.start ≤ s.end) × (s.end ≤ length buf.old)) }
 {
     keep(buf, start, end);
     let n = end - start;
     match input.read(&mut buf[n..]) {
-        Ok(more) => State {
+        Ok(more) => Some(State {
             at,
             start: 0,
             end: n + more,
             last: more == 0,
-            over: false,
-        },
+        }),
         Err(error) => {
             base_files::fail(rt, "read", error);
-            State {
-                at,
-                start: 0,
-                end: n,
-                last: true,
-                over: true,
-            }
+            None
         }
     }
 }
 
-// A turn of the replay, with what it prints written out.
+// A turn of the replay, with what it prints written out; nothing where the replay is over.
 fn step<R: Print + Eprint, F: Read>(
     rt: &R,
     input: &mut F,
@@ -83,32 +76,37 @@ fn step<R: Print + Eprint, F: Read>(
     samples: &mut [u8],
     net: &mut [u8],
     out: &mut [u8],
-) -> State
+) -> Option<State>
     requires held { Held s.at types.old samples.old net.old }
     requires offset_bound { (s.at.offset + 11 < 2 ^ 64) × (s.start ≤ s.end) × (s.end ≤ length buf.old) × (text_size ≤ length out.old) }
-    ensures held_2 { Held result.at types.new samples.new net.new }
-    ensures offset_bound_2 { (result.at.offset ≤ s.at.offset + 11) × (result.start ≤ result.end) × (result.end ≤ length buf.old) }
+    ensures held_2 { IfSome result (λ r. Held r.at types.new samples.new net.new) }
+    ensures offset_bound_2 { IfSome result (λ r. (r.at.offset ≤ s.at.offset + 11) × (r.start ≤ r.end) × (r.end ≤ length buf.old)) }
 {
-    let at = s.at;
-    let start = s.start;
-    let end = s.end;
-    let t = replay_play::turn(at, types, samples, net, &buf[start..end], s.last, out);
-    let wrote = t.wrote;
-    let is_written = base_files::put(rt, &out[..wrote]);
-    let next = t.next;
-    if t.wants {
-        return refill(rt, input, next, start, end, buf);
-    }
-    State {
-        at: next,
-        start: start + t.took,
+    let State {
+        at,
+        start,
         end,
-        last: s.last,
-        over: t.over | !is_written,
+        last,
+    } = s;
+    let t = replay_play::turn(at, types, samples, net, &buf[start..end], last, out);
+    let wrote = t.wrote;
+    if !base_files::put(rt, &out[..wrote]) {
+        return None;
+    }
+    match t.course {
+        Course::Over => None,
+        Course::Wants => refill(rt, input, t.next, start, end, buf),
+        Course::GoesOn => Some(State {
+            at: t.next,
+            start: start + t.took,
+            end,
+            last,
+        }),
     }
 }
 
-// The turns, until the replay is over.
+// The turns, until the replay is over. The three lent slices stay three, since each clause of `replay_play::turn` names one of them, and a struct of them
+// would say no more.
 fn run<R: Print + Eprint, F: Read>(
     rt: &R,
     input: &mut F,
@@ -125,13 +123,12 @@ fn run<R: Print + Eprint, F: Read>(
         start: 0,
         end: 0,
         last: false,
-        over: false,
     };
     for _ in 0..TURNS {
-        s = step(rt, input, s, buf, types, samples, net, out);
-        if s.over {
+        let Some(next) = step(rt, input, s, buf, types, samples, net, out) else {
             return;
-        }
+        };
+        s = next;
     }
 }
 

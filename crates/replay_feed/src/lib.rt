@@ -11,7 +11,7 @@ ghost use Rattle.replay_file.specs.Records.{bad, goes, running, body_length, lin
 ghost use Rattle.replay_file.specs.Turns.{turned, samples_after, net_after, text_after};
 ghost use Rattle.replay_print.specs.Text.{text_size};
 
-use replay_file::{Place, Turned};
+use replay_file::{Kind, Place, Turned};
 
 // A line byte, and the lines of the replies that it draws; it leaves the list of samples alone.
 fn take_byte(at: Place, body: &[u8], net: &mut [u8], out: &mut [u8]) -> Turned
@@ -80,7 +80,7 @@ fn take_tick(at: Place, samples: &[u8], net: &mut [u8]) -> Turned
     at.went(1, 0)
 }
 
-// A record of any kind but a module, at a network that is set up.
+// A record of any kind but a module, at a network that is set up. Its kind is any byte, as the file has it.
 pub fn take_other(
     at: Place,
     kind: u8,
@@ -96,12 +96,15 @@ pub fn take_other(
     ensures net_after { net.new ≡ net_after (net_record kind (net_in slots net.old) (take (list_size at.count) samples.old) body.now) net.old }
     ensures out_after { out.new ≡ pasted 0 (text_after (net_record kind (net_in slots net.old) (take (list_size at.count) samples.old) body.now) at.offset) out.old }
 {
+    let Ok(kind) = Kind::try_from(kind) else {
+        return at.bad(out);
+    };
     match kind {
-        1 => take_byte(at, body, net, out),
-        2 => take_sample(at, servo_rules::TYPE, body, samples, net, out),
-        3 => take_sample(at, inout_rules::TYPE, body, samples, net, out),
-        4 => take_tick(at, samples, net),
-        5 => take_sample(at, stepper_rules::TYPE, body, samples, net, out),
-        _ => at.bad(out),
+        Kind::Module => at.bad(out),
+        Kind::LineByte => take_byte(at, body, net, out),
+        Kind::ServoSample => take_sample(at, servo_rules::TYPE, body, samples, net, out),
+        Kind::IoSample => take_sample(at, inout_rules::TYPE, body, samples, net, out),
+        Kind::Tick => take_tick(at, samples, net),
+        Kind::StepperSample => take_sample(at, stepper_rules::TYPE, body, samples, net, out),
     }
 }

@@ -10,8 +10,7 @@ use Rattle.base_layout.specs.Bytes.{pasted}
 use Rattle.base_layout.proofs.Pasted.{pasted-start}
 use Rattle.line_receiver.specs.declared.Receiver.{Receiver}
 use Rattle.line_receiver.specs.declared.Received.{Received}
-use Rattle.line_receiver.specs.declared.Answer.{Answer}
-use Rattle.line_receiver.specs.declared.Answer.TheVariants.{Ended, Nothing}
+use Rattle.std.specs.Prelude.{Option, Some, None}
 use Rattle.line_receiver.specs.Receive.{taken}
 use Rattle.line_receiver.specs.Frames.{Byte, Frame, frame_in}
 use Rattle.module_rules.specs.Touch.{named}
@@ -41,11 +40,11 @@ word_short f (m ∷ ms) t zero = go (t && named f.address (kind.address m))
 word_short f (m ∷ ms) t (suc i) = word_short f ms (kind.address m).low i
 
 -- what places say to a byte, by the receiver's answer
-spoken_on : (n : Net Module) (b : Byte) (r : Receiver) → taken n.receiver b.value b.mark ≡ record { next = r; answer = Nothing } → spoken_to kind n b ≡ []
+spoken_on : (n : Net Module) (b : Byte) (r : Receiver) → taken n.receiver b.value b.mark ≡ record { next = r; answer = None } → spoken_to kind n b ≡ []
 unfolding spoken_to
 spoken_on n b r e = rw (e, spoken_to)
 
-spoken_end : (n : Net Module) (b : Byte) (r : Receiver) (d : Bool) → taken n.receiver b.value b.mark ≡ record { next = r; answer = Ended d }
+spoken_end : (n : Net Module) (b : Byte) (r : Receiver) (d : Bool) → taken n.receiver b.value b.mark ≡ record { next = r; answer = Some d }
     → spoken_to kind n b ≡ said kind (frame_in n.receiver d) true n.modules
 unfolding spoken_to
 spoken_end n b r d e = rw (e, spoken_to)
@@ -61,15 +60,15 @@ spoken n b =
     let t : Received = taken n.receiver b.value b.mark in
     go t.answer t.next refl
   where
-    go : (a : Answer) (r : Receiver) → taken n.receiver b.value b.mark ≡ record { next = r; answer = a } → Spoken n b
-    go Nothing r e =
+    go : (a : Option Bool) (r : Receiver) → taken n.receiver b.value b.mark ≡ record { next = r; answer = a } → Spoken n b
+    go None r e =
         let w = spoken_on n b r e in
         record {
           replies = rw (step-on kind n b r e, w) refl;
           count = rw w (omega arith);
           short = λ i. rw w (omega arith);
         }
-    go (Ended d) r e =
+    go (Some d) r e =
         let f : Frame = frame_in n.receiver d in
         let w = spoken_end n b r d e in
         record {

@@ -13,7 +13,7 @@ use Rattle.base_layout.proofs.Laws.{bytes_drop}
 use Rattle.replay_file.specs.declared.Place.{Place}
 use Rattle.replay_print.specs.Text.{bad_line}
 use Rattle.replay_file.specs.Records.{Stage, gathering, running, Effect, goes, bad, body_length, record_step, replay_from, replayed}
-use Rattle.replay_file.specs.Turns.{start, stage_in, Held, Outcome, over, wants, judged, head_size, turn_step, turned, text_after, turned_by, types_by, samples_by, net_by, text_by}
+use Rattle.replay_file.specs.Turns.{start, stage_in, is_over, Held, Outcome, over, wants, judged, head_size, turn_step, turned, text_after, turned_by, types_by, samples_by, net_by, text_by}
 use Rattle.replay_file.specs.Promises.{Run, stops, turns, Whole, Ends, HeadOnly}
 use Rattle.replay_file.proofs.Gathered.{never}
 use Rattle.replay_file.proofs.Fine.{by_cond, begun}
@@ -107,14 +107,14 @@ turn_is t s offset input more last honest l =
     (λ c. replay_whole t s offset input more (ltb-false (length input) (head_size input) c) l))
 
 -- a run's last turn, and one that is not
-stop_is : (t : ℕ) (o : Outcome) (at : Place) (s : Stage) (left : List ℕ) → (turned_by o at).over ≡ true → text_by o at.offset ≡ onward t o s at.offset left
+stop_is : (t : ℕ) (o : Outcome) (at : Place) (s : Stage) (left : List ℕ) → is_over (turned_by o at).course ≡ true → text_by o at.offset ≡ onward t o s at.offset left
 unfolding turned_by turned text_by text_after
 stop_is t over at s left h = refl
 stop_is t wants at s left h = never h
 stop_is t (judged size bad) at s left h = refl
 stop_is t (judged size (goes r said)) at s left h = never h
 
-go_is : (t : ℕ) (o : Outcome) (at : Place) (types samples net left text : List ℕ) → (turned_by o at).over ≡ false → LeadsBy at types samples net o
+go_is : (t : ℕ) (o : Outcome) (at : Place) (types samples net left text : List ℕ) → is_over (turned_by o at).course ≡ false → LeadsBy at types samples net o
     → text ≡ replay_from t (stage_in (turned_by o at).next (types_by o types) (samples_by o samples) (net_by o net)) (turned_by o at).next.offset (drop (turned_by o at).took left)
     → text_by o at.offset ++ text ≡ onward t o (stage_in at types samples net) at.offset left
 unfolding turned_by turned text_by text_after types_by samples_by net_by
@@ -190,14 +190,14 @@ module _ (at : Place) (types samples net left : List ℕ) where
       → SomeRun at types samples net (left ++ [])
   unfolding turned_by turned
   close_run over e p next =
-      record { text = text_by first at.offset; run = stops left [] true (λ q. refl) (ap (λ (o : Outcome). (turned_by o at).over) e) }
+      record { text = text_by first at.offset; run = stops left [] true (λ q. refl) (ap (λ (o : Outcome). is_over (turned_by o at).course) e) }
   close_run wants e p next = absurd p
   close_run (judged size bad) e p next =
-      record { text = text_by first at.offset; run = stops left [] true (λ q. refl) (ap (λ (o : Outcome). (turned_by o at).over) e) }
+      record { text = text_by first at.offset; run = stops left [] true (λ q. refl) (ap (λ (o : Outcome). is_over (turned_by o at).course) e) }
   close_run (judged size (goes s said)) e p next =
       let n : (turned_by first at).took ≡ size = ap (λ (o : Outcome). (turned_by o at).took) e in
       let r = next (omega arith) (omega arith) in
-      record { text = text_by first at.offset ++ r.text; run = turns left [] true (λ q. refl) (ap (λ (o : Outcome). (turned_by o at).over) e) r.run }
+      record { text = text_by first at.offset ++ r.text; run = turns left [] true (λ q. refl) (ap (λ (o : Outcome). is_over (turned_by o at).course) e) r.run }
 
 some_run : (t : ℕ) (at : Place) (types samples net left : List ℕ) → Held at types samples net → Bytes left → length left < t → SomeRun at types samples net left
 some_run zero at types samples net left k b l = absurd (omega arith)

@@ -5,18 +5,18 @@ use Rattle.net_rules.specs.Record.{record_size, chain_most}
 use Rattle.net_rules.specs.Calls.{list_size}
 use Rattle.replay_file.specs.declared.Place.{Place}
 use Rattle.replay_file.specs.Records.{Stage, bad, body_length, kinds, measured, record_step, replayed}
-use Rattle.replay_file.specs.Turns.{start, stage_in, head_size, turn_step, turned_by, types_by, samples_by, net_by, text_by}
+use Rattle.replay_file.specs.Turns.{start, stage_in, is_over, head_size, turn_step, turned_by, types_by, samples_by, net_by, text_by}
 
 -- 01 Replay file: a run of turns over the bytes that are left of a file, and all that it prints. Each turn is handed some of the bytes left, from the first on, as
 -- many as the caller likes; that they are the last is said only of all of them. What it hands back and leaves in the slices goes into the next turn.
 pub data Run : Place → List ℕ → List ℕ → List ℕ → List ℕ → List ℕ → Type 0 where
   stops : {at : Place} {types samples net : List ℕ} (input more : List ℕ) (last : Bool)
       → (last ≡ true → more ≡ [])
-      → (turned_by (turn_step (stage_in at types samples net) input last) at).over ≡ true
+      → is_over (turned_by (turn_step (stage_in at types samples net) input last) at).course ≡ true
       → Run at types samples net (input ++ more) (text_by (turn_step (stage_in at types samples net) input last) at.offset)
   turns : {at : Place} {types samples net : List ℕ} (input more : List ℕ) (last : Bool) {text : List ℕ}
       → (last ≡ true → more ≡ [])
-      → (turned_by (turn_step (stage_in at types samples net) input last) at).over ≡ false
+      → is_over (turned_by (turn_step (stage_in at types samples net) input last) at).course ≡ false
       → Run (turned_by (turn_step (stage_in at types samples net) input last) at).next (types_by (turn_step (stage_in at types samples net) input last) types)
       (samples_by (turn_step (stage_in at types samples net) input last) samples) (net_by (turn_step (stage_in at types samples net) input last) net)
       (drop (turned_by (turn_step (stage_in at types samples net) input last) at).took (input ++ more)) text

@@ -11,6 +11,7 @@ use Rattle.types_rules.specs.Types.{Module, kind, known, in_range}
 use Rattle.net_rules.specs.Calls.{set_up, samples_for, tick_step, byte_of, of_type}
 use Rattle.replay_print.specs.Text.{lines, bad_line}
 use Rattle.net_rules.specs.Record.{chain_most}
+use Rattle.replay_file.specs.declared.Kind.{Kind}
 
 -- 01 Replay file: how many bytes follow the kind byte: module 1, line byte 2, servo sample 8 (02 P8), I/O sample 10, tick none,
 -- step-motor sample 2 (02 P3); an unknown kind is bad whatever follows it.
@@ -22,6 +23,15 @@ body_length k =
     (cond (eqb k 3) 10
     (cond (eqb k 5) 2
     0))))
+
+-- 01 Replay file: the number of each kind.
+abbrev pub number_of : Kind → ℕ
+number_of Kind.Module = 0
+number_of Kind.LineByte = 1
+number_of Kind.ServoSample = 2
+number_of Kind.IoSample = 3
+number_of Kind.Tick = 4
+number_of Kind.StepperSample = 5
 
 -- 01 Replay file, 02 P3: how many kinds there are, numbered from 0; a kind byte that is not below it is unknown.
 abbrev pub kinds : ℕ

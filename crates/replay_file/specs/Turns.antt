@@ -7,6 +7,8 @@ use Rattle.net_rules.specs.Record.{record_size, net_in, stored, valid, chain_mos
 use Rattle.net_rules.specs.Calls.{set_up, all_known, list_size, all_in_range, fresh}
 use Rattle.replay_file.specs.declared.Place.{Place}
 use Rattle.replay_file.specs.declared.Turned.{Turned}
+use Rattle.replay_file.specs.declared.Course.{Course}
+use Rattle.replay_file.specs.declared.Course.TheVariants.{GoesOn, Over, Wants}
 use Rattle.replay_print.specs.Text.{bad_line, text_size}
 use Rattle.replay_file.specs.Records.{Stage, gathering, running, Effect, goes, bad, body_length, unmeasured, record_step}
 
@@ -46,6 +48,12 @@ pub data Outcome : Type 0 where
   wants : Outcome
   judged : ℕ → Effect → Outcome
 
+-- whether a turn ended the replay
+abbrev pub is_over : Course → Bool
+is_over GoesOn = false
+is_over Over = true
+is_over Wants = false
+
 -- 01 Replay file: how many bytes the record at the head of some bytes has, its kind byte among them.
 abbrev pub head_size : List ℕ → ℕ
 head_size input = 1 + body_length (get_or input 0 0)
@@ -64,8 +72,8 @@ place_after size (running n list) at = record { offset = at.offset + size; count
 
 -- 01 Replay file: what a record hands back; a bad one ends the run.
 unfoldable pub turned : ℕ → Effect → Place → Turned
-turned size bad at = record { next = at; took = 0; wrote = length (bad_line at.offset); over = true; wants = false }
-turned size (goes s text) at = record { next = place_after size s at; took = size; wrote = length text; over = false; wants = false }
+turned size bad at = record { next = at; took = 0; wrote = length (bad_line at.offset); course = Over }
+turned size (goes s text) at = record { next = place_after size s at; took = size; wrote = length text; course = GoesOn }
 
 -- 01 Replay file: the slice of types after a record: the types gathered so far stand at its start.
 unfoldable pub types_after : Effect → List ℕ → List ℕ
@@ -92,8 +100,8 @@ text_after (goes s text) offset = text
 
 -- 01 Replay file: what a turn hands back, and then what it leaves in the slices and prints; one that judges no record leaves all as it was.
 unfoldable pub turned_by : Outcome → Place → Turned
-turned_by over at = record { next = at; took = 0; wrote = 0; over = true; wants = false }
-turned_by wants at = record { next = at; took = 0; wrote = 0; over = false; wants = true }
+turned_by over at = record { next = at; took = 0; wrote = 0; course = Over }
+turned_by wants at = record { next = at; took = 0; wrote = 0; course = Wants }
 turned_by (judged size e) at = turned size e at
 
 unfoldable pub types_by : Outcome → List ℕ → List ℕ

@@ -2,7 +2,7 @@
 
 #![tactic(auto)]
 
-ghost use Rattle.std.specs.Prelude.{◌≡◌, false, ◌+◌, ◌^◌, ◌≤◌, ◌<◌, ◌∷◌, length, replicate};
+ghost use Rattle.std.specs.Prelude.{◌≡◌, false, ◌+◌, ◌^◌, ◌≤◌, ◌<◌, ◌∷◌, length, replicate, eqb};
 ghost use Rattle.base_layout.specs.Bytes.{pasted};
 ghost use Rattle.net_rules.specs.Record.{chain_most};
 ghost use Rattle.net_rules.specs.Calls.{list_size};
@@ -10,7 +10,7 @@ ghost use Rattle.replay_file.specs.Records.{bad, running, body_length, module_re
 ghost use Rattle.replay_file.specs.Turns.{stage_in, Held, Within, over, wants, turn_step, turned, types_after, samples_after, net_after, text_after, turned_by, types_by, samples_by, net_by, text_by};
 ghost use Rattle.replay_print.specs.Text.{text_size};
 
-use replay_file::{Place, Turned};
+use replay_file::{Kind, Place, Turned};
 
 // The ten bytes of a module before any sample: its type, and zeros.
 fn put_unmeasured(samples: &mut [u8], place: usize, t: u8)
@@ -45,19 +45,15 @@ fn take_module(
     }
     types[n] = t;
     put_unmeasured(samples, n, t);
-    let count = n + 1;
-    net_record::set_up(net, &types[..count]);
-    Turned {
-        next: Place {
-            offset: at.offset + 2,
-            count,
-            running: false,
-        },
-        took: 2,
-        wrote: 0,
-        over: false,
-        wants: false,
-    }
+    net_record::set_up(net, &types[..n + 1]);
+    at.joined()
+}
+
+// Whether a kind is a module's.
+fn is_module(kind: u8) -> bool
+    ensures { result ≡ eqb kind 0 }
+{
+    matches!(Kind::try_from(kind), Ok(Kind::Module))
 }
 
 // A whole record.
@@ -78,7 +74,7 @@ fn take_record(
     ensures net_after { net.new ≡ net_after (record_step (stage_in at types.old samples.old net.old) kind body.now) net.old }
     ensures out_after { out.new ≡ pasted 0 (text_after (record_step (stage_in at types.old samples.old net.old) kind body.now) at.offset) out.old }
 {
-    if kind == 0 {
+    if is_module(kind) {
         return take_module(at, body[0], types, samples, net, out);
     }
     if at.count == 0 {

@@ -32,12 +32,8 @@ fn put_pairs(out: &mut [u8], at: usize, bytes: &[u8])
     requires { at + 3 * length bytes.now ≤ length out.old }
     ensures { out.new ≡ pasted at (hexes bytes.now) out.old }
 {
-    let mut place = at;
-    let mut i = 0;
-    while i < bytes.len() {
-        put_pair(out, place, bytes[i]);
-        place += 3;
-        i += 1;
+    for (i, &b) in bytes.iter().enumerate() {
+        put_pair(out, at + 3 * i, b);
     }
 }
 
@@ -60,7 +56,7 @@ fn put_reply(out: &mut [u8], at: usize, place: usize, bytes: &[u8]) -> usize
     ensures value { result ≡ length (reply_text place bytes.now) }
     ensures out_after { out.new ≡ pasted at (reply_text place bytes.now) out.old }
 {
-    if bytes.len() == 0 {
+    if bytes.is_empty() {
         return 0;
     }
     put_line(out, at, place, bytes)
@@ -75,14 +71,10 @@ pub fn put_replies(lengths: [u8; net_rules::CHAIN_MOST], room: &[u8], out: &mut 
 {
     let mut wrote: usize = 0;
     let mut at: usize = 0;
-    let mut place: usize = 0;
-    let mut left: usize = net_rules::CHAIN_MOST;
-    while 0 < left {
-        let end = at + lengths[place] as usize;
+    for (place, &length) in lengths.iter().enumerate() {
+        let end = at + length as usize;
         wrote += put_reply(out, wrote, place, &room[at..end]);
         at = end;
-        place += 1;
-        left -= 1;
     }
     wrote
 }

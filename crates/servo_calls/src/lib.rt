@@ -6,93 +6,81 @@ ghost use Rattle.std.specs.Prelude.{◌≡◌, true, ◌+◌, ◌≤◌, length}
 ghost use Rattle.base_layout.specs.Bytes.{pasted};
 ghost use Rattle.module_rules.specs.Touch.{frame_of};
 ghost use Rattle.module_rules.specs.Kind.{executed, replied};
-ghost use Rattle.module_rules.specs.Rules.{wants, settled, kind_of};
+ghost use Rattle.module_rules.specs.Rules.{kind_of};
 ghost use Rattle.module_rules.specs.Slots.{slot_size};
 ghost use Rattle.module_rules.specs.Owes.{reply_size};
 ghost use Rattle.servo_rules.specs.Tick.{ticked};
-ghost use Rattle.servo_rules.specs.Answers.{outputs_of, servo, execute, reply};
-ghost use Rattle.servo_slot_rules.specs.Slot.{encode_of, decode_of, ok_of};
+ghost use Rattle.servo_rules.specs.Answers.{outputs_of, servo};
+ghost use Rattle.servo_slot_rules.specs.Slot.{sample, encode_of, decode_of, ok_of, slots};
+ghost use Rattle.servo_slot_rules.proofs.Owed.{owes};
 
-use module_rules::Head;
-use servo_rules::{Order, Request, Sample};
+use module_calls::Calls;
+use module_rules::{Cause, Fault, Frame, Request};
+use servo_rules::{Order, Sample, Servo};
 
-// An own order: carried out and put with the cause 0, or not now.
-fn perform(s: &mut [u8], order: Order)
-    requires { (length s.old ≡ slot_size) × (ok_of s.old ≡ true) }
-    ensures { s.new ≡ pasted 0 (encode_of (settled servo (wants order) (decode_of s.old))) s.old }
-{
-    let before = servo_slot_read::decode(s);
-    if servo_perform::can(before, order) {
-        let mut after = servo_perform::perform(before, order);
-        after.station.cause = 0;
-        servo_slot_put::put(s, after);
-    } else {
-        module_station::put_station(s, module_station::with_cause(before.station, 3));
+// The servo as a module type; its reply is put of the parts that it tells of.
+struct ServoType;
+
+impl Calls for ServoType {
+    type Module = Servo;
+
+    type Sample = Sample;
+
+    type Command = Order;
+
+    ghost rules = { servo };
+
+    ghost slots = { slots };
+
+    ghost good = { sample.codec.fits };
+
+    fn request_of(f: Frame<'_>, alone: bool) -> Result<Request<Order>, Fault> {
+        servo_parse::request_of(f, alone)
     }
-}
 
-// A frame that touches the servo: of a damaged or malformed one, and of a command of every type, the station alone is put.
-fn settle(s: &mut [u8], f: Head, alone: bool, ds: &[u8])
-    requires { (length s.old ≡ slot_size) × (ok_of s.old ≡ true) }
-    ensures { s.new ≡ pasted 0 (encode_of (execute (frame_of f ds.now) alone (decode_of s.old))) s.old }
-{
-    let station = module_station::station_in(s);
-    if f.damaged {
-        module_station::put_station(s, module_station::with_cause(station, 1));
-        return;
+    fn decode(s: &[u8]) -> Servo {
+        servo_slot_read::decode(s)
     }
-    let asked = servo_parse::request_of(f, alone, ds);
-    match asked {
-        Request::Malformed(fault) => {
-            let cause = module_station::fault_cause(fault);
-            module_station::put_station(s, module_station::with_cause(station, cause));
-        }
-        Request::Set(setting) => {
-            let x = module_station::with_setting(station, setting);
-            module_station::put_station(s, module_station::with_cause(x, 0));
-        }
-        Request::Reset => {
-            let latched = servo_slot_read::latched_in(s);
-            servo_slot_put::put(s, servo_perform::fresh(latched));
-        }
-        Request::Wants(order) => {
-            perform(s, order);
-        }
-    }
-}
 
-// Puts the reply of the servo in a slot into the room from place from on; how many bytes it has.
-fn put_reply(s: &[u8], f: Head, ds: &[u8], room: &mut [u8], from: usize) -> usize
-    requires { (length s.now ≡ slot_size) × (ok_of s.now ≡ true) × (from + reply_size ≤ length room.old) }
-    ensures value { result ≡ length (reply (frame_of f ds.now) (decode_of s.now)) }
-    ensures room_after { room.new ≡ pasted from (reply (frame_of f ds.now) (decode_of s.now)) room.old }
-{
-    let station = module_station::station_in(s);
-    let latched = servo_slot_read::latched_in(s);
-    let counts = servo_slot_read::counts_in(s);
-    let run = servo_slot_read::run_in(s);
-    let homing = servo_slot_read::homing_in(s);
-    servo_reply::put_reply(station, latched, counts, run, homing, f, ds, room, from)
+    fn put(s: &mut [u8], m: Servo) {
+        servo_slot_put::put(s, m);
+    }
+
+    #[tactic(auto, unfolding(servo_slot_rules::specs::Slot::decode_of))]
+    fn renewed(s: &[u8]) -> Servo {
+        servo_perform::fresh(servo_slot_read::latched_in(s))
+    }
+
+    fn can(m: Servo, order: Order) -> bool {
+        servo_perform::can(m, order)
+    }
+
+    fn perform(m: Servo, order: Order) -> Servo {
+        let mut after = servo_perform::perform(m, order);
+        after.station.cause = Cause::Executed as u8;
+        after
+    }
+
+    fn put_reply(s: &[u8], f: Frame<'_>, room: &mut [u8], from: usize) -> usize {
+        let station = module_station::station_in(s);
+        let latched = servo_slot_read::latched_in(s);
+        let counts = servo_slot_read::counts_in(s);
+        let run = servo_slot_read::run_in(s);
+        let homing = servo_slot_read::homing_in(s);
+        servo_reply::put_reply(station, latched, counts, run, homing, f, room, from)
+    }
+
+    ghost owes = { owes };
 }
 
 // A frame that touches the servo in a slot: the servo after it, and its reply in the room from place from on; how many bytes that has.
-pub fn touch(s: &mut [u8], f: Head, ds: &[u8], room: &mut [u8], from: usize) -> usize
+pub fn touch(s: &mut [u8], f: Frame<'_>, room: &mut [u8], from: usize) -> usize
     requires { (length s.old ≡ slot_size) × (ok_of s.old ≡ true) × (from + reply_size ≤ length room.old) }
-    ensures value { result ≡ length (replied (kind_of servo) (frame_of f ds.now) (decode_of s.old)) }
-    ensures s_after { s.new ≡ pasted 0 (encode_of (executed (kind_of servo) (frame_of f ds.now) (decode_of s.old))) s.old }
-    ensures room_after { room.new ≡ pasted from (replied (kind_of servo) (frame_of f ds.now) (decode_of s.old)) room.old }
+    ensures value { result ≡ length (replied (kind_of servo) (frame_of f.entry) (decode_of s.old)) }
+    ensures s_after { s.new ≡ pasted 0 (encode_of (executed (kind_of servo) (frame_of f.entry) (decode_of s.old))) s.old }
+    ensures room_after { room.new ≡ pasted from (replied (kind_of servo) (frame_of f.entry) (decode_of s.old)) room.old }
 {
-    let address = module_station::address_in(s);
-    settle(
-        s,
-        f,
-        module_station::is_individually(address, f.address),
-        ds,
-    );
-    if module_station::is_speaking(address, f.address) {
-        return put_reply(s, f, ds, room, from);
-    }
-    0
+    module_calls::touch::<ServoType>(s, f, room, from)
 }
 
 // A tick in which homing finds its switch: the whole servo is put.

@@ -9,7 +9,7 @@ use lib.Dec.{leb}
 use lib.IntN.{ℤ, nat_abs, ◌+ℤ◌}
 use Rattle.servo_filter.specs.declared.Gains.{Gains}
 use Rattle.servo_filter.specs.declared.Memory.{Memory}
-use Rattle.servo_filter.specs.Filter.{Kept, held, drive, scaled, driven, summed, output, limited, answered, filtered, Told, told, Tick, told_at, after}
+use Rattle.servo_filter.specs.Filter.{Kept, held, drive, scaled, driven, summed, limited, filtered, Told, told, Tick, told_at, after}
 use Rattle.servo_filter.specs.Promises.{Trips, Works, base, AsTheBase, OnlyTheIntegral, AllCut, WindsUpNoMore, wound_by, Pushed, Lowered, Within, Keeps}
 use Rattle.servo_filter.proofs.Held.{held_most}
 use Rattle.servo_filter.proofs.Limiting.{lies}

@@ -7,7 +7,7 @@ use borrow.Author.Tests.{le-leb}
 use lib.IntN.{ℤ, nat_abs}
 use Rattle.servo_filter.specs.declared.Gains.{Gains}
 use Rattle.servo_filter.specs.declared.Memory.{Memory}
-use Rattle.servo_filter.specs.Filter.{drive, scaled, driven, summed, output, limited, answered, filtered, Told, told}
+use Rattle.servo_filter.specs.Filter.{scaled, driven, summed, output, limited, answered, filtered, Told, told}
 use Rattle.servo_filter.proofs.Limiting.{Lies, inside, above, below}
 
 -- the answer to an error within EL

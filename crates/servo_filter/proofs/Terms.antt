@@ -1,5 +1,5 @@
 -- Terms: u is the sum of its three terms, each with its own gain. Assumes nothing.
-use mathlib.Core.Path.{◌≡◌, refl, sym, ap, ap₂, ◌∙◌}
+use mathlib.Core.Path.{◌≡◌, sym, ap, ap₂, ◌∙◌}
 use lib.IntN.{ℤ, pos, ◌+ℤ◌, ◌-ℤ◌, ◌*ℤ◌, zero-*ℤ, +ℤ_idl, +ℤ_idr}
 use Rattle.servo_filter.specs.Filter.{drive, summed}
 use Rattle.servo_filter.specs.Promises.{Terms}

@@ -27,7 +27,7 @@ pub struct Memory {
     pub previous: i64,
 }
 
-// What holding an output to its limits leaves of it: all of it, or the limit that it lay above or below.
+// What holding an output to its limits leaves of it: all of it, or the limit that it lay above or below. Both sides are cases: the promises speak of each.
 #[derive(Clone, Copy)]
 pub enum Limited {
     Plain(i64),
@@ -48,12 +48,7 @@ pub fn hold(limit: u16, z: i64) -> i64
     ensures { result ≡ held limit z }
 {
     let high = limit as i64;
-    let low = 0 - high;
-    if z <= high {
-        if low <= z { z } else { low }
-    } else {
-        high
-    }
+    z.clamp(-high, high)
 }
 
 // An output held to its limits, and whether that cut anything off it, and on which side.
@@ -113,7 +108,8 @@ fn remembered(integral: i64, previous: i64) -> Memory
     Memory { integral, previous }
 }
 
-// Where the output was cut, the integral goes back to its former number.
+// Where the output was cut, the integral goes back to its former number. Each side has an arm, since a pattern of both that binds a signed number gets no
+// proof.
 fn answered(a: Limited, new: i64, former: i64, e: i64) -> Filtered
     ensures { result ≡ answered a new former e }
 {
@@ -130,7 +126,7 @@ fn at_error(g: Gains, m: Memory, e: i64) -> Filtered
     requires e_bound { nat_abs e < 2 ^ 32 }
     ensures { result ≡ filtered g m e }
 {
-    if (g.el as u64) < base_integers::size(e) {
+    if (g.el as u64) < e.unsigned_abs() {
         return Filtered::Off;
     }
     let sum = m.integral + e;

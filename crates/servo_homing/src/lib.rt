@@ -26,20 +26,20 @@ pub fn none() -> Homing
 }
 
 // With the byte of Set Homing; home keeps its number.
-pub fn by_byte(mut h: Homing, byte: u8) -> Homing
+pub fn by_byte(h: Homing, byte: u8) -> Homing
     ensures { result ≡ homing_by byte h }
 {
-    h.byte = byte;
-    h
+    Homing { byte, ..h }
 }
 
 // With home relative to a position.
-pub fn home_from(mut h: Homing, x: u32) -> Homing
+pub fn home_from(h: Homing, x: u32) -> Homing
     ensures { result ≡ home_from x h }
 {
-    let home = base_integers::less(h.home, x);
-    h.home = home;
-    h
+    Homing {
+        home: h.home.wrapping_sub(x),
+        ..h
+    }
 }
 
 // Found at a position, and ended.
@@ -101,12 +101,12 @@ fn halted_or(m: Servo, halt: Halt) -> Servo
 pub fn homed(m: Servo, before: u8) -> Servo
     ensures { result ≡ homed before m }
 {
-    let h = m.homing;
-    if is_changed(h.byte, before, m.latched.inputs) {
-        let here = servo_run::position(m.latched, m.counts);
-        let mut n = halted_or(m, halt_of(h.byte));
-        n.homing = home_at(here);
-        return n;
+    if !is_changed(m.homing.byte, before, m.latched.inputs) {
+        return m;
     }
-    m
+    let here = servo_run::position(m.latched, m.counts);
+    Servo {
+        homing: home_at(here),
+        ..halted_or(m, halt_of(m.homing.byte))
+    }
 }

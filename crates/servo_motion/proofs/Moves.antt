@@ -1,5 +1,5 @@
 -- Adds, Moves and FirstTick: what a tick makes of the setpoint. Assumes nothing.
-use mathlib.Core.Path.{◌≡◌, refl}
+use mathlib.Core.Path.{refl}
 use native.Mathlib.Omega.{arith}
 use lib.IntN.{pos, ◌+ℤ◌}
 use Prim.Native.Nat.{◌+◌, ◌*◌, ◌^◌}

@@ -13,7 +13,8 @@ ghost use Rattle.servo_motion.specs.Profile.{fastest, Ranged, in_range, heads, r
 // The greatest velocity and acceleration that a load can carry: 1280 counts per tick.
 pub const FASTEST: u32 = 83_886_080;
 
-// The goal is a position in counts, the aim velocity mode's goal speed, top the trapezoid's greatest speed.
+// The goal is a position in counts, the aim velocity mode's goal speed, top the trapezoid's greatest speed. That its numbers are in range is a clause
+// of the methods and no invariant: a record's bytes are read into a profile before `is_in_range` tests it.
 #[derive(Clone, Copy)]
 pub struct Profile {
     pub setpoint: u64,
@@ -24,29 +25,12 @@ pub struct Profile {
     pub top: u32,
 }
 
-// v - a, and 0 where a is the greater.
-fn lowered(v: u32, a: u32) -> u32
-    ensures { result ≡ v - a }
-{
-    if a <= v { v - a } else { 0 }
-}
-
-// The greatest speed that may follow v.
-fn highest(a: u32, top: u32, v: u32) -> u32
-    requires { (v + a < 2 ^ 31) × (top < 2 ^ 31) }
-    ensures { result ≡ min (v + a) top }
-{
-    let raised = v + a;
-    if raised < top { raised } else { top }
-}
-
 // How many ticks stopping from the speed w takes, the first of them at w: w / a, rounded up.
 fn braking_ticks(w: u32, a: u32) -> u64
     requires { 0 < a }
     ensures { result ≡ braking_ticks w a }
 {
-    let each = a as u64;
-    (w as u64 + (each - 1)) / each
+    w.div_ceil(a) as u64
 }
 
 // The stopping sum of w by its closed form: so many ticks at w, less what the later ones have lost.
@@ -89,8 +73,8 @@ fn next_speed(a: u32, top: u32, d: u64, v: u32) -> u32
     requires { (0 < a) × (v + a < 2 ^ 31) × (top < 2 ^ 31) × (d < 2 ^ 63) }
     ensures { result ≡ next_speed a top d v }
 {
-    let lo = lowered(v, a);
-    let hi = highest(a, top, v);
+    let lo = v.saturating_sub(a);
+    let hi = (v + a).min(top);
     if hi <= lo {
         return lo;
     }
@@ -105,10 +89,8 @@ fn trapezoid(a: u32, top: u32, d: i64, v: i64) -> i64
     requires { (0 < a) × (nat_abs v + a < 2 ^ 31) × (top < 2 ^ 31) × (nat_abs d < 2 ^ 63) }
     ensures { result ≡ trapezoid a top d v }
 {
-    let speed = base_integers::size(v) as u32;
-    let left = base_integers::size(d);
-    let w = next_speed(a, top, left, speed) as i64;
-    if 0 <= d { w } else { 0 - w }
+    let w = next_speed(a, top, d.unsigned_abs(), v.unsigned_abs() as u32) as i64;
+    if 0 <= d { w } else { -w }
 }
 
 // Velocity mode's new speed.
@@ -116,14 +98,8 @@ fn toward(a: u32, goal: i64, v: i64) -> i64
     requires { nat_abs v + a < 2 ^ 63 }
     ensures { result ≡ toward a goal v }
 {
-    let s = a as i64;
-    if v <= goal {
-        let up = v + s;
-        if up <= goal { up } else { goal }
-    } else {
-        let down = v - s;
-        if down <= goal { goal } else { down }
-    }
+    let most = a as i64;
+    goal.clamp(v - most, v + most)
 }
 
 // The setpoint's whole part, in counts.
@@ -148,12 +124,7 @@ fn moved(setpoint: u64, w: i64) -> u64
     requires { (setpoint < 2 ^ 48) × (nat_abs w ≤ 2 ^ 48) }
     ensures { result ≡ moved setpoint w }
 {
-    let n = base_integers::size(w);
-    if 0 <= w {
-        (setpoint + n) % 0x1_0000_0000_0000
-    } else {
-        (setpoint + (0x1_0000_0000_0000 - n)) % 0x1_0000_0000_0000
-    }
+    setpoint.wrapping_add_signed(w) % 0x1_0000_0000_0000
 }
 
 // Whether the speed v goes the way of the distance d.
@@ -183,10 +154,10 @@ impl Profile {
         if a == 0 {
             return false;
         }
-        let v = base_integers::size(self.speed) as u32;
+        let v = self.speed.unsigned_abs() as u32;
         let d = distance(self.goal, self.setpoint);
-        let stops = can_stop(lowered(v, a), a, base_integers::size(d));
-        let away = base_integers::less(self.goal, whole(self.setpoint));
+        let stops = can_stop(v.saturating_sub(a), a, d.unsigned_abs());
+        let away = self.goal.wrapping_sub(whole(self.setpoint));
         (v <= self.top) & is_heading(d, self.speed) & stops & !(away == 0x8000_0000)
     }
 
@@ -196,11 +167,11 @@ impl Profile {
         requires w_bound { nat_abs w ≤ fastest }
         ensures { result ≡ stepped self w }
     {
-        let p = moved(self.setpoint, w);
-        let mut next = self;
-        next.setpoint = p;
-        next.speed = w;
-        next
+        Profile {
+            setpoint: moved(self.setpoint, w),
+            speed: w,
+            ..self
+        }
     }
 
     // A tick of a trapezoid.

@@ -3,9 +3,10 @@
 #![tactic(auto)]
 
 ghost use Rattle.std.specs.Prelude.{◌≡◌, ◌≤◌, ◌<◌, ◌^◌, nat_abs};
-ghost use Rattle.servo_motion.specs.Profile.{fastest, Ranged};
+ghost use Rattle.servo_motion.specs.Profile.{fastest};
 ghost use Rattle.servo_filter.specs.Filter.{Kept, blank, told};
 ghost use Rattle.servo_filter.specs.Promises.{Ranged as Gains-as-Ranged};
+ghost use Rattle.servo_moves.specs.Steps.{Moving};
 
 use servo_filter::{Filtered, Gains, Memory};
 use servo_motion::Profile;
@@ -17,26 +18,16 @@ fn write(out: &impl Print, z: i64)
     let _ = print!(out; " {z}");
 }
 
-fn tick(p: Profile, velocity: bool) -> Profile
-    requires ranged { Ranged p }
-    requires acceleration_nonzero { 0 < p.acceleration }
-    ensures { Ranged result × (0 < result.acceleration) }
-{
-    if velocity {
-        p.by_velocity()
-    } else {
-        p.by_trapezoid()
-    }
-}
-
-fn ticks(start: Profile, velocity: bool, count: u32) -> Profile
-    requires ranged { Ranged start }
-    requires acceleration_nonzero { 0 < start.acceleration }
-    ensures { Ranged result × (0 < result.acceleration) }
+// So many ticks, each by this step.
+fn ticks<F: Fn(Profile) -> Profile>(step: &F, start: Profile, count: u32) -> Profile
+    requires callable { (p : _) → Moving p → F.pre step.now p }
+    requires keeps { (p q : _) → Moving p → F.post step.now p q → Moving q }
+    requires moving { Moving start }
+    ensures { Moving result }
 {
     let mut p = start;
     for _ in 0..count {
-        p = tick(p, velocity);
+        p = step(p);
     }
     p
 }
@@ -52,20 +43,22 @@ fn place(out: &impl Print, setpoint: u64)
     );
 }
 
-// The speed after every so many ticks, and where that ends.
-fn walk(out: &impl Print, start: Profile, velocity: bool, every: u32, rows: u32)
-    requires ranged { Ranged start }
-    requires acceleration_nonzero { 0 < start.acceleration }
+// The speed after every so many ticks, each by this step, and where that ends.
+fn walk<F: Fn(Profile) -> Profile>(out: &impl Print, step: F, start: Profile, every: u32, rows: u32)
+    requires callable { (p : _) → Moving p → F.pre step p }
+    requires keeps { (p q : _) → Moving p → F.post step p q → Moving q }
+    requires moving { Moving start }
 {
     let mut p = start;
     for _ in 0..rows {
-        p = ticks(p, velocity, every);
+        p = ticks(&step, p, every);
         write(out, p.speed);
     }
     place(out, p.setpoint);
 }
 
 // A trapezoid from rest.
+#[tactic(auto, using(crate::proofs::Steps::trapezoid_kept))]
 fn trapezoid(
     out: &impl Print,
     setpoint: u64,
@@ -85,10 +78,11 @@ fn trapezoid(
         acceleration,
         top,
     };
-    walk(out, p, false, every, rows);
+    walk(out, |p: Profile| p.by_trapezoid(), p, every, rows);
 }
 
 // Velocity mode from a setpoint of 0.
+#[tactic(auto, using(crate::proofs::Steps::velocity_kept))]
 fn velocity(out: &impl Print, speed: i64, aim: i64, acceleration: u32, rows: u32)
     requires { (nat_abs speed ≤ fastest) × (nat_abs aim ≤ fastest) × (0 < acceleration) × (acceleration ≤ fastest) }
 {
@@ -100,7 +94,7 @@ fn velocity(out: &impl Print, speed: i64, aim: i64, acceleration: u32, rows: u32
         acceleration,
         top: 0,
     };
-    walk(out, p, true, 1, rows);
+    walk(out, |p: Profile| p.by_velocity(), p, 1, rows);
 }
 
 // The output, with a word if it was cut, or off; and the memory that is kept.
@@ -125,6 +119,7 @@ fn answered(out: &impl Print, f: Filtered) -> Memory
     }
 }
 
+// With what the filter asks of a memory; the program stands on the filter alone.
 fn blank() -> Memory
     ensures { (result ≡ blank) × Kept result }
 {

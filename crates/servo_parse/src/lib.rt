@@ -2,41 +2,41 @@
 
 #![tactic(auto)]
 
-ghost use Rattle.std.specs.Prelude.{◌≡◌, ◌<◌};
+ghost use Rattle.std.specs.Prelude.{◌≡◌, ◌<◌, true};
 ghost use Rattle.base_layout.specs.Bytes.{of_le, read_at};
 ghost use Rattle.module_rules.specs.Touch.{frame_of};
-ghost use Rattle.module_rules.specs.Rules.{wants, counted, ranged, asking};
+ghost use Rattle.module_rules.specs.Rules.{takes};
+ghost use Rattle.module_rules.specs.Asks.{asks_of, read};
 ghost use Rattle.servo_rules.specs.Carried.{needed, carried_at, carried_in, in_range};
-ghost use Rattle.servo_rules.specs.Asks.{asks_of, load_meant, gains_in, gains_fit, gain_meant, halt_of, one_halt, stop_count, stop_meant, homing_meant, own};
+ghost use Rattle.servo_rules.specs.Asks.{load_meant, gains_in, gains_fit, gain_meant, halt_of, one_halt, stop_count, stop_meant, homing_meant, own};
 ghost use Rattle.servo_rules.specs.Answers.{request};
 
-use module_rules::{Asked, Fault, Head};
+use module_rules::{Fault, Frame, Request};
+use module_station::Codes;
 use servo_filter::Gains;
-use servo_rules::{Carried, Halt, Order, Request, Tuning};
+use servo_rules::{Carried, Halt, Order, Tuning};
 
-// The number in four data bytes from place at on, 0 beyond the end.
+// The number in four data bytes from place at on, 0 beyond the end. One function over the width would fill an array in a loop of its own.
 fn four_at(ds: &[u8], at: usize) -> u32
     requires { at < 256 }
     ensures { result ≡ of_le (read_at 4 at ds.now) }
 {
-    let b = at + 1;
-    let c = b + 1;
-    base_layout::of4(
+    u32::from_le_bytes([
         base_layout::byte_at(ds, at),
-        base_layout::byte_at(ds, b),
-        base_layout::byte_at(ds, c),
-        base_layout::byte_at(ds, c + 1),
-    )
+        base_layout::byte_at(ds, at + 1),
+        base_layout::byte_at(ds, at + 2),
+        base_layout::byte_at(ds, at + 3),
+    ])
 }
 
 fn two_at(ds: &[u8], at: usize) -> u16
     requires { at < 256 }
     ensures { result ≡ of_le (read_at 2 at ds.now) }
 {
-    base_layout::of2(
+    u16::from_le_bytes([
         base_layout::byte_at(ds, at),
         base_layout::byte_at(ds, at + 1),
-    )
+    ])
 }
 
 // How many data bytes a load's control byte asks for.
@@ -46,25 +46,6 @@ fn needed(control: u8) -> usize
     let numbers = u8::count_ones(control % 8) as usize;
     let pulse = (control / 8 % 2) as usize;
     1 + 4 * numbers + pulse
-}
-
-// What is asked where the number of data bytes is right, and where the values are good.
-fn counted(n: usize, ds: &[u8], r: Request) -> Request
-    ensures { asks_of result ≡ counted n ds.now (asks_of r) }
-{
-    if ds.len() == n {
-        return r;
-    }
-    Request::Malformed(Fault::Count)
-}
-
-fn ranged(good: bool, c: Order) -> Request
-    ensures { asks_of result ≡ ranged good (wants c) }
-{
-    if good {
-        return Request::Wants(c);
-    }
-    Request::Malformed(Fault::Value)
 }
 
 // A carried number, from place at on, 0 where it is not carried.
@@ -79,6 +60,7 @@ fn carried_at(t: bool, at: usize, ds: &[u8]) -> u32
 }
 
 // What a load carries.
+#[tactic(auto, unfolding(servo_rules::specs::Carried::carried_in))]
 fn carried_in(ds: &[u8]) -> Carried
     ensures { result ≡ carried_in ds.now }
 {
@@ -100,6 +82,7 @@ fn carried_in(ds: &[u8]) -> Carried
 }
 
 // Whether a load's velocity and acceleration are in range.
+#[tactic(auto, unfolding(servo_rules::specs::Carried::in_range))]
 fn is_in_range(c: Carried) -> bool
     ensures { result ≡ in_range c }
 {
@@ -108,17 +91,17 @@ fn is_in_range(c: Carried) -> bool
         & (!base_integers::is_set(2, c.control) | (1 <= c.acceleration))
 }
 
-fn load_request(ds: &[u8]) -> Request
-    ensures { asks_of result ≡ asking ds.now (load_meant ds.now) }
+#[tactic(auto, unfolding(servo_rules::specs::Asks::load_meant))]
+fn load_asked(ds: &[u8]) -> Result<Order, Fault>
+    ensures { result ≡ read ds.now (load_meant ds.now) }
 {
     let c = carried_in(ds);
-    counted(
-        needed(base_layout::byte_at(ds, 0)),
-        ds,
-        ranged(is_in_range(c), Order::LoadTrajectory(c)),
-    )
+    module_station::counted(needed(base_layout::byte_at(ds, 0)), ds)?;
+    module_station::ranged(is_in_range(c))?;
+    Ok(Order::LoadTrajectory(c))
 }
 
+#[tactic(auto, unfolding(servo_rules::specs::Asks::gains_in))]
 fn gains_in(ds: &[u8]) -> Gains
     ensures { result ≡ gains_in ds.now }
 {
@@ -132,27 +115,31 @@ fn gains_in(ds: &[u8]) -> Gains
     }
 }
 
+#[tactic(auto, unfolding(servo_rules::specs::Asks::gains_fit))]
 fn gains_fit(g: Gains) -> bool
     ensures { result ≡ gains_fit g }
 {
     (g.kp <= 32767) & (g.kd <= 32767) & (g.ki <= 32767) & (g.il <= 32767) & (g.el <= 16383)
 }
 
-fn gain_request(ds: &[u8]) -> Request
-    ensures { asks_of result ≡ asking ds.now (gain_meant ds.now) }
+#[tactic(auto, unfolding(servo_rules::specs::Asks::gain_meant))]
+fn gain_asked(ds: &[u8]) -> Result<Order, Fault>
+    ensures { result ≡ read ds.now (gain_meant ds.now) }
 {
     let gains = gains_in(ds);
     let fit = gains_fit(gains)
         & (base_layout::byte_at(ds, 12) == 1)
         & (base_layout::byte_at(ds, 13) == 0);
-    let tuning = Tuning {
+    module_station::counted(15, ds)?;
+    module_station::ranged(fit)?;
+    Ok(Order::SetGain(Tuning {
         gains,
         cl: base_layout::byte_at(ds, 9),
         sm: base_layout::byte_at(ds, 14),
-    };
-    counted(15, ds, ranged(fit, Order::SetGain(tuning)))
+    }))
 }
 
+#[tactic(auto, unfolding(servo_rules::specs::Asks::halt_of))]
 fn halt_of(control: u8) -> Halt
     ensures { result ≡ halt_of control }
 {
@@ -187,52 +174,66 @@ fn stop_count(control: u8) -> usize
     }
 }
 
-fn stop_request(ds: &[u8]) -> Request
-    ensures { asks_of result ≡ asking ds.now (stop_meant ds.now) }
+#[tactic(auto, unfolding(servo_rules::specs::Asks::stop_meant))]
+fn stop_asked(ds: &[u8]) -> Result<Order, Fault>
+    ensures { result ≡ read ds.now (stop_meant ds.now) }
 {
     let c = base_layout::byte_at(ds, 0);
-    let halt = halt_of(c);
-    let order = Order::Stop(base_integers::is_set(0, c), halt, four_at(ds, 1));
-    counted(stop_count(c), ds, ranged(is_one_halt(c), order))
+    module_station::counted(stop_count(c), ds)?;
+    module_station::ranged(is_one_halt(c))?;
+    Ok(Order::Stop(base_integers::is_set(0, c), halt_of(c), four_at(ds, 1)))
 }
 
-fn homing_request(ds: &[u8]) -> Request
-    ensures { asks_of result ≡ asking ds.now (homing_meant ds.now) }
+fn homing_asked(ds: &[u8]) -> Result<Order, Fault>
+    ensures { result ≡ read ds.now (homing_meant ds.now) }
 {
     let byte = base_layout::byte_at(ds, 0);
-    counted(
-        1,
-        ds,
-        ranged(servo_homing::is_good(byte), Order::SetHoming(byte)),
-    )
+    module_station::counted(1, ds)?;
+    module_station::ranged(servo_homing::is_good(byte))?;
+    Ok(Order::SetHoming(byte))
 }
 
-// What the type's own codes ask.
-fn own_request(code: u8, ds: &[u8]) -> Request
-    ensures { asks_of result ≡ asking ds.now (own code ds.now) }
+// A command that has no data bytes.
+fn bare(order: Order, ds: &[u8]) -> Result<Order, Fault>
+    ensures { result ≡ read ds.now (takes 0 true order) }
 {
-    match code {
-        0 => counted(0, ds, Request::Wants(Order::ResetPosition)),
-        4 => load_request(ds),
-        5 => counted(0, ds, Request::Wants(Order::Start)),
-        6 => gain_request(ds),
-        7 => stop_request(ds),
-        9 => homing_request(ds),
-        11 => counted(0, ds, Request::Wants(Order::ClearBits)),
-        _ => Request::Malformed(Fault::Unknown),
+    module_station::counted(0, ds)?;
+    Ok(order)
+}
+
+// The type's own codes; there are items for every item byte.
+struct ServoType;
+
+impl Codes for ServoType {
+    type Command = Order;
+
+    ghost own = { own };
+
+    ghost shows = { λ b. true };
+
+    #[tactic(auto, unfolding(servo_rules::specs::Asks::own))]
+    fn own_command(code: u8, ds: &[u8]) -> Result<Order, Fault> {
+        match code {
+            0 => bare(Order::ResetPosition, ds),
+            4 => load_asked(ds),
+            5 => bare(Order::Start, ds),
+            6 => gain_asked(ds),
+            7 => stop_asked(ds),
+            9 => homing_asked(ds),
+            11 => bare(Order::ClearBits, ds),
+            _ => Err(Fault::Unknown),
+        }
+    }
+
+    fn is_shown(_items: u8) -> bool {
+        true
     }
 }
 
 // What a frame asks; alone says that it was for this module individually.
-pub fn request_of(f: Head, alone: bool, ds: &[u8]) -> Request
-    ensures { asks_of result ≡ request (frame_of f ds.now) alone }
+#[tactic(auto, unfolding(module_rules::specs::Rules::request))]
+pub fn request_of(f: Frame<'_>, alone: bool) -> Result<Request<Order>, Fault>
+    ensures { asks_of result ≡ request (frame_of f.entry) alone }
 {
-    let asked = module_station::asked_by(f.code, alone, ds);
-    match asked {
-        Asked::Other => own_request(f.code, ds),
-        Asked::Unknown => Request::Malformed(Fault::Unknown),
-        Asked::Wants(n, s) => counted(n, ds, Request::Set(s)),
-        Asked::Chooses(_, s) => counted(1, ds, Request::Set(s)),
-        Asked::Reset(n) => counted(n, ds, Request::Reset),
-    }
+    module_station::request_of::<ServoType>(f, alone)
 }

@@ -92,37 +92,33 @@ pub fn power_up() -> Servo
 }
 
 // Setpoint and goal relative to a position.
-fn shifted(mut p: Profile, x: u32) -> Profile
+fn shifted(p: Profile, x: u32) -> Profile
     requires { Ranged p }
     ensures { result ≡ shifted x p }
 {
-    let back = 0x1_0000_0000_0000 - servo_run::setpoint_at(x);
-    let setpoint = (p.setpoint + back) % 0x1_0000_0000_0000;
-    let goal = base_integers::less(p.goal, x);
-    p.setpoint = setpoint;
-    p.goal = goal;
-    p
+    Profile {
+        setpoint: p.setpoint.wrapping_sub(servo_run::setpoint_at(x)) % 0x1_0000_0000_0000,
+        goal: p.goal.wrapping_sub(x),
+        ..p
+    }
 }
 
 // Everything that is a position becomes relative to here.
-fn position_reset(mut m: Servo) -> Servo
+fn position_reset(m: Servo) -> Servo
     requires { Ranged m.run.profile }
     ensures { result ≡ reset_position m }
 {
     let here = servo_run::position(m.latched, m.counts);
-    let counts = Counts {
-        offset: m.latched.raw,
-        last: base_integers::less(m.counts.last, here),
-    };
-    let s = m.settings;
-    let r = m.run;
-    let p = r.profile;
-    let h = m.homing;
-    m.counts = counts;
-    m.settings = servo_run::dropped(s);
-    m.run = servo_run::with_profile(r, shifted(p, here));
-    m.homing = servo_homing::home_from(h, here);
-    m
+    Servo {
+        counts: Counts {
+            offset: m.latched.raw,
+            last: m.counts.last.wrapping_sub(here),
+        },
+        settings: servo_run::dropped(m.settings),
+        run: servo_run::with_profile(m.run, shifted(m.run.profile, here)),
+        homing: servo_homing::home_from(m.homing, here),
+        ..m
+    }
 }
 
 // Whether an order can be carried out now.
@@ -134,35 +130,29 @@ pub fn can(m: Servo, c: Order) -> bool
         Order::ResetPosition => servo_run::is_at_rest(m.run),
         Order::LoadTrajectory(x) => servo_start::can_load(m, x),
         Order::Start => servo_start::is_startable(m),
-        Order::SetGain(_) => true,
         Order::Stop(_, halt, _) => servo_stop::can_halt(m, halt),
-        Order::SetHoming(_) => true,
-        Order::ClearBits => true,
+        Order::SetGain(_) | Order::SetHoming(_) | Order::ClearBits => true,
     }
 }
 
 fn with_tuning(mut m: Servo, t: Tuning) -> Servo
     ensures { result ≡ perform (Order.SetGain t) m }
 {
-    let mut s = m.settings;
-    s.tuning = t;
-    m.settings = s;
+    m.settings.tuning = t;
     m
 }
 
 fn with_homing(mut m: Servo, byte: u8) -> Servo
     ensures { result ≡ perform (Order.SetHoming byte) m }
 {
-    let h = m.homing;
-    m.homing = servo_homing::by_byte(h, byte);
+    m.homing = servo_homing::by_byte(m.homing, byte);
     m
 }
 
 fn with_error_clear(mut m: Servo) -> Servo
     ensures { result ≡ perform Order.ClearBits m }
 {
-    let r = m.run;
-    m.run = servo_run::erring(r, false);
+    m.run = servo_run::erring(m.run, false);
     m
 }
 

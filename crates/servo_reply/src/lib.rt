@@ -10,7 +10,7 @@ ghost use Rattle.module_rules.specs.Owes.{reply_size};
 ghost use Rattle.servo_motion.specs.Profile.{Ranged};
 ghost use Rattle.servo_rules.specs.Answers.{done, bit_at, status_of, numbers_of, sizes, outputs_from};
 
-use module_rules::{Head, Station};
+use module_rules::{Frame, Station};
 use servo_filter::Memory;
 use servo_rules::{Counts, Drive, Homing, Mode, Run, Sample};
 
@@ -20,36 +20,23 @@ fn is_done(r: Run) -> bool
     ensures { result ≡ done r }
 {
     let p = r.profile;
-    let d = r.drive;
-    let mode = d.mode;
-    match mode {
-        Mode::Off => true,
-        Mode::Pwm => true,
-        Mode::Hold => true,
-        Mode::Velocity => base_integers::is_same(p.speed, p.aim),
-        Mode::Trapezoid => {
-            base_integers::is_same(servo_motion::distance(p.goal, p.setpoint), 0)
-                & servo_run::is_at_rest(r)
-        }
+    match r.drive.mode {
+        Mode::Off | Mode::Pwm | Mode::Hold => true,
+        Mode::Velocity => p.speed == p.aim,
+        Mode::Trapezoid => (servo_motion::distance(p.goal, p.setpoint) == 0)
+            & servo_run::is_at_rest(r),
     }
-}
-
-fn bit_at(n: u8, b: bool) -> u8
-    requires { n < 17 }
-    ensures { result ≡ bit_at n b }
-{
-    if b { n } else { 0 }
 }
 
 fn status(cause: u8, x: Sample, r: Run, h: Homing) -> u8
     requires { Ranged r.profile }
     ensures { result ≡ status_of cause x r h }
 {
-    bit_at(1, is_done(r))
+    u8::from(is_done(r))
         + module_station::cause_bit(cause)
-        + bit_at(4, r.drive.cut)
-        + bit_at(8, x.power == 1)
-        + bit_at(16, r.drive.error)
+        + 4 * u8::from(r.drive.cut)
+        + 8 * u8::from(x.power == 1)
+        + 16 * u8::from(r.drive.error)
         + servo_homing::status_bits(x.inputs, h)
 }
 
@@ -57,7 +44,7 @@ fn numbers(x: Sample, k: Counts, y: Memory, h: Homing) -> [u32; 8]
     ensures { result ≡ numbers_of x k y h }
 {
     let here = servo_run::position(x, k);
-    let change = base_integers::less(here, k.last) % 65536;
+    let change = here.wrapping_sub(k.last) % 65536;
     let error = base_integers::word(y.previous) % 65536;
     [
         here,
@@ -78,21 +65,19 @@ pub fn put_reply(
     k: Counts,
     r: Run,
     h: Homing,
-    f: Head,
-    ds: &[u8],
+    f: Frame<'_>,
     room: &mut [u8],
     from: usize,
 ) -> usize
     requires ranged { Ranged r.profile }
     requires reply_size_in_bounds { from + reply_size ≤ length room.old }
-    ensures value { result ≡ length (reply_of (frame_of f ds.now) s (status_of s.cause x r h) sizes (numbers_of x k r.memory h)) }
-    ensures room_after { room.new ≡ pasted from (reply_of (frame_of f ds.now) s (status_of s.cause x r h) sizes (numbers_of x k r.memory h)) room.old }
+    ensures value { result ≡ length (reply_of (frame_of f.entry) s (status_of s.cause x r h) sizes (numbers_of x k r.memory h)) }
+    ensures room_after { room.new ≡ pasted from (reply_of (frame_of f.entry) s (status_of s.cause x r h) sizes (numbers_of x k r.memory h)) room.old }
 {
     module_reply::put_reply(
         room,
         from,
         f,
-        ds,
         s,
         status(s.cause, x, r, h),
         servo_rules::SIZES,
@@ -105,9 +90,8 @@ pub fn outputs(power: u8, d: Drive) -> [u8; 8]
     requires { nat_abs d.output < 256 }
     ensures { result ≡ outputs_from power d }
 {
-    let u = d.output;
-    let size = base_integers::size(u) as u8;
-    let negative = bit_at(1, u < 0);
-    let enable = bit_at(1, d.amplifier & (power == 1));
+    let size = d.output.unsigned_abs() as u8;
+    let negative = u8::from(d.output < 0);
+    let enable = u8::from(d.amplifier & (power == 1));
     [size, negative, enable, 0, 0, 0, 0, 0]
 }

@@ -23,12 +23,11 @@ use Rattle.servo_rules.specs.declared.Sample.{Sample}
 use Rattle.servo_rules.specs.declared.Servo.{Servo}
 use Rattle.servo_rules.specs.State.{position, setpoint_at, servo_off, no_homing, no_load, with_homing, idled, off}
 use Rattle.servo_rules.specs.Loads.{to_speed}
-use Rattle.servo_rules.specs.Stops.{holding, smooth, halted_by, drops, halted}
+use Rattle.servo_rules.specs.Stops.{holding, smooth, halted_by, halted}
 use Rattle.servo_rules.specs.Homing.{home_at, changed}
 use Rattle.servo_rules.specs.Tick.{tripped, pulsed, advanced, followed_at, by_power, driven, met, ticked}
 use Rattle.servo_rules.specs.TickPromises.{followed, reaching}
 use Rattle.servo_rules.specs.HomingPromises.{Alike, All, FindsHome, after_power, Acts, Unstopped, HeldHere, HomingTick, HomingTicks, TickTurnsOn}
-use Rattle.servo_rules.proofs.Keeping.{either}
 use Rattle.servo_rules.proofs.Meeting.{here, before, meets, tick_is, met_runs, by_power_lem, act_or_not, abrupt_or_not, not_here}
 use Rattle.servo_rules.proofs.Ends.{tick_ends}
 use Rattle.servo_rules.proofs.Ticking.{low_off, ticks}

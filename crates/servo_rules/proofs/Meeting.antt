@@ -10,7 +10,6 @@ use Rattle.servo_rules.specs.declared.Halt.{Halt}
 use Rattle.servo_rules.specs.declared.Halt.TheVariants.{Keep, Release, Abrupt, Smooth, Here}
 use Rattle.servo_rules.specs.declared.Homing.{Homing}
 use Rattle.servo_rules.specs.declared.Load.{Load}
-use Rattle.servo_rules.specs.declared.Drive.{Drive}
 use Rattle.servo_rules.specs.declared.Run.{Run}
 use Rattle.servo_rules.specs.declared.Sample.{Sample}
 use Rattle.servo_rules.specs.declared.Settings.{Settings}
@@ -19,9 +18,8 @@ use Rattle.servo_rules.specs.State.{position_at, position, with_last, with_homin
 use Rattle.servo_rules.specs.Stops.{halted_by, drops, halted, can_halt}
 use Rattle.servo_rules.specs.Homing.{home_at, changed, homing_halt, halted_or, homed}
 use Rattle.servo_rules.specs.Tick.{driven_by, by_power, driven, met, ticked}
-use Rattle.servo_rules.specs.StopPromises.{Released}
 use Rattle.servo_rules.specs.HomingPromises.{after_power, Acts, Unstopped}
-use Rattle.servo_rules.proofs.Keeping.{by_test, either, Undriven, still, Keeps, off_keeps, halted_keeps, halted_released}
+use Rattle.servo_rules.proofs.Keeping.{by_test, either}
 
 -- ---- kinds of stop
 

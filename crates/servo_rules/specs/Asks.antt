@@ -3,24 +3,15 @@ use Rattle.std.specs.Prelude.{ℕ, ◌/◌, ◌%◌, List, Bool, true, cond, ◌
 use Rattle.std.specs.Int.Count.{ones}
 use Rattle.base_integers.specs.Bits.{is_set}
 use Rattle.base_layout.specs.Bytes.{of_le, read_at}
-use Rattle.module_rules.specs.Rules.{Request, malformed, set, reset, wants, Meaning, unknown, takes}
+use Rattle.module_rules.specs.Rules.{Meaning, unknown, takes}
 use Rattle.servo_filter.specs.declared.Gains.{Gains}
 use Rattle.servo_rules.specs.declared.Tuning.{Tuning}
 use Rattle.servo_rules.specs.declared.Halt.{Halt}
 use Rattle.servo_rules.specs.declared.Halt.TheVariants.{Keep, Release, Abrupt, Smooth, Here}
 use Rattle.servo_rules.specs.declared.Order.{Order}
 use Rattle.servo_rules.specs.declared.Order.TheVariants.{ResetPosition, LoadTrajectory, Start, SetGain, Stop, SetHoming, ClearBits}
-use Rattle.servo_rules.specs.declared.Request as Code
-use Rattle.servo_rules.specs.declared.Request.TheVariants as Codes
 use Rattle.servo_rules.specs.Carried.{needed, carried_in, in_range}
 use Rattle.servo_rules.specs.Homing.{good_byte}
-
--- the case of the code's request in the request of any type
-abbrev pub asks_of : Code.Request → Request Order
-asks_of (Codes.Malformed x) = malformed x
-asks_of (Codes.Set s) = set s
-asks_of Codes.Reset = reset
-asks_of (Codes.Wants c) = wants c
 
 -- 4 Load Trajectory takes the count that its control byte asks for, which is never 0
 unfoldable pub load_meant : List ℕ → Meaning Order

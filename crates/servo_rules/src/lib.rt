@@ -2,7 +2,7 @@
 
 #![tactic(auto)]
 
-use module_rules::{Fault, Setting, Station};
+use module_rules::Station;
 use servo_filter::{Gains, Memory};
 use servo_motion::Profile;
 
@@ -15,6 +15,7 @@ pub const SIZES: [u8; 8] = [4, 1, 2, 1, 4, 2, 2, 1];
 pub const TYPE_AND_VERSION: u32 = 2560;
 
 // What the board measures: the raw count, power 0 low, 1 good, 2 high, an A/D byte, and the limit inputs: bit 0 limit 1, bit 1 limit 2.
+// Power is a number and no enum: ticks and the theorems on them take any, and the list of samples tests it.
 #[derive(Clone, Copy)]
 pub struct Sample {
     pub raw: u32,
@@ -152,13 +153,4 @@ pub enum Order {
     Stop(bool, Halt, u32),
     SetHoming(u8),
     ClearBits,
-}
-
-// What a frame asks.
-#[derive(Clone, Copy)]
-pub enum Request {
-    Malformed(Fault),
-    Set(Setting),
-    Reset,
-    Wants(Order),
 }

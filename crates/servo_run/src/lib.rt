@@ -16,7 +16,7 @@ use servo_rules::{Counts, Drive, Load, Mode, Run, Sample, Settings, Way};
 pub fn position(x: Sample, k: Counts) -> u32
     ensures { result ≡ position_at x k }
 {
-    base_integers::less(x.raw, k.offset)
+    x.raw.wrapping_sub(k.offset)
 }
 
 // The setpoint at a position, without a fraction.
@@ -30,7 +30,7 @@ pub fn is_at_rest(r: Run) -> bool
     requires { Ranged r.profile }
     ensures { result ≡ at_rest r }
 {
-    base_integers::is_same(r.profile.speed, 0)
+    r.profile.speed == 0
 }
 
 // Power is good and the error bit is clear.
@@ -45,11 +45,8 @@ pub fn is_servo_off(mode: Mode) -> bool
     ensures { result ≡ servo_off mode }
 {
     match mode {
-        Mode::Off => true,
-        Mode::Pwm => true,
-        Mode::Hold => false,
-        Mode::Velocity => false,
-        Mode::Trapezoid => false,
+        Mode::Off | Mode::Pwm => true,
+        Mode::Hold | Mode::Velocity | Mode::Trapezoid => false,
     }
 }
 
@@ -69,10 +66,7 @@ pub fn resting(p: Profile, setpoint: u64) -> Profile
     Profile {
         setpoint,
         speed: 0,
-        goal: p.goal,
-        aim: p.aim,
-        acceleration: p.acceleration,
-        top: p.top,
+        ..p
     }
 }
 
@@ -83,9 +77,8 @@ fn driving(d: Drive, mode: Mode, pulse: i64, output: i64, cut: bool) -> Drive
         mode,
         pulse,
         output,
-        error: d.error,
-        amplifier: d.amplifier,
         cut,
+        ..d
     }
 }
 
@@ -96,18 +89,14 @@ pub fn servoing(d: Drive, mode: Mode) -> Drive
     Drive {
         mode,
         pulse: 0,
-        output: d.output,
-        error: d.error,
-        amplifier: d.amplifier,
-        cut: d.cut,
+        ..d
     }
 }
 
-pub fn with_profile(mut r: Run, p: Profile) -> Run
+pub fn with_profile(r: Run, p: Profile) -> Run
     ensures { result ≡ with_profile p r }
 {
-    r.profile = p;
-    r
+    Run { profile: p, ..r }
 }
 
 // With this error bit.
@@ -130,12 +119,10 @@ pub fn amplified(mut r: Run, a: bool) -> Run
 pub fn idled(r: Run, mode: Mode, pulse: i64) -> Run
     ensures { result ≡ idled mode pulse r }
 {
-    let p = r.profile;
-    let d = r.drive;
     Run {
-        profile: resting(p, p.setpoint),
+        profile: resting(r.profile, r.profile.setpoint),
         memory: blank(),
-        drive: driving(d, mode, pulse, 0, false),
+        drive: driving(r.drive, mode, pulse, 0, false),
     }
 }
 
@@ -151,11 +138,9 @@ fn aimed(p: Profile, setpoint: u64, aim: i64, a: u32) -> Profile
 {
     Profile {
         setpoint,
-        speed: p.speed,
-        goal: p.goal,
         aim,
         acceleration: a,
-        top: p.top,
+        ..p
     }
 }
 
@@ -163,13 +148,10 @@ fn aimed(p: Profile, setpoint: u64, aim: i64, a: u32) -> Profile
 pub fn to_speed(r: Run, setpoint: u64, aim: i64, a: u32) -> Run
     ensures { result ≡ to_speed setpoint aim a r }
 {
-    let p = r.profile;
-    let y = r.memory;
-    let d = r.drive;
     Run {
-        profile: aimed(p, setpoint, aim, a),
-        memory: y,
-        drive: servoing(d, Mode::Velocity),
+        profile: aimed(r.profile, setpoint, aim, a),
+        drive: servoing(r.drive, Mode::Velocity),
+        ..r
     }
 }
 
@@ -188,9 +170,11 @@ pub fn no_load() -> Load
 }
 
 // Without the waiting load.
-pub fn dropped(mut s: Settings) -> Settings
+pub fn dropped(s: Settings) -> Settings
     ensures { result ≡ dropped s }
 {
-    s.load = no_load();
-    s
+    Settings {
+        load: no_load(),
+        ..s
+    }
 }

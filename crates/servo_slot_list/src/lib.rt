@@ -1,6 +1,6 @@
 // Whether a slot holds a valid servo: the tests of the list.
 
-#![tactic(auto)]
+#![tactic(auto, using(std::proofs::lemmas::Int::ints), unfolding(base_integers::specs::Whole::same, servo_slot_rules::specs::List::emptied))]
 
 ghost use Rattle.std.specs.Prelude.{◌≡◌, ◌≤◌, length};
 ghost use Rattle.base_layout.specs.Every.{every, every_from};
@@ -29,20 +29,24 @@ const EL_TOP_AT: usize = servo_slot_rules::EL_AT + 1;
 const MEASURED_INPUTS_AT: usize = module_rules::MEASURED_AT + servo_slot_rules::INPUTS_AT
     - servo_slot_rules::LATCHED_AT;
 
+#[tactic(auto, unfolding(servo_slot_rules::specs::List::rates_fit))]
 fn do_rates_fit(r: Rates) -> bool
     ensures { result ≡ rates_fit r }
 {
-    (r.velocity <= 83_886_080)
-        & (r.acceleration <= 83_886_080)
+    (r.velocity <= servo_motion::FASTEST)
+        & (r.acceleration <= servo_motion::FASTEST)
         & (!r.ramped | (1 <= r.acceleration))
 }
 
+// `is_within` names a limit once, where a range would name it twice.
+#[tactic(auto, unfolding(servo_slot_rules::specs::List::memory_fits))]
 fn does_memory_fit(y: Memory) -> bool
     ensures { result ≡ memory_fits y }
 {
     base_integers::is_within(32767, y.integral) & base_integers::is_within(16383, y.previous)
 }
 
+#[tactic(auto, unfolding(servo_slot_rules::specs::List::drive_fits))]
 fn does_drive_fit(d: Drive) -> bool
     ensures { result ≡ drive_fits d }
 {
@@ -50,43 +54,41 @@ fn does_drive_fit(d: Drive) -> bool
 }
 
 // No byte of Set Homing, or a good one.
+#[tactic(auto, unfolding(servo_slot_rules::specs::List::homing_fits))]
 fn does_homing_fit(byte: u8) -> bool
     ensures { result ≡ homing_fits byte }
 {
-    if byte == 0 {
-        return true;
-    }
-    servo_homing::is_good(byte)
+    byte == 0 || servo_homing::is_good(byte)
 }
 
 fn is_emptied(y: Memory) -> bool
     ensures { result ≡ emptied y }
 {
-    base_integers::is_same(y.integral, 0) & base_integers::is_same(y.previous, 0)
+    (y.integral == 0) & (y.previous == 0)
 }
 
 fn is_silent(d: Drive) -> bool
     ensures { result ≡ silent d }
 {
-    base_integers::is_same(d.output, 0)
+    d.output == 0
 }
 
 fn is_unpulsed(d: Drive) -> bool
     ensures { result ≡ unpulsed d }
 {
-    base_integers::is_same(d.pulse, 0)
+    d.pulse == 0
 }
 
 fn is_still(p: Profile) -> bool
     ensures { result ≡ still p }
 {
-    base_integers::is_same(p.speed, 0)
+    p.speed == 0
 }
 
 fn is_live(power: u8, d: Drive) -> bool
     ensures { result ≡ live power d }
 {
-    !d.error & !(power == 0)
+    !d.error & (power != 0)
 }
 
 // What the mode asks.
@@ -106,16 +108,15 @@ fn does_mode_fit(mode: Mode, power: u8, r: Run) -> bool
     }
 }
 
+#[tactic(auto, unfolding(servo_slot_rules::specs::List::sound_at))]
 fn is_sound(power: u8, r: Run) -> bool
     requires { Ranged r.profile }
     ensures { result ≡ sound_at power r }
 {
-    let d = r.drive;
-    let mode = d.mode;
-    ((power == 1) | is_silent(d)) & does_mode_fit(mode, power, r)
+    ((power == 1) | is_silent(r.drive)) & does_mode_fit(r.drive.mode, power, r)
 }
 
-// The tests of the bytes before the rates: type, cause, power, inputs, gains, limits and the station's flags.
+// The tests of the bytes before the rates: type, cause, power, inputs, gains, limits and the station's flags. A slot is a slice, as in servo_slot_read.
 fn is_front_ok(s: &[u8]) -> bool
     requires { servo_size ≤ length s.now }
     ensures { result ≡ every (front_grouped s.now) }
@@ -174,10 +175,7 @@ pub fn is_ok(s: &[u8]) -> bool
     let run = servo_slot_read::run_in(s);
     let front = is_front_ok(s);
     let load = is_load_ok(front, s, rates);
-    if is_run_ok(load, s, run) {
-        return is_sound(s[servo_slot_rules::POWER_AT], run);
-    }
-    false
+    is_run_ok(load, s, run) && is_sound(s[servo_slot_rules::POWER_AT], run)
 }
 
 // Whether the sample in ten bytes of a tick's list has all its fields in range: power is 0 to 2, the inputs 0 to 3.

@@ -11,17 +11,22 @@ ghost use Rattle.servo_slot_rules.specs.Parts.{front_of, back_of, ticked_over};
 use servo_motion::Profile;
 use servo_rules::{Run, Sample, Servo};
 
-// Puts a profile into a slot.
-fn put_profile(s: &mut [u8], p: Profile)
-    requires { servo_size ≤ length s.old }
-    ensures { s.new ≡ pasted profile_at (profile.codec.enc p) s.old }
+const PROFILE_LEN: usize = servo_slot_rules::MEMORY_AT - servo_slot_rules::PROFILE_AT;
+
+// One array, so that a profile is put by plain stores: the setpoint, then speed, goal, aim, acceleration and top.
+fn profile_bytes(p: Profile) -> [u8; PROFILE_LEN]
+    ensures { result ≡ profile.codec.enc p }
 {
-    let speed = base_integers::word(p.speed);
-    let aim = base_integers::word(p.aim);
-    let setpoint = servo_slot_bytes::setpoint_bytes(p.setpoint);
-    let course = servo_slot_bytes::course_bytes(speed, p.goal, aim, p.acceleration, p.top);
-    base_layout::put_all(s, servo_slot_rules::SETPOINT_AT, &setpoint);
-    base_layout::put_all(s, servo_slot_rules::SPEED_AT, &course);
+    let [p0, p1, p2, p3, p4, p5] = servo_slot_bytes::setpoint_bytes(p.setpoint);
+    let [s0, s1, s2, s3] = base_integers::word(p.speed).to_le_bytes();
+    let [g0, g1, g2, g3] = p.goal.to_le_bytes();
+    let [m0, m1, m2, m3] = base_integers::word(p.aim).to_le_bytes();
+    let [a0, a1, a2, a3] = p.acceleration.to_le_bytes();
+    let [t0, t1, t2, t3] = p.top.to_le_bytes();
+    [
+        p0, p1, p2, p3, p4, p5, s0, s1, s2, s3, g0, g1, g2, g3, m0, m1, m2, m3, a0, a1, a2, a3, t0,
+        t1, t2, t3,
+    ]
 }
 
 // Puts what stands before the rates.
@@ -46,12 +51,13 @@ fn put_back(s: &mut [u8], m: Servo)
 {
     let rates = servo_slot_bytes::rates_bytes(m.settings.rates);
     let load = servo_slot_bytes::load_bytes(m.settings.load);
+    let profile = profile_bytes(m.run.profile);
     let memory = servo_slot_bytes::memory_bytes(m.run.memory);
     let drive = servo_slot_bytes::drive_bytes(m.run.drive);
     let homing = servo_slot_bytes::homing_bytes(m.homing);
     base_layout::put_all(s, servo_slot_rules::RATES_AT, &rates);
     base_layout::put_all(s, servo_slot_rules::LOAD_AT, &load);
-    put_profile(s, m.run.profile);
+    base_layout::put_all(s, servo_slot_rules::PROFILE_AT, &profile);
     base_layout::put_all(s, servo_slot_rules::MEMORY_AT, &memory);
     base_layout::put_all(s, servo_slot_rules::DRIVE_AT, &drive);
     base_layout::put_all(s, servo_slot_rules::HOME_AT, &homing);
@@ -78,6 +84,7 @@ fn put_pace(s: &mut [u8], p: Profile)
 }
 
 // Puts only what a tick changes where homing finds nothing: the latched sample, the position before the tick, setpoint and speed, memory and drive.
+#[tactic(auto, unfolding(servo_slot_rules::specs::Parts::ticked_over))]
 pub fn put_ticked(s: &mut [u8], x: Sample, last: u32, r: Run)
     requires { servo_size ≤ length s.old }
     ensures { s.new ≡ ticked_over x last r s.old }

@@ -11,6 +11,7 @@ use servo_rules::{
     Counts, Drive, Homing, Load, Mode, Rates, Run, Sample, Servo, Settings, Tuning, Way,
 };
 
+// No `impl From`: it would stand with the enum in servo_rules, which has no function and knows no numbers of a slot.
 fn way_in(b: u8) -> Way
     ensures { result ≡ way_in b }
 {
@@ -33,18 +34,17 @@ fn mode_in(b: u8) -> Mode
     }
 }
 
-// The sample that stands from a place on, in a slot or in a tick's list.
+// The sample that stands from a place on, in a slot or in a tick's list. A slot is a slice, and each contract says how long: slots are lent out of the
+// record, and an array or a struct over one would be a conversion more in each public call.
 pub fn sample_in(s: &[u8], at: usize) -> Sample
     requires { at + sample.codec.size ≤ length s.now }
     ensures { result ≡ sample.codec.dec at s.now }
 {
-    let a = at + 1;
-    let b = a + 1;
     Sample {
-        raw: base_layout::get4(s, b),
+        raw: base_layout::get4(s, at + 2),
         power: s[at],
-        ad: s[a],
-        inputs: s[b + 4],
+        ad: s[at + 1],
+        inputs: s[at + 6],
     }
 }
 
@@ -91,6 +91,8 @@ fn tuning_in(s: &[u8]) -> Tuning
     }
 }
 
+// Flags beside values and no `Option`, here as in a load: where nothing was loaded or waits the other bytes come back as they were read, whatever they
+// are (`there` of `Lawful`, proofs/Codec.antt of base_layout).
 pub fn rates_in(s: &[u8]) -> Rates
     requires { servo_size ≤ length s.now }
     ensures { result ≡ rates.codec.dec rates_at s.now }
@@ -189,6 +191,7 @@ pub fn homing_in(s: &[u8]) -> Homing
 }
 
 // The servo in a slot.
+#[tactic(auto, unfolding(servo_slot_rules::specs::Slot::decode_of))]
 pub fn decode(s: &[u8]) -> Servo
     requires { servo_size ≤ length s.now }
     ensures { result ≡ decode_of s.now }

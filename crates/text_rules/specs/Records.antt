@@ -1,8 +1,6 @@
 -- Bytes of the line as records of a replay file (document 01, "Replay file"; document 02, P7).
-use Rattle.std.specs.Prelude.{List, [], ◌∷◌, ◌++◌, Bool, true, false, cond, ◌&&◌, ℕ, ◌+◌, eqb, leb}
+use Rattle.std.specs.Prelude.{List, [], ◌∷◌, ◌++◌, Bool, true, false, cond, ◌&&◌, ℕ, ◌+◌, eqb, leb, Option, Some, None}
 use Rattle.line_receiver.specs.Frames.{Byte}
-use Rattle.text_rules.specs.declared.Measured.{Measured}
-use Rattle.text_rules.specs.declared.Measured.TheVariants.{Line, Other}
 
 -- 01 Replay file: the kind of a line byte's record.
 abbrev pub line_kind : ℕ
@@ -40,6 +38,6 @@ abbrev pub marks : List Byte → ℕ
 marks [] = 0
 marks (b ∷ bs) = mark_of b.mark + marks bs
 
--- 02 P7, 22: whether these are records of line bytes alone, and then how many are marked.
-unfoldable pub measured_of : List ℕ → Measured
-measured_of rs = cond (all_line rs) (Line (marks (bytes_in rs))) Other
+-- 02 P7, 22: of records of line bytes alone, how many are marked; nothing of anything else.
+unfoldable pub measured_of : List ℕ → Option ℕ
+measured_of rs = cond (all_line rs) (Some (marks (bytes_in rs))) None

@@ -48,10 +48,3 @@ pub struct Read {
     pub count: usize,
     pub bytes: usize,
 }
-
-// What some bytes are: records of line bytes alone, so many of them marked, or something else.
-#[derive(Clone, Copy)]
-pub enum Measured {
-    Line(usize),
-    Other,
-}

@@ -1,5 +1,4 @@
 -- `base_layout::put_all` meets its contract. The invariant: the first i bytes are pasted, and the length is as it was. Assumes nothing.
-use Prim.Native.Nat.{◌-◌}
 use native.Mathlib.Numerals.{add-one}
 use native.Mathlib.Omega.{arith}
 use lib.ListN.{length-set}
@@ -11,4 +10,4 @@ loop-i-preserved c =
     let a = c.args in
     let l = c.loop-i in
     let step = paste-suc a.dst.now a.at a.src.now l.i 0 (omega arith) (omega arith) in
-    (omega arith, simp length-set (omega arith), rw (l.invariant.2, add-one) step)
+    (simp length-set (omega arith), rw (l.invariant.1, add-one) step)

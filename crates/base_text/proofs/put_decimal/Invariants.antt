@@ -1,7 +1,7 @@
 -- `base_text::put_decimal` meets its contract. The invariant: the digits of what is left, before those that are there, give the whole. Assumes nothing.
 use mathlib.Core.Path.{◌≡◌}
 use mathlib.Core.List.{◌++◌}
-use Prim.Native.Nat.{◌-◌, ◌^◌, ◌<◌, ◌≤◌}
+use Prim.Native.Nat.{◌^◌, ◌<◌, ◌≤◌}
 use lib.ListN.{length, drop}
 use Rattle.base_text.specs.Digits.{decimal}
 use Rattle.base_text.specs.Digits as Spec

@@ -12,8 +12,7 @@ returns c =
     let room = a.room.now in
     let command : ℕ = a.code + 16 * length ds in
     let called = c.sum_on-sum in
-    let begun = c.wrapping_add_u8-start in
-    let s : called.result ≡ sum8 a.address command ds = omega (arith, called.ensures, begun.ensures) in
+    let s : called.result ≡ sum8 a.address command ds = omega (arith, called.ensures) in
     ap (λ (x : List ℕ). set x (length ds + 3) called.result) c.put_all.ensures
     ∙ framed a.address command called.result ds room (omega arith)
     ∙ ap (λ (x : ℕ). pasted 0 (0xAA ∷ a.address ∷ command ∷ ds ++ x ∷ []) room) s

@@ -1,5 +1,4 @@
 -- `host_status::is_summed` meets its contract. Assumes nothing.
-use Prim.Native.Nat.{◌-◌}
 use native.Mathlib.Nat.{zero-add}
 use Rattle.host_rules.specs.Reading.{summed}
 use Rattle.host_status.proofs.is_summed.Goals as goal

@@ -1,7 +1,7 @@
 -- `net_frame::walk` meets its contract. The invariant: the rest of the walk, from the record as it is, gives the whole. Assumes nothing.
 use mathlib.Core.Path.{◌≡◌}
 use mathlib.Core.Bool.{true}
-use Prim.Native.Nat.{◌+◌, ◌*◌, ◌≤◌}
+use Prim.Native.Nat.{◌+◌, ◌*◌, ◌-◌, ◌≤◌}
 use lib.ListN.{length, drop, replicate}
 use Rattle.base_layout.specs.Bytes.{pasted}
 use Rattle.module_rules.specs.Touch.{frame_of}
@@ -14,18 +14,11 @@ use Rattle.module_rules.specs.Slots.{slot_size}
 use Rattle.module_rules.specs.Owes.{reply_size}
 use Rattle.net_frame.proofs.walk.Given as goal
 
-abbrev pub invariant-loop-left : goal.invariant-loop-left
-invariant-loop-left l =
-    (l.at + slot_size * l.left ≡ slots_at + slot_size * l.n)
-    × (l.place + l.left ≡ l.n)
-    × (length l.net ≡ length l.initial.net)
-    × (length l.room ≡ length l.initial.room)
-    × (l.written + reply_size * l.left ≤ length l.initial.room)
-    × (walked kind slots (frame_of l.f l.ds) l.enabled l.left l.at l.net ≡ walked kind slots (frame_of l.f l.ds) true l.n slots_at l.initial.net)
-    × (pasted l.written (join (speech kind slots (frame_of l.f l.ds) l.enabled l.left l.at l.net)) l.room ≡ pasted 0 (join (speech kind slots (frame_of l.f l.ds) true l.n slots_at l.initial.net)) l.initial.room)
-    × (l.written + length (join (speech kind slots (frame_of l.f l.ds) l.enabled l.left l.at l.net)) ≡ length (join (speech kind slots (frame_of l.f l.ds) true l.n slots_at l.initial.net)))
-    × (noted (speech kind slots (frame_of l.f l.ds) l.enabled l.left l.at l.net) l.place l.lengths ≡ noted (speech kind slots (frame_of l.f l.ds) true l.n slots_at l.initial.net) 0 (replicate chain_most 0))
-    × (ok_slots slots l.left (drop l.at l.net) ≡ true)
-
-abbrev pub decreases-loop-left : goal.decreases-loop-left
-decreases-loop-left l = l.left
+abbrev pub invariant-loop-place : goal.invariant-loop-place
+invariant-loop-place l =
+    (l.written ≤ reply_size * l.place)
+    × (walked kind slots (frame_of l.f) l.enabled (l.n - l.place) (slots_at + slot_size * l.place) l.net ≡ walked kind slots (frame_of l.f) true l.n slots_at l.initial.net)
+    × (pasted l.written (join (speech kind slots (frame_of l.f) l.enabled (l.n - l.place) (slots_at + slot_size * l.place) l.net)) l.room ≡ pasted 0 (join (speech kind slots (frame_of l.f) true l.n slots_at l.initial.net)) l.initial.room)
+    × (l.written + length (join (speech kind slots (frame_of l.f) l.enabled (l.n - l.place) (slots_at + slot_size * l.place) l.net)) ≡ length (join (speech kind slots (frame_of l.f) true l.n slots_at l.initial.net)))
+    × (noted (speech kind slots (frame_of l.f) l.enabled (l.n - l.place) (slots_at + slot_size * l.place) l.net) l.place l.lengths ≡ noted (speech kind slots (frame_of l.f) true l.n slots_at l.initial.net) 0 (replicate chain_most 0))
+    × (ok_slots slots (l.n - l.place) (drop (slots_at + slot_size * l.place) l.net) ≡ true)

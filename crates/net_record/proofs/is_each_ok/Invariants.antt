@@ -7,8 +7,5 @@ use Rattle.net_rules.specs.Record.{ok_slots, slots_at}
 use Rattle.module_rules.specs.Slots.{slot_size}
 use Rattle.net_record.proofs.is_each_ok.Given as goal
 
-abbrev pub invariant-loop-left : goal.invariant-loop-left
-invariant-loop-left l = (l.at + slot_size * l.left ≡ slots_at + slot_size * l.n) × (ok_slots slots l.left (drop l.at l.net) ≡ ok_slots slots l.n (drop slots_at l.net))
-
-abbrev pub decreases-loop-left : goal.decreases-loop-left
-decreases-loop-left l = l.left
+abbrev pub invariant-loop-place : goal.invariant-loop-place
+invariant-loop-place l = ok_slots slots (l.n - l.place) (drop (slots_at + slot_size * l.place) l.net) ≡ ok_slots slots l.n (drop slots_at l.net)

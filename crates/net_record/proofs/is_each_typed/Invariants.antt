@@ -9,12 +9,7 @@ use Rattle.net_rules.specs.Record.{modules_in, ok_slots, slots_at}
 use Rattle.net_rules.specs.Calls.{all_typed}
 use Rattle.net_record.proofs.is_each_typed.Given as goal
 
-abbrev pub invariant-loop-left : goal.invariant-loop-left
-invariant-loop-left l =
-    (l.at + slot_size * l.left ≡ slots_at + slot_size * l.n)
-    × (l.from + sample_size * l.left ≡ sample_size * l.n)
-    × (ok_slots slots l.left (drop l.at l.net) ≡ true)
-    × (all_typed (modules_in slots l.left (drop l.at l.net)) (drop l.from l.samples) ≡ all_typed (modules_in slots l.n (drop slots_at l.net)) l.samples)
-
-abbrev pub decreases-loop-left : goal.decreases-loop-left
-decreases-loop-left l = l.left
+abbrev pub invariant-loop-place : goal.invariant-loop-place
+invariant-loop-place l =
+    (ok_slots slots (l.n - l.place) (drop (slots_at + slot_size * l.place) l.net) ≡ true)
+    × (all_typed (modules_in slots (l.n - l.place) (drop (slots_at + slot_size * l.place) l.net)) (drop (sample_size * l.place) l.samples) ≡ all_typed (modules_in slots l.n (drop slots_at l.net)) l.samples)

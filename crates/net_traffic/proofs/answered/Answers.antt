@@ -10,5 +10,5 @@ returns-in_default c = let a = c.args in
 pub returns : goal.returns
 returns c =
     let a = c.args in
-    let r = frame-ended a.r a.net.now a.room.now c.in-Ended.is (c.hand_on.ensures.value, (c.hand_on.ensures.net_after, c.hand_on.ensures.room_after)) in
+    let r = frame-ended a.r a.net.now a.room.now c.in-Some.is (c.hand_on.ensures.value, (c.hand_on.ensures.net_after, c.hand_on.ensures.room_after)) in
     record { value = r.0; net_after = r.1.0; room_after = r.1.1 }

@@ -1,5 +1,4 @@
 -- `net_traffic::bytes` meets its contract. The invariant: the bytes still to be taken give the whole. Assumes nothing.
-use Prim.Native.Nat.{◌-◌, ◌≤◌}
 use lib.ListN.{length, drop}
 use Rattle.chain_rules.specs.Chain.{taking}
 use Rattle.types_rules.specs.Types.{kind, slots}
@@ -8,10 +7,6 @@ use Rattle.net_rules.specs.Calls.{bytes_of}
 use Rattle.net_rules.proofs.Buffer.{Midway}
 use Rattle.net_traffic.proofs.bytes.Given as goal
 
-abbrev pub invariant-loop-i : goal.invariant-loop-i
-invariant-loop-i l =
-    (l.i ≤ length l.values)
-    × Midway (taking kind (bytes_of l.values l.marks) (net_in slots l.initial.net)) l.initial.net l.initial.room (bytes_of (drop l.i l.values) (drop l.i l.marks)) l.r l.net l.room l.written
-
-abbrev pub decreases-loop-i : goal.decreases-loop-i
-decreases-loop-i l = length l.values - l.i
+abbrev pub invariant-loop-value : goal.invariant-loop-value
+invariant-loop-value l =
+    Midway (taking kind (bytes_of l.values l.marks) (net_in slots l.initial.net)) l.initial.net l.initial.room (bytes_of (drop (length l.yielded) l.values) (drop (length l.yielded) l.marks)) l.r l.net l.room l.written

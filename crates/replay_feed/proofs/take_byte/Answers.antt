@@ -1,7 +1,7 @@
 -- `replay_feed::take_byte` meets its contract. Assumes nothing.
 use mathlib.Core.Path.{refl, ap, ◌∙◌}
 use mathlib.Core.List.{List}
-use mathlib.Core.Bool.{true, false}
+use mathlib.Core.Bool.{true}
 use Prim.Native.Nat.{ℕ, ◌+◌, ◌≤◌}
 use native.Mathlib.Omega.{arith}
 use borrow.Author.Tests.{lt-leb, le-leb}
@@ -16,6 +16,7 @@ use Rattle.net_rules.proofs.Exact.{length-modules}
 use Rattle.replay_file.proofs.Spoken.{lengths_small, text_is}
 use Rattle.replay_file.specs.Records.{line_byte}
 use Rattle.replay_file.specs.Turns.{turned, net_after, text_after}
+use Rattle.replay_file.specs.declared.Course.TheVariants.{GoesOn}
 use Rattle.replay_feed.proofs.take_byte.Goals as goal
 use Rattle.replay_feed.proofs.take_byte.Goals.{Start}
 
@@ -43,7 +44,7 @@ returns c =
     let t = text_is (net_in slots a.net.now) (byte_of (get_or a.body.now 1 0) (eqb (get_or a.body.now 0 0) 1)) (most s) e.value (replicate room_size 0) e.room_after in
     rw (le-leb (get_or a.body.now 0 0) 1 (omega (arith, c.if-mark-gt1.false))) record {
       value = c.went.ensures
-          ∙ ap (λ (k : ℕ). record { next = record { offset = a.at.offset + 3; count = a.at.count; running = true }; took = 3; wrote = k; over = false; wants = false }) (p.value ∙ ap length t);
+          ∙ ap (λ (k : ℕ). record { next = record { offset = a.at.offset + 3; count = a.at.count; running = true }; took = 3; wrote = k; course = GoesOn }) (p.value ∙ ap length t);
       net_after = e.net_after;
       out_after = p.out_after ∙ ap (λ (x : List ℕ). pasted 0 x a.out.now) t;
     }

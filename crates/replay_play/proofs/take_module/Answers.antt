@@ -1,13 +1,14 @@
 -- `replay_play::take_module` meets its contract. Assumes nothing.
 use mathlib.Core.Path.{◌≡◌, refl, sym, ap, ◌∙◌}
 use mathlib.Core.List.{[], ◌∷◌, ◌++◌}
-use mathlib.Core.Bool.{false, not, ◌||◌}
+use mathlib.Core.Bool.{Bool, true, false, not, ◌||◌}
 use Prim.Native.Nat.{ℕ, ◌+◌}
 use lib.ListN.{length, take}
 use lib.Dec.{leb}
 use Rattle.types_rules.specs.Types.{known}
 use Rattle.net_rules.specs.Calls.{fresh}
 use Rattle.base_layout.proofs.Pasted.{pasted_none}
+use Rattle.replay_file.specs.declared.Course.TheVariants.{GoesOn}
 use Rattle.replay_file.specs.Turns.{turned, types_after, samples_after, net_after, text_after}
 use Rattle.replay_file.proofs.Gathered.{module_bad, module-good, types-put, types-taken, types_more, samples-put}
 use Rattle.net_rules.specs.Record.{chain_most}
@@ -18,6 +19,10 @@ use Rattle.replay_play.proofs.take_module.Goals.{Else-at-n}
 module _ (c : Else-at-n) where
   test : ((c.args.at.running || leb chain_most c.args.at.count) || not (known c.args.t)) ≡ false
   test = rw c.is_known.ensures at c.if-at-n.false
+
+first_false : (p q : Bool) → (p || q) ≡ false → p ≡ false
+first_false true q e = e
+first_false false q e = refl
 
 pub returns-then-at-n : goal.returns-then-at-n
 unfolding turned types_after samples_after net_after text_after
@@ -41,7 +46,7 @@ returns c =
     let g = module-good a.at a.types.now a.samples.now a.net.now a.t h.size h.most t in
     let n : a.at.count + 1 ≡ length (take a.at.count a.types.now ++ a.t ∷ []) = sym m ∙ ap length k in
     rw g (record {
-      value = ap (λ (k : ℕ). record { next = record { offset = a.at.offset + 2; count = k; running = false }; took = 2; wrote = 0; over = false; wants = false }) n;
+      value = c.joined.ensures ∙ rw (first_false a.at.running _ (first_false _ _ t)) (ap (λ (k : ℕ). record { next = record { offset = a.at.offset + 2; count = k; running = false }; took = 2; wrote = 0; course = GoesOn }) n);
       types_after = types-put a.at a.types.now a.samples.now a.net.now a.t h.size h.most t;
       samples_after =
           c.put_unmeasured.ensures

@@ -1,7 +1,6 @@
 -- `servo_motion::by_halves` meets its contract: the greatest of the range that is left is the greatest of the whole. What grows less is the
 -- number of halvings to come, so a profile in range has at most 27 of them (`at_most_27`). Assumes nothing.
 use mathlib.Core.Path.{sym, ◌∙◌}
-use Prim.Native.Nat.{◌-◌}
 use native.Mathlib.Omega.{arith}
 use borrow.Author.Tests.{le-leb, lt-leb}
 use Rattle.servo_motion.proofs.Stopping.{within}

@@ -1,68 +1,26 @@
--- `servo_motion::toward` meets its contract: each way through the code is one of the four cases of the definition. Assumes nothing.
-use mathlib.Core.Path.{◌≡◌}
-use mathlib.Core.Bool.{true, false}
-use native.Mathlib.Omega.{arith}
-use lib.IntN.{pos, ◌+ℤ◌, ◌-ℤ◌}
-use lib.Signed.{le_z}
+-- `servo_motion::toward` meets its contract: on either side of the goal the clamp keeps to one of its limits. Assumes nothing.
+use Rattle.std.proofs.Common.{◌≡◌, ℕ, Bool, true, false, ℤ, pos, ◌+ℤ◌, ◌-ℤ◌, refl, sym, ◌∙◌, arith}
+use Rattle.std.proofs.lemmas.Int.{ints, clamps, to_z-of_z}
+use Rattle.std.specs.Int.{int_min, int_max}
 use mir.Syntax.{w64}
-use mir.Val.{SFits, to_z, of_z}
-use mir.ValLaws.{to_z-of_z, to_z_pos}
-use Rattle.base_integers.proofs.Sizes.{abs_add, abs_diff, fits}
+use mir.Val.{to_z, of_z}
+use lib.Signed.{le_z}
 use Rattle.servo_motion.specs.Velocity.{toward}
 use Rattle.servo_motion.proofs.toward.Goals as goal
-use Rattle.servo_motion.proofs.toward.Goals.{Start}
 
--- the machine reads each number back as it is
-module _ (s : Start) where
-  v-is : to_z w64 (of_z w64 s.args.v) ≡ s.args.v
-  v-is = to_z-of_z w64 _ s.ranges.v
-
-  goal-is : to_z w64 (of_z w64 s.args.goal) ≡ s.args.goal
-  goal-is = to_z-of_z w64 _ s.ranges.goal
-
-  a-is : to_z w64 s.args.a ≡ pos s.args.a
-  a-is = to_z_pos w64 _ (omega arith)
-
-  up_fits : SFits w64 (s.args.v +ℤ pos s.args.a)
-  up_fits = fits _ (omega (arith, abs_add s.args.v (pos s.args.a)))
-
-  up_is : to_z w64 (of_z w64 (s.args.v +ℤ pos s.args.a)) ≡ s.args.v +ℤ pos s.args.a
-  up_is = to_z-of_z w64 _ up_fits
-
-  down_fits : SFits w64 (s.args.v -ℤ pos s.args.a)
-  down_fits = fits _ (omega (arith, abs_diff s.args.v (pos s.args.a)))
-
-  down_is : to_z w64 (of_z w64 (s.args.v -ℤ pos s.args.a)) ≡ s.args.v -ℤ pos s.args.a
-  down_is = to_z-of_z w64 _ down_fits
-
-pub returns-then-up-goal : goal.returns-then-up-goal
+toward_is : (a : ℕ) (to v : ℤ) → toward a to v ≡ int_max (v -ℤ pos a) (int_min to (v +ℤ pos a))
 unfolding toward
-returns-then-up-goal c =
-    let s = (goal.at.returns-then-up-goal c).Start in
-    let t : le_z s.args.v s.args.goal ≡ true = simp (v-is s, goal-is s) at c.if-v-goal.true in
-    let u : le_z (s.args.v +ℤ pos s.args.a) s.args.goal ≡ true = simp (v-is s, goal-is s, a-is s, up_is s) at c.if-up-goal.true in
-    simp (v-is s, a-is s, up_is s, t, u)
+toward_is a to v = by (le_z v to) refl
+  where
+    by : (t : Bool) → le_z v to ≡ t → toward a to v ≡ int_max (v -ℤ pos a) (int_min to (v +ℤ pos a))
+    by true e = rw e (grind (arith, ints, clamps))
+    by false e = rw e (grind (arith, ints, clamps))
 
-pub returns-else-up-goal : goal.returns-else-up-goal
-unfolding toward
-returns-else-up-goal c =
-    let s = (goal.at.returns-else-up-goal c).Start in
-    let t : le_z s.args.v s.args.goal ≡ true = simp (v-is s, goal-is s) at c.if-v-goal.true in
-    let u : le_z (s.args.v +ℤ pos s.args.a) s.args.goal ≡ false = simp (v-is s, goal-is s, a-is s, up_is s) at c.if-up-goal.false in
-    simp (goal-is s, t, u)
-
-pub returns-then-down-goal : goal.returns-then-down-goal
-unfolding toward
-returns-then-down-goal c =
-    let s = (goal.at.returns-then-down-goal c).Start in
-    let t : le_z s.args.v s.args.goal ≡ false = simp (v-is s, goal-is s) at c.if-v-goal.false in
-    let u : le_z (s.args.v -ℤ pos s.args.a) s.args.goal ≡ true = simp (v-is s, goal-is s, a-is s, down_is s) at c.if-down-goal.true in
-    simp (goal-is s, t, u)
-
-pub returns-else-down-goal : goal.returns-else-down-goal
-unfolding toward
-returns-else-down-goal c =
-    let s = (goal.at.returns-else-down-goal c).Start in
-    let t : le_z s.args.v s.args.goal ≡ false = simp (v-is s, goal-is s) at c.if-v-goal.false in
-    let u : le_z (s.args.v -ℤ pos s.args.a) s.args.goal ≡ false = simp (v-is s, goal-is s, a-is s, down_is s) at c.if-down-goal.false in
-    simp (v-is s, a-is s, down_is s, t, u)
+pub returns : goal.returns
+returns c =
+    let a = c.args.a in
+    let v = c.args.v in
+    let low : to_z w64 (of_z w64 (to_z w64 (of_z w64 v) -ℤ to_z w64 a)) ≡ v -ℤ pos a = omega (arith, ints) in
+    let high : to_z w64 (of_z w64 (to_z w64 (of_z w64 v) +ℤ to_z w64 a)) ≡ v +ℤ pos a = omega (arith, ints) in
+    let to : to_z w64 (of_z w64 c.args.goal) ≡ c.args.goal = omega (arith, ints) in
+    to_z-of_z w64 _ (record { sfits = c.clamp.type_inv }) ∙ (rw (low, high, to) at c.clamp.ensures.value) ∙ sym (toward_is a c.args.goal v)

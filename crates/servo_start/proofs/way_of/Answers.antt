@@ -1,16 +1,16 @@
 -- `servo_start::way_of` meets its contract. Assumes nothing.
-use mathlib.Core.Path.{sym, ◌∙◌}
+use Rattle.std.proofs.Common.{arith}
 use Rattle.servo_rules.specs.Loads.{way_of}
 use Rattle.servo_start.proofs.way_of.Goals as goal
 
-pub returns-then-is_set-2 : goal.returns-then-is_set-2
+pub returns-then-not-is_set : goal.returns-then-not-is_set
 unfolding way_of
-returns-then-is_set-2 c = rw (sym c.is_set.ensures ∙ c.if-is_set.true, sym c.is_set-then-is_set.ensures ∙ c.if-is_set-2.true)
+returns-then-not-is_set c = grind arith
 
 pub returns-then-is_set : goal.returns-then-is_set
 unfolding way_of
-returns-then-is_set c = rw (sym c.is_set.ensures ∙ c.if-is_set.true, sym c.is_set-then-is_set.ensures ∙ c.if-is_set-2.false)
+returns-then-is_set c = grind arith
 
-pub returns : goal.returns
+pub returns-else-is_set : goal.returns-else-is_set
 unfolding way_of
-returns c = rw (sym c.is_set.ensures ∙ c.if-is_set.false)
+returns-else-is_set c = grind arith

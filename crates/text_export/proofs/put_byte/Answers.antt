@@ -11,17 +11,14 @@ use Rattle.text_rules.specs.Export.{per_line, only_if}
 use Rattle.text_rules.proofs.Columns.{column_length}
 use Rattle.text_export.proofs.put_byte.Goals as goal
 
-pub returns : goal.returns
-returns c =
-    let s = c in
-    let a = s.args in
+pub returns-clause-room_after : goal.returns-clause-room_after
+returns-clause-room_after c =
+    let a = c.args in
     let p = c.put_if-digits in
     let q = c.put_digits-bang in
     let r = c.put_if-end in
     let t = c.put_if in
-    let l = column_length a.column a.value a.mark in record {
-      value = omega (arith, l, p.ensures.value, q.ensures.value, r.ensures.value, t.ensures.value);
-      room_after = put_four (only_if (not (eqb a.column 0)) space) (hex_pair a.value) (only_if a.mark bang) (only_if (eqb a.column (per_line - 1)) newline) a.room.now
-          a.at p.result q.result r.result (sym p.ensures.value) (sym q.ensures.value) (sym r.ensures.value)
-          (omega (arith, l, s.requires, p.ensures.value, q.ensures.value, r.ensures.value)) refl refl refl refl p.ensures.room_after q.ensures.room_after r.ensures.room_after t.ensures.room_after;
-    }
+    let l = column_length a.column a.value a.mark in
+    put_four (only_if (not (eqb a.column 0)) space) (hex_pair a.value) (only_if a.mark bang) (only_if (eqb a.column (per_line - 1)) newline) a.room.now
+    a.at p.result q.result r.result (sym p.ensures.value) (sym q.ensures.value) (sym r.ensures.value)
+    (omega (arith, l, c.requires, p.ensures.value, q.ensures.value, r.ensures.value)) refl refl refl refl p.ensures.room_after q.ensures.room_after r.ensures.room_after t.ensures.room_after

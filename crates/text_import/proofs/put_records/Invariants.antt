@@ -12,12 +12,8 @@ use Rattle.text_import.proofs.put_records.Given as goal
 abbrev pub invariant-loop-i : goal.invariant-loop-i
 invariant-loop-i l =
     Fit (stage_of l.reader)
-    × (l.i ≤ length l.text)
     × (l.bytes ≤ l.i)
     × (length l.room ≡ length l.initial.room)
     × Midway step (read_from (stage_of l.initial.reader) l.text) (stage_of l.reader) l.text l.i l.bytes
     × (pasted (3 * l.bytes) (records (take (l.most - l.bytes) (read_from (stage_of l.reader) (drop l.i l.text)).bytes)) l.room
     ≡ pasted 0 (records (take l.most (read_from (stage_of l.initial.reader) l.text).bytes)) l.initial.room)
-
-abbrev pub decreases-loop-i : goal.decreases-loop-i
-decreases-loop-i l = length l.text - l.i

@@ -1,29 +1,21 @@
--- `types_dispatch::is_ok` meets its contract. Assumes nothing.
-use mathlib.Core.Path.{◌≡◌, sym, ap, ◌∙◌}
+-- `types_dispatch::is_ok` meets its contract. Each type is one arm. Assumes nothing.
+use mathlib.Core.Path.{sym, ap, ◌∙◌}
 use lib.ListN.{get_or}
-use Rattle.types_rules.specs.Table.{ModuleType, servo, inout, stepper, rules_of, slots_of}
-use Rattle.types_rules.proofs.Dispatch.{type_at, no_type}
+use Rattle.types_rules.specs.Table.{ModuleType, slots_of, servo, inout}
+use Rattle.types_rules.proofs.Dispatch.{type_at, type_last}
 use Rattle.types_dispatch.proofs.is_ok.Goals as goal
 
-pub returns-then-t-eq-TYPE : goal.returns-then-t-eq-TYPE
-returns-then-t-eq-TYPE c =
+pub returns-in-0 : goal.returns-in-0
+returns-in-0 c =
     let s = c.args.s.now in
-    c.is_ok.ensures ∙ sym (ap (λ (t : ModuleType). (slots_of t).ok s) (type_at (get_or s 0 0) servo c.if-t-eq-TYPE.true))
+    c.is_ok.ensures ∙ ap (λ (t : ModuleType). (slots_of t).ok s) (sym (type_at (get_or c.args.s.now 0 0) servo c.in-0.is))
 
-pub returns-then-t-eq-TYPE-2 : goal.returns-then-t-eq-TYPE-2
-returns-then-t-eq-TYPE-2 c =
+pub returns-in-2 : goal.returns-in-2
+returns-in-2 c =
     let s = c.args.s.now in
-    c.is_ok-then-t-eq-TYPE-2.ensures ∙ sym (ap (λ (t : ModuleType). (slots_of t).ok s) (type_at (get_or s 0 0) inout c.if-t-eq-TYPE-2.true))
+    c.is_ok-in-2.ensures ∙ ap (λ (t : ModuleType). (slots_of t).ok s) (sym (type_at (get_or c.args.s.now 0 0) inout c.in-2.is))
 
-pub returns-then-t-eq-TYPE-3 : goal.returns-then-t-eq-TYPE-3
-returns-then-t-eq-TYPE-3 c =
+pub returns-in_default : goal.returns-in_default
+returns-in_default c =
     let s = c.args.s.now in
-    c.is_ok-then-t-eq-TYPE-3.ensures ∙ sym (ap (λ (t : ModuleType). (slots_of t).ok s) (type_at (get_or s 0 0) stepper c.if-t-eq-TYPE-3.true))
-
-pub returns : goal.returns
-returns c = no_type c.args.s.now none
-  where
-    none : (t : ModuleType) → get_or c.args.s.now 0 0 ≡ (rules_of t).number → ⊥
-    none servo = c.if-t-eq-TYPE.false
-    none inout = c.if-t-eq-TYPE-2.false
-    none stepper = c.if-t-eq-TYPE-3.false
+    c.is_ok-in_default.ensures ∙ ap (λ (t : ModuleType). (slots_of t).ok s) (sym (type_last (get_or c.args.s.now 0 0) c.in_default.in_default-own.rest.0.1 c.in_default.in_default-own.rest.1))

@@ -1,26 +1,23 @@
--- `types_dispatch::is_sample_ok` meets its contract. Assumes nothing.
+-- `types_dispatch::is_sample_ok` meets its contract. Each type is one arm. Assumes nothing.
 use mathlib.Core.Path.{sym, ap, ◌∙◌}
-use lib.ListN.{get_or}
 use Rattle.base_layout.specs.Every.{every}
 use Rattle.module_rules.specs.Slots.{measured_at}
-use Rattle.types_rules.specs.Table.{ModuleType, servo, inout, sample_of}
+use lib.ListN.{get_or}
+use Rattle.types_rules.specs.Table.{ModuleType, sample_of, servo, inout}
 use Rattle.types_rules.proofs.Dispatch.{type_at, type_last}
 use Rattle.types_dispatch.proofs.is_sample_ok.Goals as goal
 
-pub returns-then-s-eq-TYPE : goal.returns-then-s-eq-TYPE
-returns-then-s-eq-TYPE c =
+pub returns-in-0 : goal.returns-in-0
+returns-in-0 c =
     let s = c.args.s.now in
-    c.is_sample_ok.ensures
-    ∙ sym (ap (λ (t : ModuleType). every ((sample_of t).codec.tests measured_at s)) (type_at (get_or s 0 0) servo c.if-s-eq-TYPE.true))
+    c.is_sample_ok.ensures ∙ ap (λ (t : ModuleType). every ((sample_of t).codec.tests measured_at s)) (sym (type_at (get_or c.args.s.now 0 0) servo c.in-0.is))
 
-pub returns-then-s-eq-TYPE-2 : goal.returns-then-s-eq-TYPE-2
-returns-then-s-eq-TYPE-2 c =
+pub returns-in-2 : goal.returns-in-2
+returns-in-2 c =
     let s = c.args.s.now in
-    c.is_sample_ok-then-s-eq-TYPE-2.ensures
-    ∙ sym (ap (λ (t : ModuleType). every ((sample_of t).codec.tests measured_at s)) (type_at (get_or s 0 0) inout c.if-s-eq-TYPE-2.true))
+    c.is_sample_ok-in-2.ensures ∙ ap (λ (t : ModuleType). every ((sample_of t).codec.tests measured_at s)) (sym (type_at (get_or c.args.s.now 0 0) inout c.in-2.is))
 
-pub returns : goal.returns
-returns c =
+pub returns-in_default : goal.returns-in_default
+returns-in_default c =
     let s = c.args.s.now in
-    c.is_sample_ok-2.ensures
-    ∙ sym (ap (λ (t : ModuleType). every ((sample_of t).codec.tests measured_at s)) (type_last (get_or s 0 0) c.if-s-eq-TYPE.false c.if-s-eq-TYPE-2.false))
+    c.is_sample_ok-in_default.ensures ∙ ap (λ (t : ModuleType). every ((sample_of t).codec.tests measured_at s)) (sym (type_last (get_or c.args.s.now 0 0) c.in_default.in_default-own.rest.0.1 c.in_default.in_default-own.rest.1))

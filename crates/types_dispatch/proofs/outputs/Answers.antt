@@ -1,29 +1,28 @@
--- `types_dispatch::outputs` meets its contract. Assumes nothing.
+-- `types_dispatch::outputs` meets its contract. Each type is one arm. Assumes nothing.
 use mathlib.Core.Path.{◌≡◌, sym, ap, subst, ◌∙◌}
 use mathlib.Core.Bool.{true}
 use native.Mathlib.Omega.{arith}
 use lib.ListN.{get_or}
-use Rattle.types_rules.specs.Table.{ModuleType, servo, inout, rules_of, slots_of}
+use Rattle.types_rules.specs.Table.{ModuleType, rules_of, slots_of, servo, inout}
 use Rattle.types_rules.proofs.Dispatch.{type_at, type_last}
 use Rattle.types_dispatch.proofs.outputs.Goals as goal
 
 pub outputs-requires : goal.outputs-requires
 outputs-requires c =
-    let a = c in
-    let s = a.args.s.now in
-    (omega (arith, a.requires.0), subst (λ (t : ModuleType). (slots_of t).ok s ≡ true) (type_at (get_or s 0 0) servo c.if-s-eq-TYPE.true) a.requires.1)
-
-pub returns-then-s-eq-TYPE : goal.returns-then-s-eq-TYPE
-returns-then-s-eq-TYPE c =
     let s = c.args.s.now in
-    c.outputs.ensures ∙ sym (ap (λ (t : ModuleType). (rules_of t).outputs ((slots_of t).dec s)) (type_at (get_or s 0 0) servo c.if-s-eq-TYPE.true))
+    (omega (arith, c.requires.0), subst (λ (t : ModuleType). (slots_of t).ok s ≡ true) (type_at (get_or c.args.s.now 0 0) servo c.in-0.is) c.requires.1)
 
-pub returns-then-s-eq-TYPE-2 : goal.returns-then-s-eq-TYPE-2
-returns-then-s-eq-TYPE-2 c =
+pub returns-in-0 : goal.returns-in-0
+returns-in-0 c =
     let s = c.args.s.now in
-    c.outputs-then-s-eq-TYPE-2.ensures ∙ sym (ap (λ (t : ModuleType). (rules_of t).outputs ((slots_of t).dec s)) (type_at (get_or s 0 0) inout c.if-s-eq-TYPE-2.true))
+    c.outputs.ensures ∙ ap (λ (t : ModuleType). (rules_of t).outputs ((slots_of t).dec s)) (sym (type_at (get_or c.args.s.now 0 0) servo c.in-0.is))
 
-pub returns : goal.returns
-returns c =
+pub returns-in-2 : goal.returns-in-2
+returns-in-2 c =
     let s = c.args.s.now in
-    c.outputs-2.ensures ∙ sym (ap (λ (t : ModuleType). (rules_of t).outputs ((slots_of t).dec s)) (type_last (get_or s 0 0) c.if-s-eq-TYPE.false c.if-s-eq-TYPE-2.false))
+    c.outputs-in-2.ensures ∙ ap (λ (t : ModuleType). (rules_of t).outputs ((slots_of t).dec s)) (sym (type_at (get_or c.args.s.now 0 0) inout c.in-2.is))
+
+pub returns-in_default : goal.returns-in_default
+returns-in_default c =
+    let s = c.args.s.now in
+    c.outputs-in_default.ensures ∙ ap (λ (t : ModuleType). (rules_of t).outputs ((slots_of t).dec s)) (sym (type_last (get_or c.args.s.now 0 0) c.in_default.in_default-own.rest.0.1 c.in_default.in_default-own.rest.1))

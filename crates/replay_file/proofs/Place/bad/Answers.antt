@@ -1,12 +1,12 @@
 -- `replay_file::Place::bad` meets its contract. Assumes nothing.
-use mathlib.Core.Path.{refl, ap}
+use mathlib.Core.Path.{refl, ap, ◌∙◌}
 use mathlib.Core.List.{[], ◌∷◌}
-use mathlib.Core.Bool.{true, false}
 use Prim.Native.Nat.{ℕ, ◌≤◌}
 use native.Mathlib.Omega.{arith}
 use lib.ListN.{length}
 use Rattle.base_text.specs.Digits.{decimal}
 use Rattle.replay_print.specs.Text.{bad_line}
+use Rattle.replay_file.specs.declared.Course.TheVariants.{Over}
 use Rattle.replay_file.specs.Turns.{turned}
 use Rattle.replay_print.proofs.Text.{offset_short, bad_length, all_put}
 use Rattle.replay_file.proofs.Place.bad.Goals as goal
@@ -28,4 +28,4 @@ returns c =
     let a = s.args in
     let d = c.put_decimal-n.ensures in
     let h = c.put_all.ensures in
-    let n = short s in record { value = ap (λ (k : ℕ). record { next = a.self; took = 0; wrote = k; over = true; wants = false }) (omega (arith, bad_length a.self.offset, d.value)); out_after = all_put 0 10 _ 4 (98 ∷ 97 ∷ 100 ∷ 32 ∷ []) (decimal a.self.offset) a.out.now (omega (arith, s.requires)) h refl d.out_after (omega (arith, d.value)) }
+    let n = short s in record { value = c.stays.ensures ∙ ap (λ (k : ℕ). record { next = a.self; took = 0; wrote = k; course = Over }) (omega (arith, bad_length a.self.offset, d.value)); out_after = all_put 0 10 _ 4 (98 ∷ 97 ∷ 100 ∷ 32 ∷ []) (decimal a.self.offset) a.out.now (omega (arith, s.requires)) h refl d.out_after (omega (arith, d.value)) }
