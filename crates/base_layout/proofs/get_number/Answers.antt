@@ -1,6 +1,6 @@
 -- `base_layout::get_number` meets its contract. The invariant: the last i bytes spell the number so far. Assumes nothing.
 use mathlib.Core.Path.{◌≡◌}
-use Prim.Native.Nat.{ℕ, suc, ◌+◌, ◌-◌}
+use Prim.Native.Nat.{ℕ, ◌+◌, ◌-◌}
 use native.Mathlib.Omega.{arith}
 use lib.ListN.{get_or}
 use Rattle.base_layout.proofs.Top.{top_turn, top_small, top_more}

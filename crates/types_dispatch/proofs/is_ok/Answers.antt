@@ -1,8 +1,9 @@
 -- `types_dispatch::is_ok` meets its contract. Each type is one arm. Assumes nothing.
-use mathlib.Core.Path.{sym, ap, ◌∙◌}
+use mathlib.Core.Path.{◌≡◌, sym, ap, ◌∙◌}
+use native.Mathlib.Omega.{arith}
 use lib.ListN.{get_or}
-use Rattle.types_rules.specs.Table.{ModuleType, slots_of, servo, inout}
-use Rattle.types_rules.proofs.Dispatch.{type_at, type_last}
+use Rattle.types_rules.specs.Table.{ModuleType, slots_of, rules_of, servo, inout, stepper}
+use Rattle.types_rules.proofs.Dispatch.{type_at, no_type}
 use Rattle.types_dispatch.proofs.is_ok.Goals as goal
 
 pub returns-in-0 : goal.returns-in-0
@@ -15,7 +16,15 @@ returns-in-2 c =
     let s = c.args.s.now in
     c.is_ok-in-2.ensures ∙ ap (λ (t : ModuleType). (slots_of t).ok s) (sym (type_at (get_or c.args.s.now 0 0) inout c.in-2.is))
 
-pub returns-in_default : goal.returns-in_default
-returns-in_default c =
+pub returns-in-3 : goal.returns-in-3
+returns-in-3 c =
     let s = c.args.s.now in
-    c.is_ok-in_default.ensures ∙ ap (λ (t : ModuleType). (slots_of t).ok s) (sym (type_last (get_or c.args.s.now 0 0) c.in_default.in_default-own.rest.0.1 c.in_default.in_default-own.rest.1))
+    c.is_ok-in-3.ensures ∙ ap (λ (t : ModuleType). (slots_of t).ok s) (sym (type_at (get_or c.args.s.now 0 0) stepper c.in-3.is))
+
+pub returns-in_default : goal.returns-in_default
+returns-in_default c = no_type c.args.s.now none
+  where
+    none : (t : ModuleType) → get_or c.args.s.now 0 0 ≡ (rules_of t).number → ⊥
+    none servo e = omega (arith, e)
+    none inout e = omega (arith, e)
+    none stepper e = omega (arith, e)
